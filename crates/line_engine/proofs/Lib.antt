@@ -1,0 +1,4 @@
+pub mod Cutting
+pub mod Dividing
+pub mod Known
+pub mod Steps

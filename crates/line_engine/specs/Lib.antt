@@ -1,0 +1,5 @@
+pub mod Cut
+pub mod Device
+pub mod Output
+pub mod Progress
+pub mod Rule

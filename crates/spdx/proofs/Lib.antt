@@ -1,0 +1,10 @@
+pub mod Nodes
+pub mod Machine
+pub mod Evaluating
+pub mod Logging
+pub mod Alike
+pub mod Selections
+pub mod Asking
+pub mod Places
+pub mod Chosen
+pub mod Told

@@ -1,0 +1,7 @@
+use Rattle.std.proofs.Common.{◌∙◌, ap}
+use Rattle.spdx.specs.Written.{tree_of}
+use Rattle.spdx.specs.Coding.{tree_of_postfix}
+use Rattle.spdx.proofs.expression.Expression.from_nodes.Goals as goal
+
+pub returns-clause-tree : goal.returns-clause-tree
+returns-clause-tree c = λ t e. ap tree_of e ∙ tree_of_postfix t

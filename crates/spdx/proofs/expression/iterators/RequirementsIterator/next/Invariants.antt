@@ -1,0 +1,6 @@
+use Rattle.std.proofs.Common.{◌≡◌, drop}
+use Rattle.spdx.specs.Written.{placed_in}
+use Rattle.spdx.proofs.expression.iterators.RequirementsIterator.next.Given as goal
+
+abbrev pub invariant-loop-i : goal.invariant-loop-i
+invariant-loop-i l = placed_in (drop l.i l.nodes) ≡ placed_in l.nodes

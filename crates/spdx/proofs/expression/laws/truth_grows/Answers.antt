@@ -1,0 +1,5 @@
+use Rattle.spdx.specs.Growing.{truth_grows}
+use Rattle.spdx.proofs.expression.laws.truth_grows.Goals as goal
+
+pub returns : goal.returns
+returns c = truth_grows

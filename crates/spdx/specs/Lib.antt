@@ -1,0 +1,15 @@
+pub mod Written
+pub mod Coding
+pub mod Inside
+pub mod Iterators
+pub mod Truth
+pub mod Calls
+pub mod Alike
+pub mod Equality
+pub mod Parsed
+pub mod Choice
+pub mod Growing
+pub mod Judged
+pub mod Judging
+pub mod Laws
+pub mod Minimized

@@ -1,0 +1,269 @@
+//! Judging selections of licensees.
+
+ghost use Rattle.std.specs.Prelude.{◌≡◌, ◌≤◌, [], ◌∷◌, IfOk, length, map, true};
+ghost use Rattle.std.specs.List.{list_all};
+ghost use Rattle.spdx_catalogue.specs.Items.{requirement_of};
+ghost use Rattle.spdx_parser.specs.Tree.{leaves, postfix, node_of};
+ghost use Rattle.spdx.specs.Written.{IsPostfix};
+ghost use Rattle.spdx_licensee.specs.Held.{held};
+ghost use Rattle.spdx.specs.Judged.{trees_of, members_of, places, places_in, met_by, any_at, question_tree, IsOver, answered, longest};
+
+use crate::expression::Expression;
+use crate::expression::question::{Member, Question};
+use spdx_catalogue::LicenseReq;
+use spdx_choice::Sufficiency;
+use spdx_licensee::Licensee;
+use spdx_parser::node::{ExprNode, Operator};
+use spdx_truths::Truths;
+use std::alloc::{AllocError, Global};
+use std::slice;
+
+/// Judges selections of some members: one suffices if it makes every one of some expressions true,
+/// where a requirement is met if a chosen member satisfies it.
+///
+/// Which members satisfy which requirement is found once, when the judge is made, and so is the
+/// memory for the truths taken. A question then costs one walk over the nodes of the expressions up
+/// to the first that is false, and at each requirement over the places of the members that satisfy
+/// it up to the first that is chosen.
+#[derive(Drop)]
+pub struct ExpressionJudge<'a, 'c: 'a> {
+    questions: Vec<Question<'a, 'c>>,
+    members: Vec<Member<'a, 'c>>,
+    truths: Truths,
+    asked: u64,
+    ghost over: { IsOver (members_of members.items) questions.items },
+    ghost room: { longest questions.items ≤ truths.room },
+}
+
+impl<'a, 'c: 'a> ExpressionJudge<'a, 'c> {
+    ghost use Rattle.spdx.specs.Judging.{judged_trees, judged_members};
+
+    /// The judge of one expression over these members.
+    pub fn new(
+        alloc: Global,
+        expr: &'a Expression<'c>,
+        members: &'a [Licensee<'c>],
+    ) -> Result<Self, AllocError>
+        ensures tree { IfOk result (λ judge. judged_trees judge ≡ expr.now.tree ∷ []) }
+        ensures members { IfOk result (λ judge. judged_members judge ≡ map held members.now) }
+        ensures asked { IfOk result (λ judge. judge.asked ≡ 0) }
+    {
+        Self::new_all(alloc, slice::from_ref(&expr), members)
+    }
+
+    /// The judge of these expressions over these members. Each member is compared with each
+    /// requirement once.
+    pub fn new_all(
+        alloc: Global,
+        exprs: &[&'a Expression<'c>],
+        members: &'a [Licensee<'c>],
+    ) -> Result<Self, AllocError>
+        ensures trees { IfOk result (λ judge. judged_trees judge ≡ trees_of exprs.now) }
+        ensures members { IfOk result (λ judge. judged_members judge ≡ map held members.now) }
+        ensures asked { IfOk result (λ judge. judge.asked ≡ 0) }
+    {
+        Self::over(alloc, exprs, all_members(alloc, members)?.as_slice())
+    }
+
+    // The judge of these expressions over these members.
+    pub(crate) fn over(
+        alloc: Global,
+        exprs: &[&'a Expression<'c>],
+        members: &[Member<'a, 'c>],
+    ) -> Result<Self, AllocError>
+        ensures trees { IfOk result (λ judge. judged_trees judge ≡ trees_of exprs.now) }
+        ensures members { IfOk result (λ judge. judged_members judge ≡ members_of members.now) }
+        ensures count { IfOk result (λ judge. length judge.members.items ≡ length members.now) }
+        ensures asked { IfOk result (λ judge. judge.asked ≡ 0) }
+    {
+        let questions = questions_of(alloc, exprs, members)?;
+        let members = copied_members(alloc, members)?;
+        let truths = Truths::with_room(alloc, longest_of(questions.as_slice()))?;
+        Ok(ExpressionJudge {
+            questions,
+            members,
+            truths,
+            asked: 0,
+        })
+    }
+
+    /// How many questions were asked; at most `u64::MAX` are counted.
+    pub fn asked(&self) -> u64
+        ensures { result ≡ self.now.asked }
+    {
+        self.asked
+    }
+}
+
+impl<'a, 'c: 'a> Sufficiency for ExpressionJudge<'a, 'c> {
+    ghost use Rattle.spdx.specs.Judging.{judged_trees, judged_members};
+    ghost use Rattle.spdx.specs.Choice.{suffices_for};
+    ghost use Rattle.spdx.specs.Growing.{suffices_grows};
+
+    ghost count = { λ judge. length judge.members.items };
+
+    ghost suffices = { λ judge selection. suffices_for (judged_trees judge) (judged_members judge) selection };
+
+    ghost asked = { λ judge. judge.asked };
+
+    fn members(&self) -> usize {
+        self.members.len()
+    }
+
+    fn judge(&mut self, selection: &[bool]) -> bool {
+        self.asked = self.asked.saturating_add(1);
+        are_all_true(&mut self.truths, self.questions.as_slice(), selection)
+    }
+
+    ghost grows = { λ judge some more e h f. suffices_grows (judged_trees judge) (judged_members judge) some more h f };
+}
+
+// All of them as members.
+fn all_members<'a, 'c>(
+    alloc: Global,
+    licensees: &'a [Licensee<'c>],
+) -> Result<Vec<Member<'a, 'c>>, AllocError>
+    ensures { IfOk result (λ members. members_of members.items ≡ map held licensees.now) }
+{
+    let mut members = Vec::with_capacity(alloc, licensees.len())?;
+    for licensee in licensees {
+        members.push(Member { licensee })?;
+    }
+    Ok(members)
+}
+
+fn copied_members<'a, 'c>(
+    alloc: Global,
+    members: &[Member<'a, 'c>],
+) -> Result<Vec<Member<'a, 'c>>, AllocError>
+    ensures { IfOk result (λ copy. copy.items ≡ members.now) }
+{
+    let mut copy = Vec::with_capacity(alloc, members.len())?;
+    for member in members {
+        copy.push(*member)?;
+    }
+    Ok(copy)
+}
+
+// The questions of these expressions to these members.
+fn questions_of<'a, 'c>(
+    alloc: Global,
+    exprs: &[&'a Expression<'c>],
+    members: &[Member<'_, '_>],
+) -> Result<Vec<Question<'a, 'c>>, AllocError>
+    ensures trees { IfOk result (λ questions. map question_tree questions.items ≡ trees_of exprs.now) }
+    ensures over { IfOk result (λ questions. IsOver (members_of members.now) questions.items) }
+{
+    let mut questions = Vec::with_capacity(alloc, exprs.len())?;
+    for expr in exprs {
+        questions.push(question_of(alloc, *expr, members)?)?;
+    }
+    Ok(questions)
+}
+
+// The question of this expression to these members.
+fn question_of<'a, 'c>(
+    alloc: Global,
+    expression: &'a Expression<'c>,
+    members: &[Member<'_, '_>],
+) -> Result<Question<'a, 'c>, AllocError>
+    ensures tree { IfOk result (λ question. question_tree question ≡ expression.now.tree) }
+    ensures met_by { IfOk result (λ question. met_by question ≡ map (places (members_of members.now)) (leaves expression.now.tree)) }
+{
+    let met_by = members_by_node(alloc, members, expression.nodes())?;
+    Ok(Question { expression, met_by })
+}
+
+// For each requirement among the nodes the places of the members that satisfy it.
+fn members_by_node(
+    alloc: Global,
+    members: &[Member<'_, '_>],
+    nodes: &[ExprNode<'_>],
+) -> Result<Vec<Vec<usize>>, AllocError>
+    ensures { IfOk result (λ met_by. map (λ v. v.items) met_by.items ≡ places_in (members_of members.now) nodes.now) }
+{
+    let mut met_by = Vec::new(alloc);
+    for node in nodes {
+        if let ExprNode::Req(requirement) = node {
+            met_by.push(places_of(alloc, members, &requirement.req)?)?;
+        }
+    }
+    Ok(met_by)
+}
+
+// The places of the members that satisfy the requirement.
+fn places_of(
+    alloc: Global,
+    members: &[Member<'_, '_>],
+    requirement: &LicenseReq<'_>,
+) -> Result<Vec<usize>, AllocError>
+    ensures { IfOk result (λ found. found.items ≡ places (members_of members.now) (requirement_of requirement.now)) }
+{
+    let mut found = Vec::new(alloc);
+    for place in 0..members.len() {
+        if members[place].licensee.satisfies(requirement) {
+            found.push(place)?;
+        }
+    }
+    Ok(found)
+}
+
+// The nodes of the longest.
+fn longest_of(questions: &[Question<'_, '_>]) -> usize
+    ensures { result ≡ longest questions.now }
+{
+    let mut most = 0;
+    for question in questions {
+        most = most.max(question.expression.nodes().len());
+    }
+    most
+}
+
+// Whether the selection makes every expression true.
+fn are_all_true(truths: &mut Truths, questions: &[Question<'_, '_>], selection: &[bool]) -> bool
+    requires { longest questions.now ≤ truths.old.room }
+    ensures answer { result ≡ list_all (answered selection.now) questions.now }
+    ensures room { truths.new.room ≡ truths.old.room }
+{
+    for question in questions {
+        if !is_true(truths, question, selection) {
+            return false;
+        }
+    }
+    true
+}
+
+// Whether the selection makes the expression true.
+fn is_true(truths: &mut Truths, question: &Question<'_, '_>, selection: &[bool]) -> bool
+    requires { length (postfix (question_tree question.now)) ≤ truths.old.room }
+    ensures answer { result ≡ answered selection.now question.now }
+    ensures room { truths.new.room ≡ truths.old.room }
+{
+    let nodes = question.expression.nodes();
+    let met_by = question.met_by.as_slice();
+    let mut leaf = 0;
+    truths.clear();
+    for node in nodes {
+        match node {
+            ExprNode::Req(_) => {
+                truths.push(is_any_chosen(met_by[leaf].as_slice(), selection));
+                leaf += 1;
+            }
+            ExprNode::Op(Operator::And) => truths.both(),
+            ExprNode::Op(Operator::Or) => truths.either(),
+        }
+    }
+    truths.take()
+}
+
+// Whether a member at one of these places is chosen.
+fn is_any_chosen(places: &[usize], selection: &[bool]) -> bool
+    ensures { result ≡ any_at selection.now places.now }
+{
+    for place in places {
+        if matches!(selection.get(*place), Some(true)) {
+            return true;
+        }
+    }
+    false
+}

@@ -1,0 +1,16 @@
+//! Laws of the truth of expressions and of the least choice.
+
+ghost use Rattle.spdx_parser.specs.Tree.{Tree};
+ghost use Rattle.spdx.specs.Growing.{TruthGrows};
+ghost use Rattle.spdx.specs.Laws.{IsFirstLeast};
+
+/// Answers that turn from false to true turn no tree from true to false. Does nothing.
+pub fn truth_grows()
+    ensures { (t : Tree) → TruthGrows t }
+{}
+
+/// The first sufficient selection is the one that, against each other sufficient one, leaves out
+/// the last member on which they differ. Does nothing.
+pub fn first_is_least()
+    ensures { IsFirstLeast }
+{}

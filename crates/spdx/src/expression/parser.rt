@@ -1,0 +1,55 @@
+//! Expressions read from texts.
+
+ghost use Rattle.std.specs.Prelude.{◌≡◌, IfOk, IfErr};
+ghost use Rattle.spdx_lexer.specs.Modes.{strict};
+ghost use Rattle.spdx_catalogue.specs.Failures.{IfRefused};
+ghost use Rattle.spdx_parser.specs.Parsed.{IsRefused};
+ghost use Rattle.spdx.specs.Parsed.{IsReadFrom};
+
+use crate::expression::Expression;
+use spdx_catalogue::{Catalogue, Failure};
+use spdx_lexer::error::ParseError;
+use spdx_lexer::token::ParseMode;
+use spdx_parser::parse_nodes;
+use std::alloc::Global;
+
+impl<'c> Expression<'c> {
+    /// The expression that the text means, read strictly: `parse_mode` in `ParseMode::STRICT`.
+    pub fn parse<'t>(
+        alloc: Global,
+        cat: &'c Catalogue,
+        text: &'t str,
+    ) -> Result<Expression<'c>, Failure<ParseError<'t>>>
+        ensures ok { IfOk result (λ expression. IsReadFrom cat.now strict text.now expression) }
+        ensures err { IfErr result (IfRefused (λ error. IsRefused cat.now strict text.now error)) }
+    {
+        Expression::parse_mode(alloc, cat, text, ParseMode::STRICT)
+    }
+
+    /// The expression that the text means in this mode: the one tree that the grammar derives from
+    /// the text's tokens, with the span of each requirement's licence, and the text itself. The
+    /// grammar is that of SPDX 2.1, appendix IV, with what the mode allows beyond it; both are in
+    /// `docs/EXPRESSIONS.md`.
+    ///
+    /// Linear in the number of tokens, besides the look-up of each. An expression of up to five
+    /// nodes takes no memory but for the text and the texts of its references.
+    ///
+    /// # Errors
+    ///
+    /// `Refused` exactly where the grammar derives no tree, with the fault of the first place, in
+    /// bytes of the text, at which no accepted list of tokens goes on: a token, a place that is no
+    /// token, or the end. `Memory` where memory was refused.
+    pub fn parse_mode<'t>(
+        alloc: Global,
+        cat: &'c Catalogue,
+        text: &'t str,
+        mode: ParseMode,
+    ) -> Result<Expression<'c>, Failure<ParseError<'t>>>
+        ensures ok { IfOk result (λ expression. IsReadFrom cat.now mode text.now expression) }
+        ensures err { IfErr result (IfRefused (λ error. IsRefused cat.now mode text.now error)) }
+    {
+        let nodes = parse_nodes(alloc, cat, text, mode)?;
+        let original = String::from_str(alloc, text)?;
+        Ok(Expression::from_nodes(original, nodes))
+    }
+}

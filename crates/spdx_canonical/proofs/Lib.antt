@@ -1,0 +1,15 @@
+pub mod Neighbours
+pub mod Known
+pub mod Lexed
+pub mod Terms
+pub mod Read
+pub mod Written
+pub mod Says
+pub mod Again
+pub mod Keeps
+pub mod Sound
+pub mod Otherwise
+pub mod Laws
+pub mod Drafts
+pub mod Pushed
+pub mod Continued

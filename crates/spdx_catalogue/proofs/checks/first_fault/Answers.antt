@@ -1,0 +1,45 @@
+use Rattle.std.proofs.Common.{sym, ◌∙◌, length, map, List, Some, None, ◌≡◌, ◌++◌}
+use Rattle.spdx_catalogue.specs.WellFormed.{Rule, first_broken, all_below, license_rules, exception_rules, imprecise_rules}
+use Rattle.spdx_catalogue.specs.Rows.{row_of, exception_of, imprecise_of}
+use Rattle.spdx_catalogue.proofs.First.{first_some, first_none}
+use Rattle.spdx_catalogue.proofs.Mapped.{length_map}
+use Rattle.spdx_catalogue.proofs.Ascending.{licenses_ascend}
+use Rattle.spdx_catalogue.proofs.checks.first_fault.Goals as goal
+
+pub imprecises_fault-requires : goal.imprecises_fault-requires
+imprecises_fault-requires c =
+    let ls = map row_of c.args.licenses.now in
+    licenses_ascend ls (rw (length_map row_of c.args.licenses.now) (sym c.in-None.ensures))
+
+pub returns-in-Some : goal.returns-in-Some
+returns-in-Some c =
+    let ls = map row_of c.args.licenses.now in
+    let es = map exception_of c.args.exceptions.now in
+    let ms = map imprecise_of c.args.imprecise.now in
+    let front : first_broken (all_below (license_rules ls) (length ls)) ≡ Some c.in-Some.fault = rw (length_map row_of c.args.licenses.now) (sym c.in-Some.ensures) in
+    sym (first_some (all_below (license_rules ls) (length ls)) (all_below (exception_rules es) (length es) ++ all_below (imprecise_rules ls ms) (length ms)) c.in-Some.fault front)
+
+pub returns-in-Some-exceptions_fault : goal.returns-in-Some-exceptions_fault
+returns-in-Some-exceptions_fault c =
+    let ls = map row_of c.args.licenses.now in
+    let es = map exception_of c.args.exceptions.now in
+    let ms = map imprecise_of c.args.imprecise.now in
+    let names : List Rule = all_below (license_rules ls) (length ls) in
+    let excepted : List Rule = all_below (exception_rules es) (length es) in
+    let spelled : List Rule = all_below (imprecise_rules ls ms) (length ms) in
+    let front : first_broken names ≡ None = rw (length_map row_of c.args.licenses.now) (sym c.in-None.ensures) in
+    let next : first_broken excepted ≡ Some c.in-Some-exceptions_fault.fault = rw (length_map exception_of c.args.exceptions.now) (sym c.in-Some-exceptions_fault.ensures) in
+    sym (first_none names (excepted ++ spelled) front ∙ first_some excepted spelled c.in-Some-exceptions_fault.fault next)
+
+pub returns-in-None-exceptions_fault : goal.returns-in-None-exceptions_fault
+returns-in-None-exceptions_fault c =
+    let ls = map row_of c.args.licenses.now in
+    let es = map exception_of c.args.exceptions.now in
+    let ms = map imprecise_of c.args.imprecise.now in
+    let names : List Rule = all_below (license_rules ls) (length ls) in
+    let excepted : List Rule = all_below (exception_rules es) (length es) in
+    let spelled : List Rule = all_below (imprecise_rules ls ms) (length ms) in
+    let front : first_broken names ≡ None = rw (length_map row_of c.args.licenses.now) (sym c.in-None.ensures) in
+    let next : first_broken excepted ≡ None = rw (length_map exception_of c.args.exceptions.now) (sym c.in-None-exceptions_fault.ensures) in
+    let back : c.imprecises_fault.result ≡ first_broken spelled = rw (length_map imprecise_of c.args.imprecise.now) c.imprecises_fault.ensures in
+    back ∙ sym (first_none names (excepted ++ spelled) front ∙ first_none excepted spelled next)

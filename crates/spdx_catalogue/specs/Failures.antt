@@ -1,0 +1,12 @@
+-- What a call that gave nothing says.
+use Rattle.spdx_catalogue.specs.declared.error.Failure.{Failure}
+use Rattle.spdx_catalogue.specs.declared.error.Failure.TheVariants.{Refused, Memory}
+
+-- P of a refusal, and M at want of memory
+abbrev pub RefusedOr : {E : Type 0} → Type 0 → (E → Type 0) → Failure E → Type 0
+RefusedOr M P (Refused e) = P e
+RefusedOr M P (Memory e) = M
+
+-- P of a refusal; of want of memory nothing
+abbrev pub IfRefused : {E : Type 0} → (E → Type 0) → Failure E → Type 0
+IfRefused P failure = RefusedOr (Unit {0}) P failure

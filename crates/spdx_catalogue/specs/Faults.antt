@@ -1,0 +1,41 @@
+-- The printed texts of faults.
+use Rattle.std.specs.Prelude.{ℕ, List, ◌++◌, codes}
+use Rattle.std.specs.Fmt.{decimal}
+use Rattle.spdx_catalogue.specs.declared.error.List as kind
+use Rattle.spdx_catalogue.specs.declared.error.List.TheVariants.{Licenses, Exceptions}
+use Rattle.spdx_catalogue.specs.declared.error.CatalogueError.{CatalogueError}
+use Rattle.spdx_catalogue.specs.declared.error.CatalogueError.TheVariants.{BadName, OperatorName, NotAscending, BadIndex, TwoSuffixes, EmptyPrefix, UnlistedTarget}
+use Rattle.spdx_catalogue.specs.declared.error.Field.{Field}
+use Rattle.spdx_catalogue.specs.declared.error.Field.TheVariants as key
+use Rattle.spdx_catalogue.specs.declared.error.ReadFault.{ReadFault}
+use Rattle.spdx_catalogue.specs.declared.error.ReadFault.TheVariants as read
+
+abbrev pub list_text : kind.List → List ℕ
+list_text Licenses = codes "licenses"
+list_text Exceptions = codes "exceptions"
+
+-- the list, the row and what is wrong with it
+abbrev pub row_text : List ℕ → ℕ → List ℕ → List ℕ
+row_text list row what = list ++ (codes " row " ++ (decimal row ++ (codes ": " ++ what)))
+
+abbrev pub fault_text : CatalogueError → List ℕ
+fault_text (BadName l row) = row_text (list_text l) row (codes "bad name")
+fault_text (OperatorName l row) = row_text (list_text l) row (codes "operator word")
+fault_text (NotAscending l row) = row_text (list_text l) row (codes "names do not ascend")
+fault_text (BadIndex l row) = row_text (list_text l) row (codes "index is not the position")
+fault_text (TwoSuffixes row) = row_text (codes "licenses") row (codes "two GNU suffixes")
+fault_text (EmptyPrefix row) = row_text (codes "imprecise") row (codes "empty prefix")
+fault_text (UnlistedTarget row) = row_text (codes "imprecise") row (codes "target is not listed")
+
+-- a field is named by its key
+abbrev pub field_text : Field → List ℕ
+field_text key.Version = codes "version"
+field_text key.Licenses = codes "licenses"
+field_text key.Exceptions = codes "exceptions"
+field_text key.Imprecise = codes "imprecise"
+
+abbrev pub read_text : ReadFault → List ℕ
+read_text read.NotJson = codes "not JSON"
+read_text read.Float = codes "floating-point number"
+read_text (read.Shape field) = codes "bad or missing field " ++ field_text field
+read_text (read.Catalogue fault) = fault_text fault

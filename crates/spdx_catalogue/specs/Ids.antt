@@ -1,0 +1,10 @@
+-- The row that an id stands for.
+use Rattle.spdx_catalogue.specs.declared.id.LicenseId.{LicenseId}
+use Rattle.spdx_catalogue.specs.declared.id.ExceptionId.{ExceptionId}
+use Rattle.spdx_catalogue.specs.Rows.{LicenseRow, ExceptionRow, row_of, exception_of}
+
+abbrev pub id_row : LicenseId → LicenseRow
+id_row id = row_of id.row.now
+
+abbrev pub exception_row : ExceptionId → ExceptionRow
+exception_row id = exception_of id.row.now

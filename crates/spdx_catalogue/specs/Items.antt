@@ -1,0 +1,55 @@
+-- The items of a requirement as rows and bytes, capacities aside.
+use Rattle.std.specs.Prelude.{ℕ, Bool, List, Option, Some, None, option_map, string_bytes}
+use Rattle.spdx_catalogue.specs.declared.requirement.LicenseRef.{LicenseRef}
+use Rattle.spdx_catalogue.specs.declared.requirement.AdditionRef.{AdditionRef}
+use Rattle.spdx_catalogue.specs.declared.requirement.LicenseItem.{LicenseItem}
+use Rattle.spdx_catalogue.specs.declared.requirement.LicenseItem.TheVariants as item
+use Rattle.spdx_catalogue.specs.declared.requirement.AdditionItem.{AdditionItem}
+use Rattle.spdx_catalogue.specs.declared.requirement.AdditionItem.TheVariants as addition
+use Rattle.spdx_catalogue.specs.declared.requirement.LicenseReq.{LicenseReq}
+use Rattle.spdx_catalogue.specs.Rows.{LicenseRow, ExceptionRow}
+use Rattle.spdx_catalogue.specs.Ids.{id_row, exception_row}
+
+-- the two texts of a reference
+pub record Reference : Type 0 where
+  pub document : Option (List ℕ)
+  pub name : List ℕ
+
+-- a row with its mark, or a reference
+pub data Licence : Type 0 where
+  listed : LicenseRow → Bool → Licence
+  referred : Reference → Licence
+
+pub data Addition : Type 0 where
+  excepted : ExceptionRow → Addition
+  added : Reference → Addition
+
+pub record Requirement : Type 0 where
+  pub licence : Licence
+  pub addition : Option Addition
+
+abbrev pub license_reference_of : LicenseRef → Reference
+license_reference_of r = record { document = option_map string_bytes r.doc_ref; name = string_bytes r.lic_ref }
+
+abbrev pub addition_reference_of : AdditionRef → Reference
+addition_reference_of r = record { document = option_map string_bytes r.doc_ref; name = string_bytes r.add_ref }
+
+abbrev pub licence_of : LicenseItem → Licence
+licence_of (item.Spdx id or_later) = listed (id_row id) or_later
+licence_of (item.Other r) = referred (license_reference_of r.value)
+
+abbrev pub addition_of : AdditionItem → Addition
+addition_of (addition.Spdx id) = excepted (exception_row id)
+addition_of (addition.Other r) = added (addition_reference_of r.value)
+
+abbrev pub requirement_of : LicenseReq → Requirement
+requirement_of r = record { licence = licence_of r.license; addition = option_map addition_of r.addition }
+
+-- the row of a listed one
+abbrev pub licence_row : Licence → Option LicenseRow
+licence_row (listed r mark) = Some r
+licence_row (referred r) = None
+
+abbrev pub addition_row : Addition → Option ExceptionRow
+addition_row (excepted r) = Some r
+addition_row (added r) = None

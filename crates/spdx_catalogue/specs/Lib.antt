@@ -1,0 +1,17 @@
+pub mod Names
+pub mod Flags
+pub mod Rows
+pub mod LookUps
+pub mod WellFormed
+pub mod Ascends
+pub mod Shown
+pub mod Faults
+pub mod Ids
+pub mod Items
+pub mod Orders
+pub mod Texts
+pub mod Keys
+pub mod Shape
+pub mod Reading
+pub mod Versions
+pub mod Failures

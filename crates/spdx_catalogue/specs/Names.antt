@@ -1,0 +1,79 @@
+-- The bytes of a licence's name, and the two endings of GNU names.
+use Rattle.std.specs.Prelude.{ℕ, ◌-◌, Bool, true, false, not, ◌||◌, ◌&&◌, ◌==◌, List, [], ◌∷◌, length, take, Option, Some, None, if◌then◌else◌, nat_eq, codes, bytes_eq, unwrap_or}
+use Rattle.std.specs.List.{list_all, ends_with}
+use Rattle.std.specs.Char.{is_ascii_alphanumeric}
+use Rattle.std.specs.Str.{str_eq_ignore_ascii_case}
+use Rattle.std.specs.Ordering.{nat_cmp, is_lt}
+use Rattle.std.specs.Cmp.Lexicographic.{slice_cmp}
+
+-- ASCII letters, digits, `-` and `.`
+abbrev pub is_name_byte : ℕ → Bool
+is_name_byte b = is_ascii_alphanumeric b || (b == 45 || b == 46)
+
+-- a name is not empty, and has such bytes alone
+abbrev pub is_name : List ℕ → Bool
+is_name name = not (length name == 0) && list_all is_name_byte name
+
+-- an operator is all capitals or all small
+abbrev pub is_operator : List ℕ → Bool
+is_operator name = bytes_eq name (codes "AND") || (bytes_eq name (codes "and") || (bytes_eq name (codes "OR") || (bytes_eq name (codes "or") || (bytes_eq name (codes "WITH") || bytes_eq name (codes "with")))))
+
+-- less by bytes
+abbrev pub is_below : List ℕ → List ℕ → Bool
+is_below a b = is_lt (slice_cmp nat_cmp a b)
+
+-- greater than the name before, if there is one
+abbrev pub is_above : Option (List ℕ) → List ℕ → Bool
+is_above None name = true
+is_above (Some before) name = is_below before name
+
+abbrev pub only : List ℕ
+only = codes "-only"
+
+abbrev pub or_later : List ℕ
+or_later = codes "-or-later"
+
+-- the ending that says which versions are meant
+abbrev pub ending : Bool → List ℕ
+ending later = if later then or_later else only
+
+abbrev pub ends_only : List ℕ → Bool
+ends_only name = ends_with nat_eq name only
+
+abbrev pub ends_or_later : List ℕ → Bool
+ends_or_later name = ends_with nat_eq name or_later
+
+abbrev pub has_suffix : List ℕ → Bool
+has_suffix name = ends_only name || ends_or_later name
+
+-- what stands before an ending
+abbrev pub without : List ℕ → List ℕ → Option (List ℕ)
+without ending name = if ends_with nat_eq name ending then Some (take (length name - length ending) name) else None
+
+-- the name, a final `-only` taken off
+abbrev pub without_only : List ℕ → List ℕ
+without_only name = unwrap_or (without only name) name
+
+-- the name, the one ending taken off that it may have
+abbrev pub without_suffix : List ℕ → List ℕ
+without_suffix name = unwrap_or (without only name) (unwrap_or (without or_later name) name)
+
+abbrev pub still_has_suffix : Option (List ℕ) → Bool
+still_has_suffix None = false
+still_has_suffix (Some front) = has_suffix front
+
+-- it has an ending, and so has what stands before that
+abbrev pub has_two_suffixes : List ℕ → Bool
+has_two_suffixes name = still_has_suffix (without only name) || still_has_suffix (without or_later name)
+
+abbrev pub is_plus : ℕ → Bool
+is_plus b = b == 43
+
+-- every `+` at the end taken off
+abbrev pub without_plus : List ℕ → List ℕ
+without_plus [] = []
+without_plus (b ∷ bs) = if list_all is_plus (b ∷ bs) then [] else b ∷ without_plus bs
+
+-- whether the text begins with the prefix, the case of ASCII letters aside
+abbrev pub begins_caseless : List ℕ → List ℕ → Bool
+begins_caseless prefix text = str_eq_ignore_ascii_case prefix (take (length prefix) text)

@@ -1,0 +1,9 @@
+pub mod Printed
+pub mod Front
+pub mod White
+pub mod Found
+pub mod Unfold
+pub mod Next
+pub mod Bound
+pub mod Spelt
+pub mod Laid

@@ -1,0 +1,127 @@
+-- The word at the front of a text that begins with no white space, by rules of which the first that applies holds.
+use Rattle.std.specs.Prelude.{ℕ, Bool, true, false, ◌||◌, ◌&&◌, ◌==◌, List, [], ◌∷◌, ◌++◌, length, drop, Option, Some, None, Result, Ok, Err, option_map, option_and_then, ok_or, if◌then◌else◌, bytes_eq, codes}
+use Rattle.spdx_catalogue.specs.Rows.{Rows, LicenseRow}
+use Rattle.spdx_catalogue.specs.LookUps.{listed, listed_exception, listed_caseless, listed_exception_caseless, imprecise_license}
+use Rattle.spdx_lexer.specs.declared.token.ParseMode.{ParseMode}
+use Rattle.spdx_lexer.specs.Words.{Word, Spdx, LicenseRef, Exception, AdditionRef, Unknown, Plus, OpenParen, CloseParen, With, And, Or, Fault, InvalidCharacters, UnknownTerm}
+use Rattle.spdx_lexer.specs.Text.{name_at, run_at, strip}
+
+-- a word, and how many bytes it takes
+abbrev pub Found : Type 0
+Found = Option (Word × ℕ)
+
+-- the first that is found
+abbrev pub first_of : List Found → Found
+first_of [] = None
+first_of (None ∷ rules) = first_of rules
+first_of (Some found ∷ rules) = Some found
+
+abbrev pub if_allowed : Bool → Found → Found
+if_allowed true found = found
+if_allowed false found = None
+
+-- ---- signs
+
+-- `+`, `(`, `)`, and `/` for OR where the mode allows it
+abbrev pub sign_of : ParseMode → ℕ → Option Word
+sign_of m b =
+    if b == 43 then Some Plus else
+    if b == 40 then Some OpenParen else
+    if b == 41 then Some CloseParen else
+    if b == 47 && m.allow_slash_as_or_operator then Some Or else None
+
+abbrev pub sign : ParseMode → List ℕ → Found
+sign m [] = None
+sign m (b ∷ text) = option_map (λ w. (w, 1)) (sign_of m b)
+
+-- ---- what the run alone says
+
+-- a word of the whole run
+abbrev pub whole : List ℕ → Option Word → Found
+whole run word = option_map (λ w. (w, length run)) word
+
+-- an operator stands in capitals or in small letters
+abbrev pub operator : List ℕ → Option Word
+operator run =
+    if bytes_eq run (codes "AND") || bytes_eq run (codes "and") then Some And else
+    if bytes_eq run (codes "OR") || bytes_eq run (codes "or") then Some Or else
+    if bytes_eq run (codes "WITH") || bytes_eq run (codes "with") then Some With else None
+
+-- an operator, the name of a licence, the name of an exception
+abbrev pub exact : Rows → List ℕ → Found
+exact c run = first_of (
+    whole run (operator run)
+    ∷ whole run (option_map Spdx (listed c.licenses run))
+    ∷ whole run (option_map Exception (listed_exception c.exceptions run))
+    ∷ [])
+
+-- `LicenseRef-y`, or `DocumentRef-x:LicenseRef-y`, for the prefix `LicenseRef-`
+abbrev pub reference_text : List ℕ → Option (List ℕ) → List ℕ → List ℕ
+reference_text prefix None y = prefix ++ y
+reference_text prefix (Some x) y = codes "DocumentRef-" ++ (x ++ (codes ":" ++ (prefix ++ y)))
+
+-- the y of the first at the front of the run: the longest front of a name's bytes, perhaps none
+abbrev pub name_behind : List ℕ → List ℕ → Option (List ℕ)
+name_behind prefix run = option_map name_at (strip prefix run)
+
+-- the x and y of the second, cut at the run's first `:`
+abbrev pub names_behind : List ℕ → List ℕ → Option (List ℕ × List ℕ)
+names_behind prefix run =
+    option_and_then (λ rest. option_map (λ y. (name_at rest, y)) (option_and_then (name_behind prefix) (strip (codes ":") (drop (length (name_at rest)) rest))))
+    (strip (codes "DocumentRef-") run)
+
+-- a reference takes the bytes of its own text, and leaves the rest of the run
+abbrev pub reference : List ℕ → (Option (List ℕ) → List ℕ → Word) → List ℕ → Found
+reference prefix word run = option_map (λ y. (word None y, length (reference_text prefix None y))) (name_behind prefix run)
+
+abbrev pub document_reference : List ℕ → (Option (List ℕ) → List ℕ → Word) → List ℕ → Found
+document_reference prefix word run = option_map (λ (n : List ℕ × List ℕ). (word (Some n.0) n.1, length (reference_text prefix (Some n.0) n.1))) (names_behind prefix run)
+
+abbrev pub license_reference : List ℕ → Found
+license_reference run = first_of (document_reference (codes "LicenseRef-") LicenseRef run ∷ reference (codes "LicenseRef-") LicenseRef run ∷ [])
+
+abbrev pub addition_reference : List ℕ → Found
+addition_reference run = first_of (document_reference (codes "AdditionRef-") AdditionRef run ∷ reference (codes "AdditionRef-") AdditionRef run ∷ [])
+
+-- a reference at the front of the run
+abbrev pub referred : List ℕ → Found
+referred run = first_of (license_reference run ∷ addition_reference run ∷ [])
+
+-- a name in another case, of a licence or else of an exception
+abbrev pub caseless : Rows → ParseMode → List ℕ → Found
+caseless c m run = if_allowed m.allow_caseless_ids (first_of (
+    whole run (option_map Spdx (listed_caseless c.licenses run))
+    ∷ whole run (option_map Exception (listed_exception_caseless c.exceptions run))
+    ∷ []))
+
+-- all of these, in their order
+abbrev pub by_run : Rows → ParseMode → List ℕ → Found
+by_run c m run = first_of (exact c run ∷ referred run ∷ caseless c m run ∷ [])
+
+-- any run at all
+abbrev pub unknown : ParseMode → List ℕ → Found
+unknown m run = if_allowed m.allow_unknown (whole run (Some (Unknown run)))
+
+-- ---- what all of the text says
+
+-- an imprecise spelling at the front of the text, which may go on behind the run or end within it
+abbrev pub imprecise : Rows → ParseMode → List ℕ → Found
+imprecise c m text = if_allowed m.allow_imprecise_license_names (option_map (λ (f : LicenseRow × ℕ). (Spdx f.0, f.1)) (imprecise_license c text))
+
+-- ---- the rules together
+
+abbrev pub rules : Rows → ParseMode → List ℕ → List ℕ → Found
+rules c m text run = first_of (by_run c m run ∷ imprecise c m text ∷ unknown m run ∷ [])
+
+-- of the run at the front of the text
+abbrev pub word_of_run : Rows → ParseMode → List ℕ → List ℕ → Result (Word × ℕ) (Fault × ℕ)
+word_of_run c m text [] = Err (InvalidCharacters, length text)
+word_of_run c m text (b ∷ run) = ok_or (rules c m text (b ∷ run)) (UnknownTerm, length (b ∷ run))
+
+abbrev pub lexeme_of : Rows → ParseMode → List ℕ → Found → Result (Word × ℕ) (Fault × ℕ)
+lexeme_of c m text (Some found) = Ok found
+lexeme_of c m text None = word_of_run c m text (run_at text)
+
+-- the word, or the fault, with how many bytes it takes
+abbrev pub lexeme : Rows → ParseMode → List ℕ → Result (Word × ℕ) (Fault × ℕ)
+lexeme c m text = lexeme_of c m text (sign m text)

@@ -1,0 +1,9 @@
+pub mod Words
+pub mod Text
+pub mod Lexeme
+pub mod Reading
+pub mod Faults
+pub mod Modes
+pub mod Code
+pub mod Left
+pub mod Laid

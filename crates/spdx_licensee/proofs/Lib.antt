@@ -1,0 +1,4 @@
+pub mod Digits
+pub mod Padding
+pub mod Pieces
+pub mod Theorem

@@ -1,0 +1,83 @@
+-- Which texts name a licensee, and the fault of one that does not.
+use Rattle.std.specs.Prelude.{◌≡◌, ℕ, Bool, true, false, List, [], ◌∷◌, ◌++◌, length, map, Option, Some, None, option_map, option_and_then, Ok, Err, if◌then◌else◌, codes}
+use Rattle.std.specs.List.{list_any}
+use Rattle.spdx_catalogue.specs.Rows.{Rows}
+use Rattle.spdx_catalogue.specs.Flags.{is_deprecated}
+use Rattle.spdx_catalogue.specs.Items.{Licence, listed, referred, Addition, excepted, added, Requirement}
+use Rattle.spdx_lexer.specs.Words.{Word, Spdx, LicenseRef, Exception, AdditionRef, With, Fault, Empty, Unexpected, DeprecatedLicenseId, Span, span, Item}
+use Rattle.spdx_lexer.specs.Modes.{strict}
+use Rattle.spdx_lexer.specs.Reading.{reading}
+
+-- a listed licence that is not deprecated, without a mark, or a reference
+abbrev pub license_named : Word → Option Licence
+license_named (Spdx row) = if is_deprecated row.flags then None else Some (listed row false)
+license_named (LicenseRef document name) = Some (referred (record { document = document; name = name }))
+license_named w = None
+
+-- an exception, deprecated or not, or a reference
+abbrev pub addition_named : Word → Option Addition
+addition_named (Exception row) = Some (excepted row)
+addition_named (AdditionRef document name) = Some (added (record { document = document; name = name }))
+addition_named w = None
+
+-- a licence, or a licence, WITH and an addition
+abbrev pub licensee_named : List Word → Option Requirement
+licensee_named (l ∷ []) = option_map (λ licence. record { licence = licence; addition = None }) (license_named l)
+licensee_named (l ∷ With ∷ a ∷ []) =
+    option_and_then (λ licence. option_map (λ addition. record { licence = licence; addition = Some addition }) (addition_named a)) (license_named l)
+licensee_named ws = None
+
+-- the words begin a licensee's, or are all of them
+abbrev pub Begins : List Word → Type 0
+Begins ws = (more : List Word) × (req : Requirement) × (licensee_named (ws ++ more) ≡ Some req)
+
+-- a word and where it stands
+abbrev pub Placed : Type 0
+Placed = Word × Span
+
+abbrev pub words : List Placed → List Word
+words read = map (λ (p : Placed). p.0) read
+
+-- the fault of a word behind others with which no licensee goes on
+abbrev pub word_fault : List Word → Word → Fault
+word_fault [] (Spdx row) = DeprecatedLicenseId
+word_fault [] w = Unexpected (codes "<license>" ∷ [])
+word_fault (l ∷ []) w = Unexpected (codes "WITH" ∷ [])
+word_fault (l ∷ joiner ∷ []) w = Unexpected (codes "<addition>" ∷ [])
+word_fault (l ∷ joiner ∷ a ∷ ws) w = Unexpected []
+
+-- the fault of a text of so many bytes that ends behind these words, and where it stands
+abbrev pub end_fault : ℕ → List Word → Fault × Span
+end_fault len [] = (Empty, span 0 len)
+end_fault len (l ∷ ws) = (Unexpected (codes "<addition>" ∷ []), span len 0)
+
+-- the text reads, in the strict form, as the words of a licensee
+abbrev pub Names : Rows → List ℕ → Requirement → Type 0
+Names c text req = (read : List Placed) × (reading c strict 0 text ≡ map Ok read) × (licensee_named (words read) ≡ Some req)
+
+-- the text names no licensee
+abbrev pub NamesNone : Rows → List ℕ → Type 0
+NamesNone c text = (req : Requirement) → Names c text req → ⊥
+
+-- The fault of a text: that of the first word with which no licensee goes on; where there is none, that of the
+-- first place that is no word; where there is none, that of the end.
+pub data IsFaultOf (c : Rows) (text : List ℕ) : Fault → Span → Type 0 where
+  at_word : (read : List Placed) (w : Word) {s : Span} (more : List Item) → reading c strict 0 text ≡ map Ok read ++ Ok (w, s) ∷ more
+      → Begins (words read) → (Begins (words read ++ w ∷ []) → ⊥) → IsFaultOf c text (word_fault (words read) w) s
+  at_place : (read : List Placed) {f : Fault} {s : Span} (more : List Item) → reading c strict 0 text ≡ map Ok read ++ Err (f, s) ∷ more
+      → Begins (words read) → IsFaultOf c text f s
+  at_end : (read : List Placed) → reading c strict 0 text ≡ map Ok read
+      → Begins (words read) → licensee_named (words read) ≡ None → IsFaultOf c text (end_fault (length text) (words read)).0 (end_fault (length text) (words read)).1
+
+abbrev pub is_reference : Word → Bool
+is_reference (LicenseRef document name) = true
+is_reference (AdditionRef document name) = true
+is_reference w = false
+
+abbrev pub item_is_reference : Item → Bool
+item_is_reference (Ok placed) = is_reference placed.0
+item_is_reference (Err fault) = false
+
+-- some word of the text is a reference
+abbrev pub has_reference : Rows → List ℕ → Bool
+has_reference c text = list_any item_is_reference (reading c strict 0 text)

@@ -1,0 +1,10 @@
+//! Licensees: the licences that one holds, and which requirements they satisfy.
+#![tactic(auto)]
+
+pub mod licensee;
+mod reading;
+#[cfg(test)]
+mod tests;
+mod version;
+
+pub use crate::licensee::Licensee;

@@ -1,0 +1,185 @@
+//! Licensees, and which requirements they satisfy.
+
+ghost use Rattle.std.specs.Prelude.{◌≡◌, ◌↔◌, IsTrue, IfOk, IfErr, false, option_map};
+ghost use Rattle.std.specs.Option.{option_copied};
+ghost use Rattle.spdx_catalogue.specs.Ids.{id_row};
+ghost use Rattle.spdx_catalogue.specs.Items.{licence_of, addition_of, requirement_of};
+ghost use Rattle.spdx_catalogue.specs.Keys.{addition_key, requirement_key};
+ghost use Rattle.spdx_catalogue.specs.Names as names;
+ghost use Rattle.spdx_catalogue.specs.Versions as parted;
+ghost use Rattle.spdx_lexer.specs.Faults.{fault_of};
+ghost use Rattle.spdx_lexer.specs.Code.{span_of};
+ghost use Rattle.spdx_lexer.specs.Laid.{IsPlace};
+ghost use Rattle.spdx_licensee.specs.Held.{held};
+ghost use Rattle.spdx_licensee.specs.Named.{Names, NamesNone, IsFaultOf, has_reference};
+ghost use Rattle.spdx_catalogue.specs.Failures.{IfRefused};
+ghost use Rattle.spdx_licensee.specs.Answers.{IsRefusal};
+ghost use Rattle.spdx_licensee.specs.Satisfies as spec;
+
+use crate::reading::read_requirement;
+use crate::version::{is_older, same_family, version};
+use spdx_catalogue::{AdditionItem, Catalogue, LicenseId, LicenseItem, LicenseReq};
+use spdx_lexer::{Failure, Lexer, ParseError};
+use std::alloc::{AllocError, Global};
+
+/// A licence that is held, perhaps with an addition, against which requirements are measured. Two
+/// licensees are equal exactly if their requirements are.
+#[derive(Debug, PartialEq, Eq, Drop)]
+pub struct Licensee<'c> {
+    req: LicenseReq<'c>,
+}
+
+impl<'c> Licensee<'c> {
+    /// The licensee that a text names, in the strict form of `docs/EXPRESSIONS.md`: a listed licence
+    /// that is not deprecated, or a reference, and perhaps WITH and an exception or a reference. It
+    /// has no mark. Memory is taken for references alone.
+    ///
+    /// # Errors
+    ///
+    /// The fault of the first token with which no licensee goes on; where there is none, of the
+    /// first place that is no token; where there is none, of the end. Its span is in bytes of the
+    /// text, on boundaries of characters. Or want of memory.
+    pub fn parse<'t>(
+        alloc: Global,
+        cat: &'c Catalogue,
+        text: &'t str,
+    ) -> Result<Licensee<'c>, Failure<ParseError<'t>>>
+        ensures ok { IfOk result (λ licensee. Names cat.now text.now (held licensee)) }
+        ensures err { IfErr result (IfRefused (λ e. IsFaultOf cat.now text.now (fault_of e.reason) (span_of e.span))) }
+        ensures none { IfErr result (IfRefused (λ _. NamesNone cat.now text.now)) }
+        ensures original { IfErr result (IfRefused (λ e. e.original.now ≡ text.now)) }
+        ensures place { IfErr result (IfRefused (λ e. IsPlace text.now (span_of e.span))) }
+        ensures memory { has_reference cat.now text.now ≡ false → IfErr result IsRefusal }
+    {
+        let mut lexer = Lexer::new(cat, text);
+        Ok(Licensee {
+            req: read_requirement(alloc, text, &mut lexer)?,
+        })
+    }
+
+    /// The requirement that the licensee was read as.
+    pub fn req(&self) -> &LicenseReq<'c>
+        ensures { requirement_of result.now ≡ held self.now }
+    {
+        &self.req
+    }
+
+    /// The requirement that the licensee was read as, without a copy.
+    pub fn into_req(self) -> LicenseReq<'c>
+        ensures { requirement_of result ≡ held self.entry }
+    {
+        self.req
+    }
+
+    /// A licensee that is equal in every part.
+    ///
+    /// # Errors
+    ///
+    /// Want of memory.
+    pub fn try_clone(&self, alloc: Global) -> Result<Licensee<'c>, AllocError>
+        ensures { IfOk result (λ copy. held copy ≡ held self.now) }
+    {
+        Ok(Licensee {
+            req: self.req.try_clone(alloc)?,
+        })
+    }
+
+    /// Whether the licensee satisfies the requirement: their additions are equal, and so are their
+    /// licences, the mark aside, or their references; or the requirement allows later versions, by
+    /// its mark or as a GNU licence that ends in `-or-later`, and the licensee's licence is of the
+    /// same family and not older. Takes no memory, and time linear in the texts.
+    ///
+    /// `MPL-1.1+` is satisfied by `MPL-2.0`, and `GPL-2.0-only` is not by `GPL-3.0-only`. A version's
+    /// parts between dots are whole numbers of any length, and a missing one is 0.
+    pub fn satisfies(&self, req: &LicenseReq<'_>) -> bool
+        ensures { result ≡ spec.satisfies (held self.now) (requirement_of req.now) }
+    {
+        are_same_additions(&self.req.addition, &req.addition)
+            && covers(&self.req.license, &req.license)
+    }
+}
+
+/// `==` of licensees: of their requirements.
+pub fn are_same_licensees(a: &Licensee<'_>, b: &Licensee<'_>) -> bool
+    ensures { IsTrue result ↔ (requirement_key (held a.now) ≡ requirement_key (held b.now)) }
+{
+    a == b
+}
+
+/// `==` of additions, or of none, as `satisfies` compares them.
+pub fn are_same_additions(one: &Option<AdditionItem<'_>>, other: &Option<AdditionItem<'_>>) -> bool
+    ensures test { result ≡ spec.same_additions (option_map addition_of one.now) (option_map addition_of other.now) }
+    ensures same { IsTrue result
+        ↔ (option_map addition_key (option_map addition_of one.now) ≡ option_map addition_key (option_map addition_of other.now)) }
+{
+    one == other
+}
+
+// What stands before the ending, if the name has it.
+fn without<'n>(ending: &[u8], name: &'n [u8]) -> Option<&'n [u8]>
+    ensures { option_copied result ≡ names.without ending.now name.now }
+{
+    if name.ends_with(ending) {
+        Some(&name[..name.len() - ending.len()])
+    } else {
+        None
+    }
+}
+
+// The name that tells family and version.
+fn versioned_name(id: LicenseId<'_>) -> &[u8]
+    ensures { result.now ≡ parted.versioned_name (id_row id.entry) }
+{
+    let name = id.license().name.as_bytes();
+    if !id.is_gnu() {
+        return name;
+    }
+    match without(b"-only", name) {
+        Some(front) => front,
+        None => match without(b"-or-later", name) {
+            Some(front) => front,
+            None => name,
+        },
+    }
+}
+
+// Whether versions later than the licence's own are meant too.
+fn allows_later(id: LicenseId<'_>, or_later: bool) -> bool
+    ensures { result ≡ spec.allows_later (id_row id.entry) or_later }
+{
+    or_later || id.is_gnu() && id.license().name.as_bytes().ends_with(b"-or-later")
+}
+
+// Whether the licence that is held is of the other's family and not older.
+fn is_as_late(held: LicenseId<'_>, required: LicenseId<'_>) -> bool
+    ensures { result ≡ spec.is_as_late (id_row held.entry) (id_row required.entry) }
+{
+    let held = versioned_name(held);
+    let required = versioned_name(required);
+    if !same_family(held, required) {
+        return false;
+    }
+    match (version(held), version(required)) {
+        (Some(held), Some(required)) => !is_older(held, required),
+        _ => false,
+    }
+}
+
+// Whether the licence that is held is the required one, or as late as it asks for.
+fn covers(held: &LicenseItem<'_>, required: &LicenseItem<'_>) -> bool
+    ensures { result ≡ spec.covers (licence_of held.now) (licence_of required.now) }
+{
+    match (held, required) {
+        (
+            LicenseItem::Spdx { id: held, .. },
+            LicenseItem::Spdx {
+                id: required,
+                or_later,
+            },
+        ) => {
+            held == required || allows_later(*required, *or_later) && is_as_late(*held, *required)
+        }
+        (LicenseItem::Other(held), LicenseItem::Other(required)) => held == required,
+        _ => false,
+    }
+}

@@ -1,0 +1,138 @@
+-- How a program that has not come to its end may end, where what it has to tell finds no memory.
+use Rattle.std.proofs.Common.{◌≡◌, ℕ, ◌-◌, drop, take, length, ap, ◌∙◌, arith, OnOk, OnErr, Bool, true, false, Option, Some, None, List, [], ◌∷◌, ◌++◌, Result, Ok, Err, refl, sym, subst, append-nil}
+use Rattle.std.proofs.lemmas.Bool.{false≢true}
+use Rattle.std.specs.Borrow.{Bor}
+use Rattle.std.specs.Result.{IsErrAnd}
+use Rattle.std.specs.Io.KnownBytes.{Keeps, Appends, Consumes}
+use Rattle.line_engine.specs.declared.lines.Summary.{Summary}
+use Rattle.line_engine.specs.declared.lines.RunFault.{RunFault}
+use Rattle.line_engine.specs.declared.lines.RunFault.TheVariants.{Read, Write, Memory}
+use Rattle.line_engine.specs.Rule.{Rule}
+use Rattle.line_engine.specs.Progress.{HasBegun, HasWrittenLines}
+use Rattle.spdx_catalogue.specs.Rows.{Rows}
+use Rattle.spdx_catalogue.specs.Items.{Requirement}
+use Rattle.spdx_catalogue.specs.declared.error.ReadFault.{ReadFault}
+use Rattle.spdx_lines.specs.declared.lines.LineMode.{LineMode}
+use Rattle.spdx_lines.specs.declared.program.Stop.{Stop}
+use Rattle.spdx_lines.specs.declared.program.Stop.TheVariants as stop
+use Rattle.spdx_lines.specs.Program.{Refusal, Usage, Unreadable, NoCatalogue, NoLicensee, texts_of, mode_in, catalogue_of, with_licensees, with_rows, with_mode, with_words, plan_of}
+use Rattle.spdx_lines.specs.Ending.{Ending, Broken, Refused, Devices, HasMovedNothing, BreaksOff, Ends, StopsAt, stopped, ending_of}
+
+pub keeps_all : (old : Option (List ℕ)) → Keeps old old
+keeps_all None = tt
+keeps_all (Some bytes) = refl
+
+pub appends_nothing : (old : Option (List ℕ)) → Appends old old []
+appends_nothing None = tt
+appends_nothing (Some bytes) = sym (append-nil bytes)
+
+consumes_nothing : (old new : Option (List ℕ)) → Keeps old new → Consumes old new []
+consumes_nothing None new h = tt
+consumes_nothing (Some bytes) None h = absurd h
+consumes_nothing (Some bytes) (Some others) h = sym h
+
+appends_none : (old new : Option (List ℕ)) → Keeps old new → Appends old new []
+appends_none None new h = tt
+appends_none (Some bytes) None h = absurd h
+appends_none (Some bytes) (Some others) h = h ∙ sym (append-nil bytes)
+
+-- nothing was read yet
+begun_nothing : (rule : Rule) (d : Devices) → HasMovedNothing d → HasBegun rule d.coming d.coming' d.taken d.taken'
+begun_nothing rule d h = record {
+  bytes = [];
+  read = consumes_nothing d.coming d.coming' h.0;
+  is_ended = false;
+  ended = λ e. absurd (false≢true e);
+  written = record { begun = []; others = []; whole = refl; appended = appends_none d.taken d.taken' h.1 };
+}
+
+-- memory was wanted before the run
+early : (plan : Result Rule Refusal) (d : Devices) → HasMovedNothing d → BreaksOff plan d
+early (Ok rule) d h = begun_nothing rule d h
+early (Err refusal) d h = h
+
+-- the licensees are refused, or memory was wanted for them
+stops_before : (c : Rows) (mode : LineMode) (r : Result (List Requirement) Refusal) (d : Devices) → HasMovedNothing d → (s : Stop) → StopsAt r s → Ends (with_licensees c mode r) d (stopped s)
+stops_before c mode r d moved stop.Usage h = (ap (with_licensees c mode) h, moved)
+stops_before c mode r d moved stop.Unreadable h = (ap (with_licensees c mode) h, moved)
+stops_before c mode r d moved (stop.Catalogue fault) h = (ap (with_licensees c mode) h, moved)
+stops_before c mode r d moved (stop.Licensee n error) h = (ap (with_licensees c mode) h, moved)
+stops_before c mode r d moved (stop.Run Read) h = absurd h
+stops_before c mode r d moved (stop.Run Write) h = absurd h
+stops_before c mode r d moved (stop.Run Memory) h = early (with_licensees c mode r) d moved
+
+-- devices that nothing was asked of
+abbrev still : Option (List ℕ) → Bool → Option (List ℕ) → Bool → Devices
+still coming input_failed taken output_failed = record { coming = coming; coming' = coming; input_failed = input_failed; taken = taken; taken' = taken; output_failed = output_failed }
+
+pub stopped_early : (c : Rows) (mode : LineMode) (r : Result (List Requirement) Refusal) (coming : Option (List ℕ)) (input_failed : Bool) (taken : Option (List ℕ)) (output_failed : Bool) (e : Ending) (s : Stop) →
+    e ≡ stopped s → StopsAt r s → Ends (with_licensees c mode r) (still coming input_failed taken output_failed) e
+stopped_early c mode r coming input_failed taken output_failed e s is h =
+    subst (λ x. Ends (with_licensees c mode r) (still coming input_failed taken output_failed) x) (sym is)
+    (stops_before c mode r (still coming input_failed taken output_failed) (keeps_all coming, keeps_all taken) s h)
+
+pub memory_wanted : (plan : Result Rule Refusal) (coming : Option (List ℕ)) (input_failed : Bool) (taken : Option (List ℕ)) (output_failed : Bool) (s : Stop) →
+    s ≡ stop.Run Memory → Ends plan (still coming input_failed taken output_failed) (stopped s)
+memory_wanted plan coming input_failed taken output_failed s is =
+    subst (λ x. Ends plan (still coming input_failed taken output_failed) (stopped x)) (sym is) (early plan (still coming input_failed taken output_failed) (keeps_all coming, keeps_all taken))
+
+-- ---- what the words say
+
+pub plan_is : (words : Option (Bor (List (Bor (List ℕ))))) (catalogue : Option (Bor (List ℕ))) (w : Bor (List (Bor (List ℕ)))) (mode : LineMode) (b : Bor (List ℕ)) (r : Result Rows ReadFault) →
+    words ≡ Some w → mode_in (texts_of w.now) ≡ Some mode → catalogue ≡ Some b → catalogue_of b.now ≡ r → plan_of words catalogue ≡ with_rows mode (drop 2 (texts_of w.now)) r
+plan_is words catalogue w mode b r p q s t =
+    ap (λ x. plan_of x catalogue) p
+    ∙ ap (λ x. with_words (texts_of w.now) x catalogue) q
+    ∙ ap (λ x. with_mode mode (drop 2 (texts_of w.now)) x) s
+    ∙ ap (λ x. with_rows mode (drop 2 (texts_of w.now)) x) t
+
+take_all : {A : Type 0} (xs : List A) → take (length xs) xs ≡ xs
+take_all [] = refl
+take_all (x ∷ xs) = ap (λ ys. x ∷ ys) (take_all xs)
+
+-- the licensees are the words from the third on
+pub words_behind : (words : List (Bor (List ℕ))) → drop 2 (texts_of words) ≡ texts_of (take (length words - 2) (drop 2 words))
+words_behind [] = refl
+words_behind (v ∷ []) = refl
+words_behind (v ∷ w ∷ words) =
+    let left : length (v ∷ w ∷ words) - 2 ≡ length words = omega arith in
+    sym (ap (λ n. texts_of (take n words)) left ∙ ap texts_of (take_all words))
+
+-- a stop is handed on
+pub handed_on : (r : Result Summary Stop) (s : Stop) → IsErrAnd r (λ t. t ≡ s) → ending_of r ≡ stopped s
+handed_on (Ok summary) s h = absurd h
+handed_on (Err t) s h = ap stopped h
+
+-- ---- what is told, unless the device has failed
+
+pub unless_failed : {T E : Type 0} (r : Result T E) (P : Type 0) (b : Bool) → OnOk r P → OnErr r (b ≡ true) → b ≡ false → P
+unless_failed (Ok x) P b p q n = p
+unless_failed (Err e) P b p q n = absurd (false≢true (sym n ∙ q))
+
+-- ---- memory is wanted for the line
+
+module _ (plan : Result Rule Refusal) (d : Devices) where
+  written : (rule : Rule) → HasWrittenLines rule d.coming d.coming' d.taken d.taken' → HasBegun rule d.coming d.coming' d.taken d.taken'
+  written rule h = record {
+    bytes = h.bytes;
+    read = h.read;
+    is_ended = false;
+    ended = λ e. absurd (false≢true e);
+    written = record { begun = _; others = []; whole = sym (append-nil _); appended = h.written };
+  }
+
+  of_rule : (rule : Rule) → plan ≡ Ok rule → HasBegun rule d.coming d.coming' d.taken d.taken' → BreaksOff plan d
+  of_rule rule e h = subst (λ p. BreaksOff p d) (sym e) h
+
+  of_refusal : (refusal : Refusal) → Ends plan d (Refused refusal) → BreaksOff plan d
+  of_refusal refusal h = subst (λ p. BreaksOff p d) (sym h.0) h.1
+
+  -- whatever stopped it, it broke off
+  pub breaks_off : (s : Stop) → Ends plan d (stopped s) → BreaksOff plan d
+  breaks_off stop.Usage h = of_refusal Usage h
+  breaks_off stop.Unreadable h = of_refusal Unreadable h
+  breaks_off (stop.Catalogue fault) h = of_refusal (NoCatalogue fault) h
+  breaks_off (stop.Licensee n error) h = of_refusal _ h
+  breaks_off (stop.Run Read) h = of_rule h.0 h.1 (written h.0 h.2)
+  breaks_off (stop.Run Write) h = of_rule h.0 h.1 h.2
+  breaks_off (stop.Run Memory) h = h

@@ -1,0 +1,10 @@
+pub mod Open
+pub mod Tracked
+pub mod Outcome
+pub mod Laxer
+pub mod Verdict
+pub mod Answered
+pub mod Catalogue
+pub mod Licensee
+pub mod Licensees
+pub mod Ends

@@ -1,0 +1,134 @@
+// The texts of verdicts.
+
+ghost use Rattle.std.specs.Prelude.{◌≡◌, ℕ, ◌++◌, ◌∷◌, [], List, Ok, OnOk, codes, map};
+ghost use Rattle.std.specs.List.{flat_map, join_by};
+ghost use Rattle.std.specs.Fmt.{decimal};
+ghost use Rattle.spdx_catalogue.specs.Items.{requirement_of};
+ghost use Rattle.spdx_catalogue.specs.Texts.{requirement_text};
+ghost use Rattle.spdx_lexer.specs.Code.{span_of};
+ghost use Rattle.spdx_lexer.specs.Faults.{fault_of};
+ghost use Rattle.spdx_canonical.specs.Canonical.{canonical_of};
+ghost use Rattle.spdx_licensee.specs.Held.{held};
+ghost use Rattle.spdx.specs.Choice.{choice_of};
+ghost use Rattle.spdx_lines.specs.Verdict.{Accepted, Refused, choice_text, refusal_text, verdict_text};
+
+use spdx::expression::MinimizeError;
+use spdx::{Catalogue, Expression, Failure, LicenseReq, Licensee, ParseError};
+use std::alloc::{AllocError, Global};
+use std::io::Write;
+
+/// Appends the place of a fault, and what it says.
+pub(crate) fn put_refusal(text: &mut Vec<u8>, error: &ParseError<'_>) -> Result<(), AllocError>
+    ensures { OnOk result (text.new.items ≡ text.old.items ++ refusal_text (fault_of error.now.reason) (span_of error.now.span)) }
+{
+    let (start, end, reason) = (error.span.start, error.span.end, error.reason);
+    match write!(text, "{start}..{end} {reason}") {
+        Ok(()) => Ok(()),
+        Err(_) => Err(AllocError),
+    }
+}
+
+/// Appends the line of a text that is refused.
+pub(crate) fn put_refused(text: &mut Vec<u8>, error: &ParseError<'_>) -> Result<(), AllocError>
+    ensures { OnOk result (text.new.items ≡ text.old.items ++ verdict_text (Refused (fault_of error.now.reason) (span_of error.now.span))) }
+{
+    text.extend_from_slice(b"refused ")?;
+    put_refusal(text, error)?;
+    text.push(b'\n')?;
+    Ok(())
+}
+
+/// Appends the line of a text that is accepted. Every accepted text has a canonical text.
+pub(crate) fn put_accepted<'c>(
+    alloc: Global,
+    text: &mut Vec<u8>,
+    cat: &'c Catalogue,
+    line: &str,
+    expression: &Expression<'c>,
+    accepted: &[Licensee<'c>],
+) -> Result<(), AllocError>
+    requires { (canonical : List ℕ) × (canonical_of cat.now line.now ≡ Ok canonical) }
+    ensures { OnOk result ((canonical : List ℕ) → canonical_of cat.now line.now ≡ Ok canonical →
+        text.new.items ≡ text.old.items ++ verdict_text (Accepted canonical (choice_of (expression.now.tree ∷ []) (map held accepted.now)))) }
+{
+    text.extend_from_slice(b"accepted\t")?;
+    put_canonical(alloc, text, cat, line)?;
+    text.push(b'\t')?;
+    put_choice(alloc, text, expression, accepted)?;
+    text.push(b'\n')?;
+    Ok(())
+}
+
+// The canonical text, which is the line where there is no other.
+fn put_canonical(
+    alloc: Global,
+    text: &mut Vec<u8>,
+    cat: &Catalogue,
+    line: &str,
+) -> Result<(), AllocError>
+    requires { (canonical : List ℕ) × (canonical_of cat.now line.now ≡ Ok canonical) }
+    ensures { OnOk result ((canonical : List ℕ) → canonical_of cat.now line.now ≡ Ok canonical → text.new.items ≡ text.old.items ++ canonical) }
+{
+    match Expression::canonicalize(alloc, cat, line) {
+        Ok(None) => text.extend_from_slice(line.as_bytes()),
+        Ok(Some(canonical)) => text.extend_from_slice(canonical.as_bytes()),
+        Err(Failure::Refused(_)) => unreachable!(),
+        Err(Failure::Memory(error)) => Err(error),
+    }
+}
+
+// The least choice among the accepted licensees, or why there is none.
+fn put_choice<'c>(
+    alloc: Global,
+    text: &mut Vec<u8>,
+    expression: &Expression<'c>,
+    accepted: &[Licensee<'c>],
+) -> Result<(), AllocError>
+    ensures { OnOk result (text.new.items ≡ text.old.items ++ choice_text (choice_of (expression.now.tree ∷ []) (map held accepted.now))) }
+{
+    match expression.minimized_requirements(alloc, accepted) {
+        Ok(requirements) => put_requirements(text, &requirements),
+        Err(Failure::Refused(MinimizeError::TooManyRequirements(count))) => put_count(text, count),
+        Err(Failure::Refused(MinimizeError::RequirementsUnmet)) => text.extend_from_slice(b"unmet"),
+        Err(Failure::Memory(error)) => Err(error),
+    }
+}
+
+fn put_count(text: &mut Vec<u8>, count: usize) -> Result<(), AllocError>
+    ensures { OnOk result (text.new.items ≡ text.old.items ++ (codes "too-many " ++ decimal count)) }
+{
+    match write!(text, "too-many {count}") {
+        Ok(()) => Ok(()),
+        Err(_) => Err(AllocError),
+    }
+}
+
+// The requirements, with commas between them.
+fn put_requirements(text: &mut Vec<u8>, requirements: &[LicenseReq<'_>]) -> Result<(), AllocError>
+    ensures { OnOk result (text.new.items ≡ text.old.items ++ join_by requirement_text (codes ", ") (map requirement_of requirements.now)) }
+{
+    let Some((first, others)) = requirements.split_first() else {
+        return Ok(());
+    };
+    put_requirement(text, first)?;
+    put_others(text, others)
+}
+
+fn put_others(text: &mut Vec<u8>, requirements: &[LicenseReq<'_>]) -> Result<(), AllocError>
+    ensures { OnOk result (text.new.items ≡ text.old.items ++ flat_map (λ r. codes ", " ++ requirement_text r) (map requirement_of requirements.now)) }
+{
+    for requirement in requirements {
+        text.extend_from_slice(b", ")?;
+        put_requirement(text, requirement)?;
+    }
+    Ok(())
+}
+
+fn put_requirement(text: &mut Vec<u8>, requirement: &LicenseReq<'_>) -> Result<(), AllocError>
+    ensures { OnOk result (text.new.items ≡ text.old.items ++ requirement_text (requirement_of requirement.now)) }
+{
+    match write!(text, "{requirement}") {
+        Ok(()) => Ok(()),
+        Err(_) => Err(AllocError),
+    }
+}

@@ -1,0 +1,10 @@
+pub mod Complete
+pub mod Sound
+pub mod Theorem
+pub mod Nodes
+pub mod Steps
+pub mod Later
+pub mod Seen
+pub mod Known
+pub mod Loop
+pub mod Same

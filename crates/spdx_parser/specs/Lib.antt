@@ -1,0 +1,9 @@
+pub mod Tree
+pub mod Grammar
+pub mod Last
+pub mod Spans
+pub mod Faults
+pub mod Parsed
+pub mod Machine
+pub mod Code
+pub mod Written

@@ -1,0 +1,149 @@
+-- The parser's states, and what a word makes of each. The grammar says what they have to come to.
+use Rattle.std.specs.Prelude.{Bool, true, false, List, [], ◌∷◌, Option, Some, None}
+use Rattle.spdx_catalogue.specs.Rows.{Rows, LicenseRow}
+use Rattle.spdx_catalogue.specs.Flags.{is_gnu}
+use Rattle.spdx_catalogue.specs.Names.{ends_or_later}
+use Rattle.spdx_catalogue.specs.Items.{Licence, listed, referred, Addition, excepted, added}
+use Rattle.spdx_lexer.specs.declared.token.ParseMode.{ParseMode}
+use Rattle.spdx_lexer.specs.Words.{Word, Spdx, LicenseRef, Exception, AdditionRef, Unknown, Plus, OpenParen, CloseParen, With, And, Or}
+use Rattle.spdx_parser.specs.declared.node.Operator.{Operator}
+use Rattle.spdx_parser.specs.Tree.{Tree, Leaf, Join}
+use Rattle.spdx_parser.specs.Grammar.{may_stand, later_row, reference}
+
+-- what waits for its right side: the left sides of OR, and above them those of AND, the newest first
+pub record Frame : Type 0 where
+  pub ors : List Tree
+  pub ands : List Tree
+
+abbrev pub empty_frame : Frame
+empty_frame = record { ors = []; ands = [] }
+
+-- the tree of a chain, whose left sides are the newest first, and whose last operand is t
+abbrev pub fold : Operator → List Tree → Tree → Tree
+fold o [] t = t
+fold o (l ∷ ls) t = fold o ls (Join o l t)
+
+abbrev pub close_frame : Frame → Tree → Tree
+close_frame f t = fold Operator.Or f.ors (fold Operator.And f.ands t)
+
+-- what was read last
+pub data Phase : Type 0 where
+  -- a licence or a parenthesis is due
+  Due : Phase
+  -- a listed licence, which a plus may follow
+  Fresh : LicenseRow → Phase
+  -- a licence
+  Named : Licence → Phase
+  -- a licence and WITH
+  Joined : Licence → Phase
+  -- a primary
+  Whole : Tree → Phase
+
+-- what was read last, the innermost frame, and the frames around it
+pub record State : Type 0 where
+  pub phase : Phase
+  pub frame : Frame
+  pub outer : List Frame
+
+abbrev pub start : State
+start = record { phase = Due; frame = empty_frame; outer = [] }
+
+abbrev pub goes_to : Phase → Frame → List Frame → Option State
+goes_to p f fs = Some (record { phase = p; frame = f; outer = fs })
+
+abbrev pub if_may : Bool → Option State → Option State
+if_may true s = s
+if_may false s = None
+
+abbrev pub close_one : Tree → List Frame → Option State
+close_one t [] = None
+close_one t (f ∷ fs) = goes_to (Whole t) f fs
+
+-- after a primary
+abbrev pub operate : Tree → Frame → List Frame → Word → Option State
+operate t f fs And = goes_to Due (record { ors = f.ors; ands = t ∷ f.ands }) fs
+operate t f fs Or = goes_to Due (record { ors = fold Operator.And f.ands t ∷ f.ors; ands = [] }) fs
+operate t f fs CloseParen = close_one (close_frame f t) fs
+operate t f fs _ = None
+
+abbrev pub bare_leaf : Licence → Tree
+bare_leaf l = Leaf (record { licence = l; addition = None })
+
+abbrev pub joined_leaf : Licence → Addition → Tree
+joined_leaf l a = Leaf (record { licence = l; addition = Some a })
+
+abbrev pub after_licence : Licence → Frame → List Frame → Word → Option State
+after_licence l f fs With = goes_to (Joined l) f fs
+after_licence l f fs w = operate (bare_leaf l) f fs w
+
+abbrev pub go_later : Option LicenseRow → Frame → List Frame → Option State
+go_later None f fs = None
+go_later (Some next) f fs = goes_to (Named (listed next false)) f fs
+
+-- a GNU licence whose name has no `-or-later` yet
+abbrev pub if_bare : Bool → Option State → Option State
+if_bare false s = s
+if_bare true s = None
+
+-- a plus, behind a licence that is a GNU one or not
+abbrev pub add_plus : Rows → ParseMode → Bool → LicenseRow → Frame → List Frame → Option State
+add_plus c m false r f fs = goes_to (Named (listed r true)) f fs
+add_plus c m true r f fs = if_may m.allow_postfix_plus_on_gpl (if_bare (ends_or_later r.name) (go_later (later_row c r) f fs))
+
+abbrev pub act : Rows → ParseMode → Phase → Frame → List Frame → Word → Option State
+act c m Due f fs (Spdx r) = if_may (may_stand m r) (goes_to (Fresh r) f fs)
+act c m Due f fs (LicenseRef d n) = goes_to (Named (referred (reference d n))) f fs
+act c m Due f fs (Unknown n) = goes_to (Named (referred (reference None n))) f fs
+act c m Due f fs OpenParen = goes_to Due empty_frame (f ∷ fs)
+act c m Due f fs _ = None
+act c m (Fresh r) f fs Plus = add_plus c m (is_gnu r.flags) r f fs
+act c m (Fresh r) f fs w = after_licence (listed r false) f fs w
+act c m (Named l) f fs w = after_licence l f fs w
+act c m (Joined l) f fs (Exception r) = goes_to (Whole (joined_leaf l (excepted r))) f fs
+act c m (Joined l) f fs (AdditionRef d n) = goes_to (Whole (joined_leaf l (added (reference d n)))) f fs
+act c m (Joined l) f fs (Unknown n) = goes_to (Whole (joined_leaf l (added (reference None n)))) f fs
+act c m (Joined l) f fs _ = None
+act c m (Whole t) f fs w = operate t f fs w
+
+abbrev pub step : Rows → ParseMode → State → Word → Option State
+step c m s w = act c m s.phase s.frame s.outer w
+
+-- the tree, where the words may end
+abbrev pub at_bottom : Tree → List Frame → Option Tree
+at_bottom t [] = Some t
+at_bottom t (f ∷ fs) = None
+
+abbrev pub finish : Phase → Frame → List Frame → Option Tree
+finish Due f fs = None
+finish (Fresh r) f fs = at_bottom (close_frame f (bare_leaf (listed r false))) fs
+finish (Named l) f fs = at_bottom (close_frame f (bare_leaf l)) fs
+finish (Joined l) f fs = None
+finish (Whole t) f fs = at_bottom (close_frame f t) fs
+
+-- a primary of what was read last, where the words may end
+abbrev pub end_phase : Phase → Frame → List Frame → Option State
+end_phase Due f fs = None
+end_phase (Fresh r) f fs = goes_to (Whole (bare_leaf (listed r false))) f fs
+end_phase (Named l) f fs = goes_to (Whole (bare_leaf l)) f fs
+end_phase (Joined l) f fs = None
+end_phase (Whole t) f fs = goes_to (Whole t) f fs
+
+abbrev pub built : State → Option Tree
+built s = finish s.phase s.frame s.outer
+
+abbrev pub step_on : Rows → ParseMode → Option State → Word → Option State
+step_on c m None w = None
+step_on c m (Some s) w = step c m s w
+
+-- the state after all the words
+abbrev pub run : Rows → ParseMode → Option State → List Word → Option State
+run c m s [] = s
+run c m s (w ∷ ws) = run c m (step_on c m s w) ws
+
+abbrev pub built_on : Option State → Option Tree
+built_on None = None
+built_on (Some s) = built s
+
+-- the tree of all the words, from a state
+abbrev pub parsed : Rows → ParseMode → State → List Word → Option Tree
+parsed c m s ws = built_on (run c m (Some s) ws)

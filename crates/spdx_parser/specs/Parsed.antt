@@ -1,0 +1,52 @@
+-- What a text means, and the nodes that say so.
+use Rattle.std.specs.Prelude.{◌≡◌, ℕ, List, Option, Some, None, Ok, map, slice_get}
+use Rattle.spdx_catalogue.specs.Rows.{Rows, LicenseRow, ExceptionRow}
+use Rattle.spdx_catalogue.specs.Items.{Licence, listed, referred, Addition, excepted, added}
+use Rattle.spdx_lexer.specs.declared.token.ParseMode.{ParseMode}
+use Rattle.spdx_lexer.specs.declared.error.ParseError.{ParseError}
+use Rattle.spdx_lexer.specs.Code.{span_of}
+use Rattle.spdx_lexer.specs.Faults.{fault_of}
+use Rattle.spdx_lexer.specs.Reading.{reading}
+use Rattle.spdx_parser.specs.declared.node.ExprNode.{ExprNode}
+use Rattle.spdx_parser.specs.Tree.{Tree, Leaf, Join, postfix, node_of}
+use Rattle.spdx_parser.specs.Grammar.{IsTheTree}
+use Rattle.spdx_parser.specs.Spans.{Placed, words, license_spans, requirement_spans}
+use Rattle.spdx_parser.specs.Faults.{IsFaultOf, HasNoTree}
+
+-- the row stands in the catalogue's list, at its own index
+abbrev pub IsLicenseRow : Rows → LicenseRow → Type 0
+IsLicenseRow c r = slice_get c.licenses r.index ≡ Some r
+
+abbrev pub IsExceptionRow : Rows → ExceptionRow → Type 0
+IsExceptionRow c r = slice_get c.exceptions r.index ≡ Some r
+
+abbrev pub IsLicenceOf : Rows → Licence → Type 0
+IsLicenceOf c (listed r mark) = IsLicenseRow c r
+IsLicenceOf c (referred r) = Unit {0}
+
+abbrev pub IsAdditionOf : Rows → Option Addition → Type 0
+IsAdditionOf c None = Unit {0}
+IsAdditionOf c (Some (excepted r)) = IsExceptionRow c r
+IsAdditionOf c (Some (added r)) = Unit {0}
+
+-- every id in the tree has a row of the catalogue
+abbrev pub IsOfRows : Rows → Tree → Type 0
+IsOfRows c (Leaf r) = IsLicenceOf c r.licence × IsAdditionOf c r.addition
+IsOfRows c (Join o l r) = IsOfRows c l × IsOfRows c r
+
+-- the text reads without a fault, its words mean the tree and no other, and the nodes are the tree's
+-- postfix form, of which each requirement has the place of its licence's word
+pub record IsParsed (c : Rows) (m : ParseMode) (text : List ℕ) (nodes : List ExprNode) : Type 0 where
+  pub read : List Placed
+  pub tree : Tree
+  pub reads : reading c m 0 text ≡ map Ok read
+  pub meant : IsTheTree c m (words read) tree
+  pub nodes_are : map node_of nodes ≡ postfix tree
+  pub spans_are : requirement_spans nodes ≡ license_spans read
+  pub rows_are : IsOfRows c tree
+
+-- the text has no tree, and the error is its fault, with the place and the text
+pub record IsRefused (c : Rows) (m : ParseMode) (text : List ℕ) (error : ParseError) : Type 0 where
+  pub no_tree : HasNoTree c m text
+  pub fault_is : IsFaultOf c m text (fault_of error.reason) (span_of error.span)
+  pub text_is : error.original.now ≡ text

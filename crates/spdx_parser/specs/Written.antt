@@ -1,0 +1,55 @@
+-- The grammar as it is written, by concatenation: which words are an expression, and which tree they mean.
+--   Or      : And | And OR Or
+--   And     : Primary | Primary AND And
+--   Primary : Leaf | ( Or )
+--   Leaf    : Licence [ WITH Addition ]
+-- AND binds tighter than OR, and chains of one operator lean right.
+use Rattle.std.specs.Prelude.{◌≡◌, ℕ, true, false, List, [], ◌∷◌, ◌++◌, Option, Some, None, ◌↔◌}
+use Rattle.spdx_catalogue.specs.Rows.{Rows, LicenseRow, ExceptionRow}
+use Rattle.spdx_catalogue.specs.Flags.{is_gnu}
+use Rattle.spdx_catalogue.specs.Names.{ends_or_later}
+use Rattle.spdx_catalogue.specs.Items.{Licence, listed, referred, Addition, excepted, added, Requirement}
+use Rattle.spdx_lexer.specs.declared.token.ParseMode.{ParseMode}
+use Rattle.spdx_lexer.specs.Words.{Word, Spdx, LicenseRef, Exception, AdditionRef, Unknown, Plus, OpenParen, CloseParen, With, And, Or}
+use Rattle.spdx_parser.specs.declared.node.Operator.{Operator}
+use Rattle.spdx_parser.specs.Tree.{Tree, Leaf, Join}
+use Rattle.spdx_parser.specs.Grammar.{may_stand, later_row, reference, Derives}
+
+-- a listed licence, marked or turned by a `+` directly behind it, or a reference
+pub data LicenceIs (c : Rows) (m : ParseMode) : List Word → Licence → Type 0 where
+  plain : {r : LicenseRow} → may_stand m r ≡ true → LicenceIs c m (Spdx r ∷ []) (listed r false)
+  marked : {r : LicenseRow} → may_stand m r ≡ true → is_gnu r.flags ≡ false → LicenceIs c m (Spdx r ∷ Plus ∷ []) (listed r true)
+  later : {r next : LicenseRow} → may_stand m r ≡ true → is_gnu r.flags ≡ true → m.allow_postfix_plus_on_gpl ≡ true → ends_or_later r.name ≡ false → later_row c r ≡ Some next → LicenceIs c m (Spdx r ∷ Plus ∷ []) (listed next false)
+  named : {d : Option (List ℕ)} {n : List ℕ} → LicenceIs c m (LicenseRef d n ∷ []) (referred (reference d n))
+  unknown : {n : List ℕ} → LicenceIs c m (Unknown n ∷ []) (referred (reference None n))
+
+-- an exception, or a reference
+pub data AdditionIs : Word → Addition → Type 0 where
+  exception : {r : ExceptionRow} → AdditionIs (Exception r) (excepted r)
+  named_addition : {d : Option (List ℕ)} {n : List ℕ} → AdditionIs (AdditionRef d n) (added (reference d n))
+  unknown_addition : {n : List ℕ} → AdditionIs (Unknown n) (added (reference None n))
+
+-- a licence, perhaps with an addition
+pub data LeafIs (c : Rows) (m : ParseMode) : List Word → Requirement → Type 0 where
+  alone : {xs : List Word} {l : Licence} → LicenceIs c m xs l → LeafIs c m xs (record { licence = l; addition = None })
+  joined : {xs : List Word} {x : Word} {l : Licence} {a : Addition} → LicenceIs c m xs l → AdditionIs x a → LeafIs c m (xs ++ With ∷ x ∷ []) (record { licence = l; addition = Some a })
+
+mutual
+  -- a leaf, or an expression in parentheses
+  pub data PrimaryIs (c : Rows) (m : ParseMode) : List Word → Tree → Type 0 where
+    leaf : {xs : List Word} {r : Requirement} → LeafIs c m xs r → PrimaryIs c m xs (Leaf r)
+    group : {xs : List Word} {t : Tree} → OrIs c m xs t → PrimaryIs c m (OpenParen ∷ (xs ++ CloseParen ∷ [])) t
+
+  -- a chain of AND
+  pub data AndIs (c : Rows) (m : ParseMode) : List Word → Tree → Type 0 where
+    one_primary : {xs : List Word} {t : Tree} → PrimaryIs c m xs t → AndIs c m xs t
+    and_more : {xs ys : List Word} {t u : Tree} → PrimaryIs c m xs t → AndIs c m ys u → AndIs c m (xs ++ And ∷ ys) (Join Operator.And t u)
+
+  -- a chain of OR
+  pub data OrIs (c : Rows) (m : ParseMode) : List Word → Tree → Type 0 where
+    one_and : {xs : List Word} {t : Tree} → AndIs c m xs t → OrIs c m xs t
+    or_more : {xs ys : List Word} {t u : Tree} → AndIs c m xs t → OrIs c m ys u → OrIs c m (xs ++ Or ∷ ys) (Join Operator.Or t u)
+
+-- words mean the same tree by both grammars
+abbrev pub IsSameGrammar : Type 0
+IsSameGrammar = (c : Rows) (m : ParseMode) (ws : List Word) (t : Tree) → OrIs c m ws t ↔ Derives c m ws t
