@@ -1,4 +1,5 @@
 pub mod Nodes
+pub mod Leaves
 pub mod Machine
 pub mod Evaluating
 pub mod Logging

@@ -5,6 +5,7 @@ pub mod Terms
 pub mod Read
 pub mod Written
 pub mod Says
+pub mod Plain
 pub mod Again
 pub mod Keeps
 pub mod Sound

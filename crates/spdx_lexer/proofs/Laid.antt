@@ -1,5 +1,6 @@
 -- How the items of a reading lie in the text.
-use Rattle.std.proofs.Common.{◌≡◌, ℕ, zero, suc, ◌+◌, ◌-◌, ◌<◌, ◌≤◌, inl, inr, Bool, true, false, cond, ◌&&◌, ◌==◌, nat_lt, List, [], ◌∷◌, ◌++◌, length, take, drop, get_or, Option, Some, None, Result, Ok, Err, refl, sym, ◌∙◌, ap, subst, arith, IfSome, IfOk, IfErr, option_map, length-drop, IsUtf8, IsCharBoundary}
+use Rattle.std.proofs.Common.{◌≡◌, ℕ, zero, suc, ◌+◌, ◌-◌, ◌<◌, ◌≤◌, inl, inr, Bool, true, false, cond, ◌&&◌, ◌==◌, nat_lt, List, [], ◌∷◌, ◌++◌, length, take, drop, get_or, map, Option, Some, None, Result, Ok, Err, refl, sym, ◌∙◌, ap, subst, arith, IfSome, IfOk, IfErr, option_map, length-drop, IsUtf8, IsCharBoundary}
+use Rattle.std.specs.List.{All}
 use Rattle.std.specs.Prelude.{option_and_then, ok_or, if◌then◌else◌}
 use Rattle.std.proofs.lemmas.List.{drop-drop, take-append-le, take-append-drop}
 use Rattle.std.proofs.lemmas.Bool.{eqb-true}
@@ -11,7 +12,7 @@ use Rattle.spdx_catalogue.specs.LookUps.{listed, imprecise_row}
 use Rattle.spdx_catalogue.proofs.Caseless.{find_passes, caseless_cut}
 use Rattle.spdx_catalogue.proofs.Listed.{find_place, listed_is_license, listed_name}
 use Rattle.spdx_lexer.specs.declared.token.ParseMode.{ParseMode}
-use Rattle.spdx_lexer.specs.Words.{Word, Spdx, Plus, OpenParen, CloseParen, Or, Fault, SeparatedPlus, UnknownTerm, span, Item}
+use Rattle.spdx_lexer.specs.Words.{Word, Spdx, Plus, OpenParen, CloseParen, Or, Fault, SeparatedPlus, UnknownTerm, Span, span, Item}
 use Rattle.spdx_lexer.specs.Text.{white, run_at, is_run_byte}
 use Rattle.spdx_lexer.specs.Lexeme.{Found, sign, by_run, imprecise, unknown, rules, word_of_run, lexeme_of, lexeme}
 use Rattle.spdx_lexer.specs.Reading.{then, behind, items, reading}
@@ -189,3 +190,8 @@ laid_places c m text at (Err f ∷ []) (stopped l g p) (suc k) d h = absurd (ome
 laid_places c m text at (Err f ∷ (_ ∷ _)) x7 k d h = elim x7 [ ]
 laid_places c m text at (Ok f ∷ xs) (goes_on g p l s more) zero d h = p
 laid_places c m text at (Ok f ∷ xs) (goes_on g p l s more) (suc k) d h = laid_places c m text f.1.to xs more k d (omega arith)
+
+-- one of them, behind words
+pub place_among : (text : List ℕ) (before : List (Word × Span)) (item : Item) (more : List Item) → All (λ i. IsPlace text (place_of i)) (map Ok before ++ item ∷ more) → IsPlace text (place_of item)
+place_among text [] item more all = all 0 item (omega arith)
+place_among text (p ∷ before) item more all = place_among text before item more (λ k d l. all (suc k) d (omega arith))

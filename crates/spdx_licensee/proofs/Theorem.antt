@@ -7,6 +7,7 @@ use Rattle.spdx_lexer.specs.Words.{Word, LicenseRef, AdditionRef, With, Fault, U
 use Rattle.spdx_lexer.specs.Modes.{strict}
 use Rattle.spdx_lexer.specs.Reading.{reading}
 use Rattle.spdx_lexer.specs.Laid.{IsPlace, place_of}
+use Rattle.spdx_lexer.proofs.Laid.{place_among}
 use Rattle.std.specs.List.{All}
 use Rattle.std.specs.Str.{IsCharBoundary}
 use Rattle.spdx_catalogue.specs.declared.requirement.LicenseReq.{LicenseReq}
@@ -259,15 +260,10 @@ gives_none c text takes (Err (Memory m)) h = tt
 
 -- ---- where a fault stands
 
-place_in : (text : List ℕ) (read : List Placed) (item : Item) (more : List Item)
-    → All (λ i. IsPlace text (place_of i)) (map Ok read ++ item ∷ more) → IsPlace text (place_of item)
-place_in text [] item more all = all 0 item (omega arith)
-place_in text (p ∷ read) item more all = place_in text read item more (λ k d lt. all (suc k) d (omega arith))
-
 pub fault_place : (c : Rows) (text : List ℕ) → IsCharBoundary text 0 → IsCharBoundary text (length text)
     → All (λ i. IsPlace text (place_of i)) (reading c strict 0 text) → (f : Fault) (s : Span) → IsFaultOf c text f s → IsPlace text s
-fault_place c text start end all f s (at_word read w {s = t} more r b nb) = place_in text read (Ok (w, t)) more (subst (All (λ i. IsPlace text (place_of i))) r all)
-fault_place c text start end all f s (at_place read {f = g} {s = t} more r b) = place_in text read (Err (g, t)) more (subst (All (λ i. IsPlace text (place_of i))) r all)
+fault_place c text start end all f s (at_word read w {s = t} more r b nb) = place_among text read (Ok (w, t)) more (subst (All (λ i. IsPlace text (place_of i))) r all)
+fault_place c text start end all f s (at_place read {f = g} {s = t} more r b) = place_among text read (Err (g, t)) more (subst (All (λ i. IsPlace text (place_of i))) r all)
 fault_place c text start end all f s (at_end [] r b n) = (omega arith, (start, rw zero-add end))
 fault_place c text start end all f s (at_end (p ∷ read) r b n) = (omega arith, (end, rw add-zero end))
 

@@ -8,3 +8,4 @@ pub mod Seen
 pub mod Known
 pub mod Loop
 pub mod Same
+pub mod Places

@@ -1,10 +1,12 @@
 //! Expressions read from texts.
 
 ghost use Rattle.std.specs.Prelude.{◌≡◌, IfOk, IfErr};
+ghost use Rattle.spdx_lexer.specs.Code.{span_of};
+ghost use Rattle.spdx_lexer.specs.Laid.{IsPlace};
 ghost use Rattle.spdx_lexer.specs.Modes.{strict};
 ghost use Rattle.spdx_catalogue.specs.Failures.{IfRefused};
 ghost use Rattle.spdx_parser.specs.Parsed.{IsRefused};
-ghost use Rattle.spdx.specs.Parsed.{IsReadFrom};
+ghost use Rattle.spdx.specs.Parsed.{IsReadFrom, EachLeaf, ReadsBack};
 
 use crate::expression::Expression;
 use spdx_catalogue::{Catalogue, Failure};
@@ -14,7 +16,8 @@ use spdx_parser::parse_nodes;
 use std::alloc::Global;
 
 impl<'c> Expression<'c> {
-    /// The expression that the text means, read strictly: `parse_mode` in `ParseMode::STRICT`.
+    /// The expression that the text means, read strictly: `parse_mode` in `ParseMode::STRICT`. The
+    /// printed text of each requirement, read strictly again, is that requirement alone.
     pub fn parse<'t>(
         alloc: Global,
         cat: &'c Catalogue,
@@ -22,7 +25,10 @@ impl<'c> Expression<'c> {
     ) -> Result<Expression<'c>, Failure<ParseError<'t>>>
         ensures ok { IfOk result (λ expression. IsReadFrom cat.now strict text.now expression) }
         ensures err { IfErr result (IfRefused (λ error. IsRefused cat.now strict text.now error)) }
+        ensures place { IfErr result (IfRefused (λ error. IsPlace text.now (span_of error.span))) }
+        ensures back { IfOk result (λ expression. EachLeaf (ReadsBack cat.now) expression.tree) }
     {
+        cat.is_well_formed();
         Expression::parse_mode(alloc, cat, text, ParseMode::STRICT)
     }
 
@@ -37,8 +43,8 @@ impl<'c> Expression<'c> {
     /// # Errors
     ///
     /// `Refused` exactly where the grammar derives no tree, with the fault of the first place, in
-    /// bytes of the text, at which no accepted list of tokens goes on: a token, a place that is no
-    /// token, or the end. `Memory` where memory was refused.
+    /// bytes of the text on boundaries of characters, at which no accepted list of tokens goes on: a
+    /// token, a place that is no token, or the end. `Memory` where memory was refused.
     pub fn parse_mode<'t>(
         alloc: Global,
         cat: &'c Catalogue,
@@ -47,7 +53,10 @@ impl<'c> Expression<'c> {
     ) -> Result<Expression<'c>, Failure<ParseError<'t>>>
         ensures ok { IfOk result (λ expression. IsReadFrom cat.now mode text.now expression) }
         ensures err { IfErr result (IfRefused (λ error. IsRefused cat.now mode text.now error)) }
+        ensures place { IfErr result (IfRefused (λ error. IsPlace text.now (span_of error.span))) }
     {
+        cat.is_well_formed();
+        cat.has_text_prefixes();
         let nodes = parse_nodes(alloc, cat, text, mode)?;
         let original = String::from_str(alloc, text)?;
         Ok(Expression::from_nodes(original, nodes))
