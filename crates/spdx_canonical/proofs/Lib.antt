@@ -2,6 +2,7 @@ pub mod Neighbours
 pub mod Known
 pub mod Lexed
 pub mod Terms
+pub mod Cuts
 pub mod Read
 pub mod Written
 pub mod Says

@@ -22,7 +22,8 @@ use Rattle.spdx_canonical.specs.Law.{EachName, is_good, IsReferenceName, tree_by
 use Rattle.spdx_canonical.proofs.Known.{license_named, license_itself}
 use Rattle.spdx_canonical.proofs.Neighbours.{takes_license, is_with, AreApart, IsReference, AreRead, is_gnu_word, MayStand, apart, stand}
 use Rattle.spdx_canonical.proofs.Terms.{Stops, front_whole, all_run, first_of_name, bytes_of_name, some_length, says, reads, reads_spaced, skips, IsTerm, term_says, term_faults, no_sign, no_operator, no_row, license_term, exception_term, license_ref_term, addition_ref_term}
-use Rattle.spdx_canonical.proofs.Read.{are_read, strip_is, all_after}
+use Rattle.spdx_canonical.proofs.Cuts.{strip_is, all_after}
+use Rattle.spdx_canonical.proofs.Read.{are_read}
 use Rattle.spdx_canonical.proofs.Written.{stays, written_is_name, written_no_operator, plain_name, gnu_written}
 use Rattle.spdx_canonical.proofs.Says.{stops, opens, EachTerm, spells}
 use Rattle.spdx_canonical.proofs.Keeps.{Keeps, EachKept, keeps}
