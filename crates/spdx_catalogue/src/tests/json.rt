@@ -2,10 +2,12 @@
 
 use super::*;
 
-fn read(alloc: Global, bytes: &[u8]) -> Option<ReadFault> {
+// What is read, or the printed fault.
+fn outcome(alloc: Global, bytes: &[u8]) -> Result<String, Fail> {
     match Catalogue::from_json(alloc, bytes) {
-        Err(Failure::Refused(fault)) => Some(fault),
-        _ => None,
+        Ok(_) => Ok("read".to_string(alloc)?),
+        Err(Failure::Refused(fault)) => Ok(format!(in alloc; "{fault}")?),
+        Err(Failure::Memory(error)) => Err(error.into()),
     }
 }
 
@@ -21,100 +23,73 @@ fn written(
     )
 }
 
+// Licences, exceptions, further keys, and what comes of them.
+const TABLES: &str = r#"|||read
+||,"x":null|read
+||,"x":0.5|floating-point number
+||,"x":[{"y":1e2}]|floating-point number
+||,"x":-1|read
+||,"x":256|read
+||,"x":18446744073709551616|floating-point number
+||,"x":"\ud800"|not JSON
+||,"version":1|bad or missing field version
+||,"imprecise":{}|bad or missing field imprecise
+{"name":"MIT","full_name":"","flags":255}|||read
+{"name":"MIT","full_name":"","flags":256}|||bad or missing field licenses
+{"name":"MIT","full_name":"","flags":-1}|||bad or missing field licenses
+{"name":"MIT","full_name":""}|||bad or missing field licenses
+{"name":"MIT","full_name":"","flags":1e2}|||floating-point number
+{"name":"X-only-or-later","full_name":"","flags":16}|||licenses row 0: two GNU suffixes
+|{"name":"","flags":0}||exceptions row 0: bad name
+|{"flags":0}||bad or missing field exceptions"#;
+
+fn holds(alloc: Global, row: &str) -> Result<bool, Fail> {
+    let mut fields = row.split('|');
+    let (Some(licenses), Some(exceptions), Some(more), Some(wanted)) = (
+        fields.next(),
+        fields.next(),
+        fields.next(),
+        fields.next(),
+    ) else {
+        return Ok(false);
+    };
+    let text = written(alloc, licenses, exceptions, more)?;
+    let shown = outcome(alloc, text.as_bytes())?;
+    Ok(shown.as_str() == wanted)
+}
+
 #[test]
-fn json_is_read(rt: HostRuntime) -> Result<(), Fail> {
+fn tables_are_read(rt: HostRuntime) -> Result<(), Fail> {
+    for row in TABLES.lines() {
+        assert!(rt; holds(rt.alloc(), row)?, "at {row}");
+    }
+    Ok(())
+}
+
+#[test]
+fn other_bytes_are_refused(rt: HostRuntime) -> Result<(), Fail> {
+    for (bytes, wanted) in [
+        (&b"{"[..], "not JSON"),
+        (&b""[..], "not JSON"),
+        (&b"[] []"[..], "not JSON"),
+        (&b"\"\xff\""[..], "not JSON"),
+        (&b"[]"[..], "bad or missing field version"),
+        (&b"[0.5]"[..], "floating-point number"),
+    ] {
+        let shown = outcome(rt.alloc(), bytes)?;
+        assert_eq!(rt; shown.as_str(), wanted);
+    }
+    Ok(())
+}
+
+#[test]
+fn deep_arrays_are_refused(rt: HostRuntime) -> Result<(), Fail> {
     let alloc = rt.alloc();
-    let shape = Some(ReadFault::Shape(Field::Licenses));
-    let named = ReadFault::Catalogue(CatalogueError::BadName(List::Exceptions, 0));
-    let ended = ReadFault::Catalogue(CatalogueError::TwoSuffixes(0));
-    for (licenses, exceptions, more, fault) in [
-        ("", "", "", None),
-        ("", "", ",\"x\":null", None),
-        ("", "", ",\"x\":0.5", Some(ReadFault::Float)),
-        ("", "", ",\"x\":[{\"y\":1e2}]", Some(ReadFault::Float)),
-        ("", "", ",\"x\":-1", None),
-        ("", "", ",\"x\":256", None),
-        (
-            "",
-            "",
-            ",\"x\":18446744073709551616",
-            Some(ReadFault::Float),
-        ),
-        ("", "", ",\"x\":\"\\ud800\"", Some(ReadFault::NotJson)),
-        (
-            "",
-            "",
-            ",\"version\":1",
-            Some(ReadFault::Shape(Field::Version)),
-        ),
-        (
-            "",
-            "",
-            ",\"imprecise\":{}",
-            Some(ReadFault::Shape(Field::Imprecise)),
-        ),
-        (
-            "{\"name\":\"MIT\",\"full_name\":\"\",\"flags\":255}",
-            "",
-            "",
-            None,
-        ),
-        (
-            "{\"name\":\"MIT\",\"full_name\":\"\",\"flags\":256}",
-            "",
-            "",
-            shape,
-        ),
-        (
-            "{\"name\":\"MIT\",\"full_name\":\"\",\"flags\":-1}",
-            "",
-            "",
-            shape,
-        ),
-        ("{\"name\":\"MIT\",\"full_name\":\"\"}", "", "", shape),
-        (
-            "{\"name\":\"MIT\",\"full_name\":\"\",\"flags\":1e2}",
-            "",
-            "",
-            Some(ReadFault::Float),
-        ),
-        (
-            "{\"name\":\"X-only-or-later\",\"full_name\":\"\",\"flags\":16}",
-            "",
-            "",
-            Some(ended),
-        ),
-        ("", "{\"name\":\"\",\"flags\":0}", "", Some(named)),
-        (
-            "",
-            "{\"flags\":0}",
-            "",
-            Some(ReadFault::Shape(Field::Exceptions)),
-        ),
-    ] {
-        let text = written(alloc, licenses, exceptions, more)?;
-        assert_eq!(rt; read(alloc, text.as_bytes()), fault, "{text}");
-    }
-    for (bytes, fault) in [
-        (&b"{"[..], ReadFault::NotJson),
-        (&b""[..], ReadFault::NotJson),
-        (&b"[] []"[..], ReadFault::NotJson),
-        (&b"\"\xff\""[..], ReadFault::NotJson),
-        (&b"[]"[..], ReadFault::Shape(Field::Version)),
-        (&b"[0.5]"[..], ReadFault::Float),
-    ] {
-        assert_eq!(rt; read(alloc, bytes), Some(fault));
-    }
-    for (depth, fault) in [
-        (127, ReadFault::Shape(Field::Version)),
-        (128, ReadFault::NotJson),
-    ] {
-        let text = format!(in alloc;
-            "{}{}",
-            "[".repeat(alloc, depth)?,
-            "]".repeat(alloc, depth)?
-        )?;
-        assert_eq!(rt; read(alloc, text.as_bytes()), Some(fault), "{depth}");
+    for (depth, wanted) in [(127, "bad or missing field version"), (128, "not JSON")] {
+        let (opened, closed) = ("[".repeat(alloc, depth)?, "]".repeat(alloc, depth)?);
+        let text = format!(in alloc; "{opened}{closed}")?;
+        let shown = outcome(alloc, text.as_bytes())?;
+        assert_eq!(rt; shown.as_str(), wanted, "{depth}");
     }
     Ok(())
 }
