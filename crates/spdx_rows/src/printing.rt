@@ -1,7 +1,7 @@
 // Printed faults and items.
 
 use crate::catalogues::k1;
-use spdx::{Catalogue, Expression, Failure, LicenseItem};
+use spdx::{Catalogue, Expression, Failure, LicenseItem, LicenseReq};
 use std::alloc::Global;
 use std::test::Fail;
 
@@ -52,5 +52,44 @@ fn marks(rt: HostRuntime) -> Result<(), Fail> {
     let parsed = Expression::parse(rt.alloc(), &catalogue, "(MIT)")?;
     let whole = format!(in rt.alloc(); "{parsed}")?;
     assert_eq!(rt; whole.as_str(), "(MIT)");
+    Ok(())
+}
+
+// The one requirement that the printed text of a requirement is read as, strictly.
+fn again(alloc: Global, catalogue: &Catalogue, req: &LicenseReq<'_>) -> Result<String, Fail> {
+    let printed = format!(in alloc; "{req}")?;
+    let alone = Expression::parse(alloc, catalogue, printed.as_str())?;
+    Ok(format!(in alloc; "{alone:?}")?)
+}
+
+// Of each requirement of the text, from left to right.
+fn all_again(alloc: Global, catalogue: &Catalogue, text: &str) -> Result<String, Fail> {
+    let expression = Expression::parse(alloc, catalogue, text)?;
+    let mut all = String::new(alloc);
+    for requirement in expression.requirements() {
+        all.push_str(again(alloc, catalogue, &requirement.req)?.as_str())?;
+        all.push('|')?;
+    }
+    Ok(all)
+}
+
+#[test]
+fn printed_requirements_are_read_back(rt: HostRuntime) -> Result<(), Fail> {
+    let catalogue = k1(rt.alloc())?;
+    let listed = all_again(
+        rt.alloc(),
+        &catalogue,
+        "(MPL-1.1+ with LLVM-exception) AND (GPL-2.0-or-later OR Zlib)",
+    )?;
+    assert_eq!(rt; listed.as_str(), "MPL-1.1+ WITH LLVM-exception|GPL-2.0-or-later|Zlib|");
+    let references = all_again(
+        rt.alloc(),
+        &catalogue,
+        "DocumentRef-d:LicenseRef-x WITH DocumentRef-e:AdditionRef-y or LicenseRef-",
+    )?;
+    assert_eq!(rt;
+        references.as_str(),
+        "DocumentRef-d:LicenseRef-x WITH DocumentRef-e:AdditionRef-y|LicenseRef-|"
+    );
     Ok(())
 }
