@@ -2,8 +2,6 @@
 #![tactic(auto)]
 
 mod draft;
-#[cfg(test)]
-mod tests;
 pub mod text;
 
 pub use crate::text::canonical;

@@ -6,8 +6,6 @@ mod lexeme;
 pub mod lexer;
 mod reference;
 mod run;
-#[cfg(test)]
-mod tests;
 pub mod token;
 
 pub use crate::error::{Failure, ParseError, Reason};

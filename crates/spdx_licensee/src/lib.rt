@@ -3,8 +3,6 @@
 
 pub mod licensee;
 mod reading;
-#[cfg(test)]
-mod tests;
 mod version;
 
 pub use crate::licensee::Licensee;

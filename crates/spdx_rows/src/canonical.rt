@@ -38,6 +38,7 @@ MIT-0|3..5 unknown term";
 const ODD: &str = "\
 x y+|A
 x y++|A+
+x y|0..1 unknown term
 B\u{e9}|A
 q) OR (|A";
 

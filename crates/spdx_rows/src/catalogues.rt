@@ -88,15 +88,34 @@ pub fn two_cases(alloc: Global) -> Result<Catalogue, Fail> {
     Ok(Catalogue::from_json(alloc, TWO_CASES.as_bytes())?)
 }
 
+// Three licences with these names, which stand in order.
+pub fn three_names(
+    alloc: Global,
+    first: &str,
+    second: &str,
+    third: &str,
+) -> Result<Catalogue, Fail> {
+    let json = format!(in alloc;
+        "{{\"version\":\"\",\"licenses\":[\
+        {{\"name\":\"{first}\",\"full_name\":\"\",\"flags\":0}},\
+        {{\"name\":\"{second}\",\"full_name\":\"\",\"flags\":0}},\
+        {{\"name\":\"{third}\",\"full_name\":\"\",\"flags\":0}}],\
+        \"exceptions\":[],\"imprecise\":[]}}"
+    )?;
+    Ok(Catalogue::from_json(alloc, json.as_bytes())?)
+}
+
 // The mode of that name: `strict`, `lax`, or the permissions that it has alone.
 pub fn mode_named(name: &str) -> ParseMode {
-    let mut mode = ParseMode::STRICT;
+    let mut mode = ParseMode::default();
     match name {
         "lax" => return ParseMode::LAX,
         "slash" => mode.allow_slash_as_or_operator = true,
+        "imprecise" => mode.allow_imprecise_license_names = true,
         "gnu plus" => mode.allow_postfix_plus_on_gpl = true,
         "deprecated" => mode.allow_deprecated = true,
         "unknown" => mode.allow_unknown = true,
+        "caseless" => mode.allow_caseless_ids = true,
         "imprecise, unknown" => {
             mode.allow_imprecise_license_names = true;
             mode.allow_unknown = true;

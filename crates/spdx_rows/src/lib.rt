@@ -13,6 +13,8 @@ mod evaluation;
 #[cfg(test)]
 mod hostile;
 #[cfg(test)]
+mod lexing;
+#[cfg(test)]
 mod licensees;
 #[cfg(test)]
 mod parsing;

@@ -1,6 +1,6 @@
 // Licensees: which texts they are, and what they satisfy.
 
-use crate::catalogues::{k1, k2};
+use crate::catalogues::{k1, k2, three_names};
 use spdx::{Catalogue, Expression, Failure, Licensee};
 use std::alloc::Global;
 use std::test::Fail;
@@ -14,7 +14,8 @@ MIT+|3..4 expected a `WITH` here
 MIT WITH|8..8 expected a `<addition>` here
 MIT WITH LLVM-exception MIT|24..27 the term was not expected here
 NOPE|0..4 unknown term
-|0..0 empty expression";
+|0..0 empty expression
+  |0..2 empty expression";
 
 fn named(alloc: Global, catalogue: &Catalogue, text: &str) -> Result<String, Fail> {
     match Licensee::parse(alloc, catalogue, text) {
@@ -58,7 +59,8 @@ MIT+|MIT|yes
 GPL-2.0-or-later|GPL-2.0-only|yes
 LGPL-3.0-or-later|GPL-3.0-only|no
 MIT WITH LLVM-exception|MIT|no
-LicenseRef-a|DocumentRef-d:LicenseRef-a|no";
+LicenseRef-a|DocumentRef-d:LicenseRef-a|no
+LicenseRef-a|LicenseRef-a|yes";
 
 // The same over the catalogue of versions.
 const VERSIONS: &str = "\
@@ -111,11 +113,37 @@ fn satisfactions(rt: HostRuntime) -> Result<(), Fail> {
 }
 
 #[test]
+fn long_versions_are_numbers(rt: HostRuntime) -> Result<(), Fail> {
+    // Of 100, 100 and 99 digits.
+    let ten = format!(in rt.alloc(); "A-{:0>100}", 10)?;
+    let power = format!(in rt.alloc(); "A-{:0<100}", 1)?;
+    let nines = format!(in rt.alloc(); "A-{:9<99}", 9)?;
+    let catalogue = three_names(rt.alloc(), ten.as_str(), power.as_str(), nines.as_str())?;
+    let rows = format!(in rt.alloc();
+        "\
+        {nines}+|{power}|yes\n\
+        {power}+|{nines}|no\n\
+        {ten}+|{nines}|yes\n\
+        {nines}+|{ten}|no"
+    )?;
+    for row in rows.lines() {
+        assert!(rt; agrees(rt.alloc(), &catalogue, row)?, "at {row}");
+    }
+    Ok(())
+}
+
+#[test]
 fn clones_are_equal(rt: HostRuntime) -> Result<(), Fail> {
     let catalogue = k1(rt.alloc())?;
     let text = "DocumentRef-d:LicenseRef-x WITH DocumentRef-e:AdditionRef-y";
     let licensee = Licensee::parse(rt.alloc(), &catalogue, text)?;
     let copy = licensee.try_clone(rt.alloc())?;
     assert!(rt; copy == licensee);
+    assert!(rt; copy.req() == licensee.req());
+    let other = Licensee::parse(rt.alloc(), &catalogue, "LicenseRef-x")?;
+    assert!(rt; other != licensee);
+    let requirement = licensee.into_req();
+    let printed = format!(in rt.alloc(); "{requirement}")?;
+    assert_eq!(rt; printed.as_str(), text);
     Ok(())
 }

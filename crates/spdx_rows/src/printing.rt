@@ -1,15 +1,34 @@
-// Printed faults and items.
+// Printed faults, reasons and items.
 
 use crate::catalogues::k1;
+use spdx::error::Reason;
 use spdx::{Catalogue, Expression, Failure, LicenseItem, LicenseReq};
 use std::alloc::Global;
 use std::test::Fail;
 
-// The printed fault of the text.
-fn fault(alloc: Global, catalogue: &Catalogue, text: &str) -> Result<String, Fail> {
+// Text, what its printed fault says below it, and what its description says.
+const FAULTS: &str = "\
+MIT OR|       expected one of `<license>`, `(` here|unexpected term
+MIT)|   ^ unopened parens|unopened parens
+(MIT|- unclosed parens|unclosed parens
+MIT OR NOPE|       ^^^^ unknown term|unknown term
+\u{e9}|^^ invalid character(s)|invalid character(s)";
+
+fn is_fault(alloc: Global, catalogue: &Catalogue, row: &str) -> Result<bool, Fail> {
+    let mut fields = row.split('|');
+    let (Some(text), Some(below), Some(described)) = (fields.next(), fields.next(), fields.next())
+    else {
+        return Ok(false);
+    };
     match Expression::parse(alloc, catalogue, text) {
-        Ok(_) => Ok(String::new(alloc)),
-        Err(Failure::Refused(fault)) => Ok(format!(in alloc; "{fault}")?),
+        Ok(_) => Ok(false),
+        Err(Failure::Refused(fault)) => {
+            let shown = format!(in alloc; "{fault}")?;
+            let wanted = format!(in alloc; "{text}\n{below}")?;
+            let is_described = fault.description() == described
+                && fault.reason.description() == described;
+            Ok(shown == wanted && is_described)
+        }
         Err(Failure::Memory(error)) => Err(error.into()),
     }
 }
@@ -17,19 +36,65 @@ fn fault(alloc: Global, catalogue: &Catalogue, text: &str) -> Result<String, Fai
 #[test]
 fn faults(rt: HostRuntime) -> Result<(), Fail> {
     let catalogue = k1(rt.alloc())?;
-    let open = fault(rt.alloc(), &catalogue, "MIT OR")?;
-    assert_eq!(rt;
-        open.as_str(),
-        "MIT OR\n       expected one of `<license>`, `(` here"
-    );
-    let unopened = fault(rt.alloc(), &catalogue, "MIT)")?;
-    assert_eq!(rt; unopened.as_str(), "MIT)\n   ^ unopened parens");
-    let unclosed = fault(rt.alloc(), &catalogue, "(MIT")?;
-    assert_eq!(rt; unclosed.as_str(), "(MIT\n- unclosed parens");
-    let unknown = fault(rt.alloc(), &catalogue, "MIT OR NOPE")?;
-    assert_eq!(rt; unknown.as_str(), "MIT OR NOPE\n       ^^^^ unknown term");
-    let invalid = fault(rt.alloc(), &catalogue, "\u{e9}")?;
-    assert_eq!(rt; invalid.as_str(), "\u{e9}\n^^ invalid character(s)");
+    for row in FAULTS.lines() {
+        assert!(rt; is_fault(rt.alloc(), &catalogue, row)?, "at {row}");
+    }
+    Ok(())
+}
+
+// Reason, its text, and its description where that is not the text.
+const REASONS: &str = "\
+UnknownLicense|unknown license id
+UnknownException|unknown exception id
+InvalidCharacters|invalid character(s)
+UnclosedParens|unclosed parens
+UnopenedParens|unopened parens
+Empty|empty expression
+SeparatedPlus|`+` must not follow whitespace
+UnknownTerm|unknown term
+GnuNoPlus|a GNU license was followed by a `+`
+GnuPlusWithSuffix|a GNU license was followed by a `+` even though it ended in `-only` or `-or-later`
+DeprecatedLicenseId|a deprecated license identifier was used
+Unexpected([])|the term was not expected here|unexpected term
+Unexpected([\"<addition>\"])|expected a `<addition>` here|unexpected term
+Unexpected([\"AND\", \"OR\", \")\"])|expected one of `AND`, `OR`, `)` here|unexpected term";
+
+fn reason_named(name: &str) -> Option<Reason> {
+    match name {
+        "UnknownLicense" => Some(Reason::UnknownLicense),
+        "UnknownException" => Some(Reason::UnknownException),
+        "InvalidCharacters" => Some(Reason::InvalidCharacters),
+        "UnclosedParens" => Some(Reason::UnclosedParens),
+        "UnopenedParens" => Some(Reason::UnopenedParens),
+        "Empty" => Some(Reason::Empty),
+        "SeparatedPlus" => Some(Reason::SeparatedPlus),
+        "UnknownTerm" => Some(Reason::UnknownTerm),
+        "GnuNoPlus" => Some(Reason::GnuNoPlus),
+        "GnuPlusWithSuffix" => Some(Reason::GnuPlusWithSuffix),
+        "DeprecatedLicenseId" => Some(Reason::DeprecatedLicenseId),
+        "Unexpected([])" => Some(Reason::Unexpected(&[])),
+        "Unexpected([\"<addition>\"])" => Some(Reason::Unexpected(&["<addition>"])),
+        "Unexpected([\"AND\", \"OR\", \")\"])" => Some(Reason::Unexpected(&["AND", "OR", ")"])),
+        _ => None,
+    }
+}
+
+fn is_said(alloc: Global, row: &str) -> Result<bool, Fail> {
+    let mut fields = row.split('|');
+    let (Some(name), Some(text)) = (fields.next(), fields.next()) else {
+        return Ok(false);
+    };
+    let described = fields.next().unwrap_or(text);
+    let reason = reason_named(name).ok_or("a reason")?;
+    let shown = format!(in alloc; "{reason}")?;
+    Ok(shown.as_str() == text && reason.description() == described)
+}
+
+#[test]
+fn reasons(rt: HostRuntime) -> Result<(), Fail> {
+    for row in REASONS.lines() {
+        assert!(rt; is_said(rt.alloc(), row)?, "at {row}");
+    }
     Ok(())
 }
 
@@ -81,7 +146,10 @@ fn printed_requirements_are_read_back(rt: HostRuntime) -> Result<(), Fail> {
         &catalogue,
         "(MPL-1.1+ with LLVM-exception) AND (GPL-2.0-or-later OR Zlib)",
     )?;
-    assert_eq!(rt; listed.as_str(), "MPL-1.1+ WITH LLVM-exception|GPL-2.0-or-later|Zlib|");
+    assert_eq!(rt;
+        listed.as_str(),
+        "MPL-1.1+ WITH LLVM-exception|GPL-2.0-or-later|Zlib|"
+    );
     let references = all_again(
         rt.alloc(),
         &catalogue,
