@@ -1,7 +1,7 @@
 -- The useful licensees, the chosen ones, and the choice.
-use Rattle.std.proofs.Common.{◌≡◌, ℕ, ◌+◌, ◌<◌, ◌≤◌, Bool, true, false, ◌&&◌, ◌||◌, cond, List, [], ◌∷◌, ◌++◌, length, take, drop, map, nat_lt, get_or, refl, sym, ◌∙◌, ap, subst, arith}
+use Rattle.std.proofs.Common.{◌≡◌, ℕ, ◌+◌, ◌<◌, ◌≤◌, Bool, true, false, ◌||◌, cond, List, [], ◌∷◌, ◌++◌, length, drop, map, nat_lt, get_or, refl, sym, ◌∙◌, ap, subst, arith}
 use Rattle.std.specs.List.{list_any, filter}
-use Rattle.std.proofs.lemmas.List.{append_assoc, drop_more, drop_all, take_more, map-append}
+use Rattle.std.proofs.lemmas.List.{append_assoc, drop_more}
 use Rattle.std.proofs.lemmas.List.Elements.{filter-append}
 use Rattle.std.proofs.lemmas.Bool.Decides.{nat_tests}
 use Rattle.spdx_catalogue.specs.Items.{Requirement, requirement_of}
@@ -9,7 +9,7 @@ use Rattle.spdx_parser.specs.declared.node.ExpressionReq.{ExpressionReq}
 use Rattle.spdx_parser.specs.declared.node.ExprNode.{ExprNode}
 use Rattle.spdx_parser.specs.Tree.{Tree, postfix, leaves, node_of}
 use Rattle.spdx_choice.specs.Selection.{IsLeast, NoneSuffices}
-use Rattle.spdx.specs.Alike.{same_requirement}
+use Rattle.spdx_licensee.specs.Alike.{same_requirement}
 use Rattle.spdx.specs.Written.{requirements_in}
 use Rattle.spdx.specs.Choice.{first_ones, suffices_for, chosen_of, chosen, unmet, choice_among, choice_by, too_many, least_of}
 use Rattle.spdx.proofs.Nodes.{requirement_at, requirements_of_tree}

@@ -1,5 +1,5 @@
 -- The order of requirements tells those apart that are not the same.
-use Rattle.std.proofs.Common.{rules, ◌≡◌, ◌∙◌, ℕ, Bool, true, false, ◌&&◌, ◌==◌, List, Option, Some, None, refl, ap}
+use Rattle.std.proofs.Common.{rules, ◌≡◌, ◌∙◌, Bool, true, false, ◌&&◌, Option, Some, None, refl, ap}
 use Rattle.std.specs.Prelude.{bytes_eq}
 use Rattle.std.specs.Bool.{beq}
 use Rattle.std.specs.Cmp.{unsigned_tied}
@@ -13,7 +13,7 @@ use Rattle.spdx_catalogue.specs.declared.requirement.LicenseReq.{LicenseReq}
 use Rattle.spdx_catalogue.specs.Items.{Reference, Licence, listed, referred, Addition, excepted, added, Requirement, requirement_of}
 use Rattle.spdx_catalogue.specs.Orders.{option_cmp, mark_cmp, reference_cmp, licence_cmp, addition_cmp, requirement_cmp}
 use Rattle.spdx_catalogue.specs.contracts.requirement.LicenseReqOrd.TheImpl as req_ord
-use Rattle.spdx.specs.Alike.{same_reference, same_licence, same_addition, same_requirement}
+use Rattle.spdx_licensee.specs.Alike.{same_reference, same_licence, same_addition, same_requirement}
 
 both_tied : (a b : Ordering) (x y : Bool) → is_eq a ≡ x → is_eq b ≡ y → is_eq (ordering_then a b) ≡ (x && y)
 both_tied Less b x y e f = ap (λ (z : Bool). z && y) e

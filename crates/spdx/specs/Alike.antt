@@ -1,31 +1,10 @@
 -- Equality of trees, whose rows are told apart by their index alone.
-use Rattle.std.specs.Prelude.{◌≡◌, ◌==◌, Bool, true, false, ◌&&◌, Option, Some, None, slice_get, bytes_eq}
-use Rattle.std.specs.Bool.{beq}
-use Rattle.std.specs.Option.{option_eq}
-use Rattle.spdx_catalogue.specs.Rows.{Rows}
-use Rattle.spdx_catalogue.specs.Items.{Reference, Licence, listed, referred, Addition, excepted, added, Requirement}
+use Rattle.std.specs.Prelude.{Bool, true, false, ◌&&◌}
 use Rattle.spdx_catalogue.specs.Keys.{RequirementKey, requirement_key}
+use Rattle.spdx_licensee.specs.Alike.{same_requirement}
 use Rattle.spdx_parser.specs.declared.node.Operator.{Operator}
 use Rattle.spdx_parser.specs.declared.node.Operator.TheVariants.{And, Or}
 use Rattle.spdx_parser.specs.Tree.{Tree, Leaf, Join, Node, Op, Req}
-
-abbrev pub same_reference : Reference → Reference → Bool
-same_reference x y = option_eq bytes_eq x.document y.document && bytes_eq x.name y.name
-
-abbrev pub same_licence : Licence → Licence → Bool
-same_licence (listed r m) (listed s n) = (r.index == s.index) && beq m n
-same_licence (referred x) (referred y) = same_reference x y
-same_licence (listed r m) (referred y) = false
-same_licence (referred x) (listed s n) = false
-
-abbrev pub same_addition : Addition → Addition → Bool
-same_addition (excepted r) (excepted s) = r.index == s.index
-same_addition (added x) (added y) = same_reference x y
-same_addition (excepted r) (added y) = false
-same_addition (added x) (excepted s) = false
-
-abbrev pub same_requirement : Requirement → Requirement → Bool
-same_requirement r s = same_licence r.licence s.licence && option_eq same_addition r.addition s.addition
 
 abbrev pub same_operator : Operator → Operator → Bool
 same_operator And And = true

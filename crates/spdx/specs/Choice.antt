@@ -5,7 +5,7 @@ use Rattle.spdx_catalogue.specs.Items.{Requirement}
 use Rattle.spdx_parser.specs.Tree.{Tree, leaves}
 use Rattle.spdx_licensee.specs.Satisfies.{satisfies}
 use Rattle.spdx_choice.specs.Selection.{IsLeast, NeedsEach}
-use Rattle.spdx.specs.Alike.{same_requirement}
+use Rattle.spdx_licensee.specs.Alike.{same_requirement}
 use Rattle.spdx.specs.Truth.{truth_of}
 
 -- those that are the same as none before them

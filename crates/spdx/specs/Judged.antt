@@ -1,24 +1,18 @@
 -- What a judge of selections keeps of expressions and members.
 use Rattle.std.specs.Prelude.{◌≡◌, ℕ, ◌+◌, Bool, false, cond, List, [], ◌∷◌, ◌++◌, length, map, max, slice_index_or}
-use Rattle.std.specs.List.{list_all, list_any}
+use Rattle.std.specs.List.{list_any}
 use denote.Ref.{Bor}
 use Rattle.spdx_catalogue.specs.Items.{Requirement, requirement_of}
 use Rattle.spdx_parser.specs.declared.node.ExprNode.{ExprNode}
 use Rattle.spdx_parser.specs.Tree.{Tree, leaves, postfix}
-use Rattle.spdx_licensee.specs.Held.{held}
 use Rattle.spdx_licensee.specs.Satisfies.{satisfies}
 use Rattle.spdx.specs.Written.{Written, requirements_in}
 use Rattle.spdx.specs.Truth.{truth_of}
-use Rattle.spdx.specs.declared.expression.question.Member.{Member}
 use Rattle.spdx.specs.declared.expression.question.Question.{Question}
 
 -- the trees of some expressions
 abbrev pub trees_of : List (Bor Written) → List Tree
 trees_of es = map (λ e. e.now.tree) es
-
--- what some members hold
-abbrev pub members_of : List Member → List Requirement
-members_of ms = map (λ m. held m.licensee.now) ms
 
 -- the places, counted from k, of those that pass the test
 abbrev pub places_from : {A : Type 0} → (A → Bool) → ℕ → List A → List ℕ

@@ -3,7 +3,8 @@ use Rattle.std.specs.Prelude.{List, map}
 use Rattle.spdx_catalogue.specs.Items.{Requirement}
 use Rattle.spdx_parser.specs.Tree.{Tree}
 use Rattle.spdx.specs.declared.expression.judge.ExpressionJudge.{ExpressionJudge}
-use Rattle.spdx.specs.Judged.{members_of, question_tree}
+use Rattle.spdx.specs.Judged.{question_tree}
+use Rattle.spdx.specs.Written.{nows}
 
 -- the trees of its expressions
 abbrev pub judged_trees : ExpressionJudge → List Tree
@@ -11,4 +12,4 @@ judged_trees judge = map question_tree judge.questions.items
 
 -- what its members hold
 abbrev pub judged_members : ExpressionJudge → List Requirement
-judged_members judge = members_of judge.members.items
+judged_members judge = nows judge.members.items

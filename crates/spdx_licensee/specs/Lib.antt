@@ -1,6 +1,7 @@
 pub mod Version
 pub mod Left
 pub mod Satisfies
-pub mod Held
+pub mod Alike
+pub mod Equality
 pub mod Named
 pub mod Answers

@@ -1,34 +1,12 @@
 -- Which requirements a licensee satisfies.
-use Rattle.std.specs.Prelude.{ℕ, Bool, true, false, not, ◌||◌, ◌&&◌, ◌==◌, List, Option, Some, None, bytes_eq}
+use Rattle.std.specs.Prelude.{ℕ, Bool, false, not, ◌||◌, ◌&&◌, ◌==◌, List, Option, Some, None}
 use Rattle.spdx_catalogue.specs.Rows.{LicenseRow}
 use Rattle.spdx_catalogue.specs.Flags.{is_gnu}
 use Rattle.spdx_catalogue.specs.Names.{ends_or_later}
-use Rattle.spdx_catalogue.specs.Items.{Reference, Licence, listed, referred, Addition, excepted, added, Requirement}
+use Rattle.spdx_catalogue.specs.Items.{Licence, listed, referred, Requirement}
 use Rattle.spdx_catalogue.specs.Versions.{version, versioned_name, family}
+use Rattle.spdx_licensee.specs.Alike.{same_reference, same_additions}
 use Rattle.spdx_licensee.specs.Version.{older, same_parts}
-
-abbrev pub same_document : Option (List ℕ) → Option (List ℕ) → Bool
-same_document None None = true
-same_document (Some a) (Some b) = bytes_eq a b
-same_document None (Some b) = false
-same_document (Some a) None = false
-
--- references are compared by their texts
-abbrev pub same_reference : Reference → Reference → Bool
-same_reference a b = same_document a.document b.document && bytes_eq a.name b.name
-
--- exceptions are compared by their places in the list
-abbrev pub same_addition : Addition → Addition → Bool
-same_addition (excepted a) (excepted b) = a.index == b.index
-same_addition (added a) (added b) = same_reference a b
-same_addition (excepted a) (added b) = false
-same_addition (added a) (excepted b) = false
-
-abbrev pub same_additions : Option Addition → Option Addition → Bool
-same_additions None None = true
-same_additions (Some a) (Some b) = same_addition a b
-same_additions None (Some b) = false
-same_additions (Some a) None = false
 
 -- later versions are meant too: by the mark, or by the ending of a GNU licence
 abbrev pub allows_later : LicenseRow → Bool → Bool

@@ -10,7 +10,7 @@ ghost use Rattle.spdx_catalogue.specs.Versions as parted;
 ghost use Rattle.spdx_lexer.specs.Faults.{fault_of};
 ghost use Rattle.spdx_lexer.specs.Code.{span_of};
 ghost use Rattle.spdx_lexer.specs.Laid.{IsPlace};
-ghost use Rattle.spdx_licensee.specs.Held.{held};
+ghost use Rattle.spdx_licensee.specs.Alike.{same_additions};
 ghost use Rattle.spdx_licensee.specs.Named.{Names, NamesNone, IsFaultOf, has_reference};
 ghost use Rattle.spdx_catalogue.specs.Failures.{IfRefused};
 ghost use Rattle.spdx_licensee.specs.Answers.{IsRefusal};
@@ -21,12 +21,21 @@ use crate::version::{is_older, same_family, version};
 use spdx_catalogue::{AdditionItem, Catalogue, LicenseId, LicenseItem, LicenseReq};
 use spdx_lexer::{Failure, Lexer, ParseError};
 use std::alloc::{AllocError, Global};
+use std::marker::Model;
 
 /// A licence that is held, perhaps with an addition, against which requirements are measured. Two
 /// licensees are equal exactly if their requirements are.
-#[derive(Debug, PartialEq, Eq, Drop)]
+#[derive(Debug, Drop)]
 pub struct Licensee<'c> {
     req: LicenseReq<'c>,
+}
+
+impl<'c> Model for Licensee<'c> {
+    ghost use Rattle.spdx_catalogue.specs.Items.{Requirement, requirement_of};
+
+    ghost Value = { Requirement };
+
+    ghost view = { λ i. requirement_of i.req };
 }
 
 impl<'c> Licensee<'c> {
@@ -44,7 +53,7 @@ impl<'c> Licensee<'c> {
         cat: &'c Catalogue,
         text: &'t str,
     ) -> Result<Licensee<'c>, Failure<ParseError<'t>>>
-        ensures ok { IfOk result (λ licensee. Names cat.now text.now (held licensee)) }
+        ensures ok { IfOk result (λ licensee. Names cat.now text.now licensee) }
         ensures err { IfErr result (IfRefused (λ e. IsFaultOf cat.now text.now (fault_of e.reason) (span_of e.span))) }
         ensures none { IfErr result (IfRefused (λ _. NamesNone cat.now text.now)) }
         ensures original { IfErr result (IfRefused (λ e. e.original.now ≡ text.now)) }
@@ -59,14 +68,14 @@ impl<'c> Licensee<'c> {
 
     /// The requirement that the licensee was read as.
     pub fn req(&self) -> &LicenseReq<'c>
-        ensures { requirement_of result.now ≡ held self.now }
+        ensures { requirement_of result.now ≡ self.now }
     {
         &self.req
     }
 
     /// The requirement that the licensee was read as, without a copy.
     pub fn into_req(self) -> LicenseReq<'c>
-        ensures { requirement_of result ≡ held self.entry }
+        ensures { requirement_of result ≡ self.entry }
     {
         self.req
     }
@@ -77,7 +86,7 @@ impl<'c> Licensee<'c> {
     ///
     /// Want of memory.
     pub fn try_clone(&self, alloc: Global) -> Result<Licensee<'c>, AllocError>
-        ensures { IfOk result (λ copy. held copy ≡ held self.now) }
+        ensures { IfOk result (λ copy. copy ≡ self.now) }
     {
         Ok(Licensee {
             req: self.req.try_clone(alloc)?,
@@ -92,7 +101,7 @@ impl<'c> Licensee<'c> {
     /// `MPL-1.1+` is satisfied by `MPL-2.0`, and `GPL-2.0-only` is not by `GPL-3.0-only`. A version's
     /// parts between dots are whole numbers of any length, and a missing one is 0.
     pub fn satisfies(&self, req: &LicenseReq<'_>) -> bool
-        ensures { result ≡ spec.satisfies (held self.now) (requirement_of req.now) }
+        ensures { result ≡ spec.satisfies self.now (requirement_of req.now) }
     {
         are_same_additions(&self.req.addition, &req.addition)
             && covers(&self.req.license, &req.license)
@@ -101,14 +110,14 @@ impl<'c> Licensee<'c> {
 
 /// `==` of licensees: of their requirements.
 pub fn are_same_licensees(a: &Licensee<'_>, b: &Licensee<'_>) -> bool
-    ensures { IsTrue result ↔ (requirement_key (held a.now) ≡ requirement_key (held b.now)) }
+    ensures { IsTrue result ↔ (requirement_key a.now ≡ requirement_key b.now) }
 {
     a == b
 }
 
 /// `==` of additions, or of none, as `satisfies` compares them.
 pub fn are_same_additions(one: &Option<AdditionItem<'_>>, other: &Option<AdditionItem<'_>>) -> bool
-    ensures test { result ≡ spec.same_additions (option_map addition_of one.now) (option_map addition_of other.now) }
+    ensures test { result ≡ same_additions (option_map addition_of one.now) (option_map addition_of other.now) }
     ensures same { IsTrue result
         ↔ (option_map addition_key (option_map addition_of one.now) ≡ option_map addition_key (option_map addition_of other.now)) }
 {

@@ -1,11 +1,9 @@
 -- Licensees that are read one by one.
-use Rattle.std.proofs.Common.{◌≡◌, ℕ, ◌+◌, ◌<◌, length, drop, get_or, drop-cons, add-one, List, [], ◌∷◌, ◌++◌, map, Result, Ok, Err, refl, sym, ap, ◌∙◌, append_assoc, append-nil}
+use Rattle.std.proofs.Common.{◌≡◌, ℕ, ◌+◌, ◌<◌, length, drop, get_or, drop-cons, add-one, List, [], ◌∷◌, ◌++◌, Result, Ok, Err, refl, sym, ap, ◌∙◌, append_assoc, append-nil}
 use Rattle.std.specs.Borrow.{Bor}
 use Rattle.spdx_catalogue.specs.Rows.{Rows}
 use Rattle.spdx_catalogue.specs.Items.{Requirement}
 use Rattle.spdx_lexer.specs.Words.{Fault, Span}
-use Rattle.spdx_licensee.specs.declared.licensee.Licensee.{Licensee}
-use Rattle.spdx_licensee.specs.Held.{held}
 use Rattle.spdx_licensee.specs.Named.{Names, IsFaultOf}
 use Rattle.spdx_lines.specs.Program.{Refusal, NoLicensee, texts_of, licensee_of, put_before, licensee_before, licensees_from}
 use Rattle.spdx_lines.proofs.Licensee.{the_licensee}
@@ -45,19 +43,15 @@ word_next words i d lt =
     let next : drop i words ≡ get_or words i d ∷ drop (i + 1) words = rw (add-one, drop-cons words i d) refl in
     ap texts_of next
 
-held_more : (licensees : List Licensee) (licensee : Licensee) → map held (licensees ++ licensee ∷ []) ≡ map held licensees ++ held licensee ∷ []
-held_more [] licensee = refl
-held_more (l ∷ licensees) licensee = ap (λ (xs : List Requirement). held l ∷ xs) (held_more licensees licensee)
-
 module _ (c : Rows) (words : List (Bor (List ℕ))) (i : ℕ) (d : Bor (List ℕ)) (lt : i < length words) (all : Result (List Requirement) Refusal) where
   next : (reqs : List Requirement) → all ≡ behind reqs (licensees_from c (i + 1) (texts_of (drop i words))) → all ≡ behind reqs (licensees_from c (i + 1) ((get_or words i d).now ∷ texts_of (drop (i + 1) words)))
   next reqs e = e ∙ ap (λ texts. behind reqs (licensees_from c (i + 1) texts)) (word_next words i d lt)
 
-  pub read_at : (licensees licensees' : List Licensee) (licensee : Licensee) → all ≡ behind (map held licensees) (licensees_from c (i + 1) (texts_of (drop i words))) → Names c (get_or words i d).now (held licensee) →
-      licensees' ≡ licensees ++ licensee ∷ [] → all ≡ behind (map held licensees') (licensees_from c (i + 1 + 1) (texts_of (drop (i + 1) words)))
-  read_at licensees licensees' licensee e h k =
-      read_one c (i + 1) (get_or words i d).now (texts_of (drop (i + 1) words)) (map held licensees) (held licensee) all (next (map held licensees) e) ((the_licensee c (get_or words i d).now).only_licensee (held licensee) h)
-      ∙ ap (λ reqs. behind reqs (licensees_from c (i + 1 + 1) (texts_of (drop (i + 1) words)))) (sym (ap (map held) k ∙ held_more licensees licensee))
+  pub read_at : (reqs reqs' : List Requirement) (req : Requirement) → all ≡ behind reqs (licensees_from c (i + 1) (texts_of (drop i words))) → Names c (get_or words i d).now req →
+      reqs' ≡ reqs ++ req ∷ [] → all ≡ behind reqs' (licensees_from c (i + 1 + 1) (texts_of (drop (i + 1) words)))
+  read_at reqs reqs' req e h k =
+      read_one c (i + 1) (get_or words i d).now (texts_of (drop (i + 1) words)) reqs req all (next reqs e) ((the_licensee c (get_or words i d).now).only_licensee req h)
+      ∙ ap (λ rs. behind rs (licensees_from c (i + 1 + 1) (texts_of (drop (i + 1) words)))) (sym k)
 
   pub refused_at : (reqs : List Requirement) (fault : Fault) (s : Span) → all ≡ behind reqs (licensees_from c (i + 1) (texts_of (drop i words))) → IsFaultOf c (get_or words i d).now fault s → all ≡ Err (NoLicensee (i + 1) fault s)
   refused_at reqs fault s e h =

@@ -1,8 +1,7 @@
 // Lines of expressions in, their verdicts out.
 
-ghost use Rattle.std.specs.Prelude.{◌≡◌, ◌↔◌, ℕ, ◌<◌, List, length, map, true, false, IfSome, IfOk, OnOk, OnErr, IsErrOf};
+ghost use Rattle.std.specs.Prelude.{◌≡◌, ◌↔◌, ℕ, ◌<◌, List, length, true, false, IfSome, IfOk, OnOk, OnErr, IsErrOf};
 ghost use Rattle.line_engine.specs.Progress.{HasRun, HasBegun, HasWrittenLines, IsAnswered};
-ghost use Rattle.spdx_licensee.specs.Held.{held};
 ghost use Rattle.spdx_lines.specs.Verdict as spec;
 ghost use Rattle.spdx_lines.specs.Lines.{rule_of};
 
@@ -43,7 +42,7 @@ struct EachLine<'r, 'c> {
 }
 
 impl Verdicts for EachLine<'_, '_> {
-    ghost rule = { λ each. rule_of each.cat.now each.mode (map held each.accepted.now) };
+    ghost rule = { λ each. rule_of each.cat.now each.mode each.accepted.now };
 
     ghost HasAnswered = { λ _ _. Unit {0} };
 
@@ -94,12 +93,12 @@ pub fn run_in<'c, I: Source, O: Sink>(
     buffer: &mut [u8],
 ) -> Result<Summary, RunFault>
     requires room { 0 < length buffer.old }
-    ensures verdicts { (line : List ℕ) → spec.IsTheVerdict cat.now mode (map held accepted.now) line (spec.verdict cat.now mode (map held accepted.now) line) }
-    ensures ok { IfOk result (HasRun (rule_of cat.now mode (map held accepted.now)) (I.coming input.old) (I.coming input.new) (O.taken output.old) (O.taken output.new)) }
-    ensures known { IfOk result (λ summary. IfSome (I.coming input.old) (IsAnswered (rule_of cat.now mode (map held accepted.now)) (I.coming input.new) (O.taken output.old) (O.taken output.new) summary)) }
+    ensures verdicts { (line : List ℕ) → spec.IsTheVerdict cat.now mode accepted.now line (spec.verdict cat.now mode accepted.now line) }
+    ensures ok { IfOk result (HasRun (rule_of cat.now mode accepted.now) (I.coming input.old) (I.coming input.new) (O.taken output.old) (O.taken output.new)) }
+    ensures known { IfOk result (λ summary. IfSome (I.coming input.old) (IsAnswered (rule_of cat.now mode accepted.now) (I.coming input.new) (O.taken output.old) (O.taken output.new) summary)) }
     ensures sound { OnOk result ((I.has_failed input.new ≡ false) × (O.has_failed output.new ≡ false)) }
-    ensures begun { OnErr result (HasBegun (rule_of cat.now mode (map held accepted.now)) (I.coming input.old) (I.coming input.new) (O.taken output.old) (O.taken output.new)) }
-    ensures read_all { IsErrOf result RunFault.Read → HasWrittenLines (rule_of cat.now mode (map held accepted.now)) (I.coming input.old) (I.coming input.new) (O.taken output.old) (O.taken output.new) }
+    ensures begun { OnErr result (HasBegun (rule_of cat.now mode accepted.now) (I.coming input.old) (I.coming input.new) (O.taken output.old) (O.taken output.new)) }
+    ensures read_all { IsErrOf result RunFault.Read → HasWrittenLines (rule_of cat.now mode accepted.now) (I.coming input.old) (I.coming input.new) (O.taken output.old) (O.taken output.new) }
     ensures read { IsErrOf result RunFault.Read ↔ (I.has_failed input.new ≡ true) }
     ensures write { IsErrOf result RunFault.Write → O.has_failed output.new ≡ true }
 {
@@ -120,12 +119,12 @@ pub fn run<'c, I: Source, O: Sink>(
     input: &mut I,
     output: &mut O,
 ) -> Result<Summary, RunFault>
-    ensures verdicts { (line : List ℕ) → spec.IsTheVerdict cat.now mode (map held accepted.now) line (spec.verdict cat.now mode (map held accepted.now) line) }
-    ensures ok { IfOk result (HasRun (rule_of cat.now mode (map held accepted.now)) (I.coming input.old) (I.coming input.new) (O.taken output.old) (O.taken output.new)) }
-    ensures known { IfOk result (λ summary. IfSome (I.coming input.old) (IsAnswered (rule_of cat.now mode (map held accepted.now)) (I.coming input.new) (O.taken output.old) (O.taken output.new) summary)) }
+    ensures verdicts { (line : List ℕ) → spec.IsTheVerdict cat.now mode accepted.now line (spec.verdict cat.now mode accepted.now line) }
+    ensures ok { IfOk result (HasRun (rule_of cat.now mode accepted.now) (I.coming input.old) (I.coming input.new) (O.taken output.old) (O.taken output.new)) }
+    ensures known { IfOk result (λ summary. IfSome (I.coming input.old) (IsAnswered (rule_of cat.now mode accepted.now) (I.coming input.new) (O.taken output.old) (O.taken output.new) summary)) }
     ensures sound { OnOk result ((I.has_failed input.new ≡ false) × (O.has_failed output.new ≡ false)) }
-    ensures begun { OnErr result (HasBegun (rule_of cat.now mode (map held accepted.now)) (I.coming input.old) (I.coming input.new) (O.taken output.old) (O.taken output.new)) }
-    ensures read_all { IsErrOf result RunFault.Read → HasWrittenLines (rule_of cat.now mode (map held accepted.now)) (I.coming input.old) (I.coming input.new) (O.taken output.old) (O.taken output.new) }
+    ensures begun { OnErr result (HasBegun (rule_of cat.now mode accepted.now) (I.coming input.old) (I.coming input.new) (O.taken output.old) (O.taken output.new)) }
+    ensures read_all { IsErrOf result RunFault.Read → HasWrittenLines (rule_of cat.now mode accepted.now) (I.coming input.old) (I.coming input.new) (O.taken output.old) (O.taken output.new) }
     ensures read { IsErrOf result RunFault.Read ↔ (I.has_failed input.new ≡ true) }
     ensures write { IsErrOf result RunFault.Write → O.has_failed output.new ≡ true }
 {

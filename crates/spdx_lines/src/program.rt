@@ -1,12 +1,11 @@
 // The program, apart from its arguments and files.
 
-ghost use Rattle.std.specs.Prelude.{◌≡◌, ℕ, ◌++◌, List, IfOk, IfErr, OnOk, Ok, false, map};
+ghost use Rattle.std.specs.Prelude.{◌≡◌, ℕ, ◌++◌, List, IfOk, IfErr, OnOk, Ok, false};
 ghost use Rattle.std.specs.Io.KnownBytes.{Appends};
 ghost use Rattle.spdx_catalogue.specs.Rows.{Rows};
 ghost use Rattle.spdx_catalogue.specs.Items.{Requirement};
 ghost use Rattle.spdx_lexer.specs.Code.{span_of};
 ghost use Rattle.spdx_lexer.specs.Faults.{fault_of};
-ghost use Rattle.spdx_licensee.specs.Held.{held};
 ghost use Rattle.spdx_lines.specs.Verdict.{IsTheVerdict, verdict};
 ghost use Rattle.spdx_lines.specs.Program.{NoCatalogue, NoLicensee, texts_of, mode_in, catalogue_of, licensee_of, licensees_from, with_licensees, plan_of, refusal_line, IsTheCatalogue, IsTheLicensee};
 ghost use Rattle.spdx_lines.specs.Ending.{Ending, Ends, StopsAt, status_of, ending_line, stopped, ending_of};
@@ -77,7 +76,7 @@ fn read_licensees<'c, 'w>(
     cat: &'c Catalogue,
     words: &[&'w str],
 ) -> Result<Vec<Licensee<'c>>, Stop<'w>>
-    ensures ok { IfOk result (λ licensees. licensees_from cat.now 1 (texts_of words.now) ≡ Ok (map held licensees.items)) }
+    ensures ok { IfOk result (λ licensees. licensees_from cat.now 1 (texts_of words.now) ≡ Ok licensees.items) }
     ensures err { IfErr result (λ stop. StopsAt (licensees_from cat.now 1 (texts_of words.now)) stop) }
 {
     let mut licensees = Vec::new(alloc);

@@ -8,7 +8,6 @@ ghost use Rattle.spdx_catalogue.specs.Texts.{requirement_text};
 ghost use Rattle.spdx_lexer.specs.Code.{span_of};
 ghost use Rattle.spdx_lexer.specs.Faults.{fault_of};
 ghost use Rattle.spdx_canonical.specs.Canonical.{canonical_of};
-ghost use Rattle.spdx_licensee.specs.Held.{held};
 ghost use Rattle.spdx.specs.Choice.{choice_of};
 ghost use Rattle.spdx_lines.specs.Verdict.{Accepted, Refused, choice_text, refusal_text, verdict_text};
 
@@ -49,7 +48,7 @@ pub(crate) fn put_accepted<'c>(
 ) -> Result<(), AllocError>
     requires { (canonical : List ℕ) × (canonical_of cat.now line.now ≡ Ok canonical) }
     ensures { OnOk result ((canonical : List ℕ) → canonical_of cat.now line.now ≡ Ok canonical →
-        text.new.items ≡ text.old.items ++ verdict_text (Accepted canonical (choice_of (expression.now.tree ∷ []) (map held accepted.now)))) }
+        text.new.items ≡ text.old.items ++ verdict_text (Accepted canonical (choice_of (expression.now.tree ∷ []) accepted.now))) }
 {
     text.extend_from_slice(b"accepted\t")?;
     put_canonical(alloc, text, cat, line)?;
@@ -84,7 +83,7 @@ fn put_choice<'c>(
     expression: &Expression<'c>,
     accepted: &[Licensee<'c>],
 ) -> Result<(), AllocError>
-    ensures { OnOk result (text.new.items ≡ text.old.items ++ choice_text (choice_of (expression.now.tree ∷ []) (map held accepted.now))) }
+    ensures { OnOk result (text.new.items ≡ text.old.items ++ choice_text (choice_of (expression.now.tree ∷ []) accepted.now)) }
 {
     match expression.minimized_requirements(alloc, accepted) {
         Ok(requirements) => put_requirements(text, &requirements),

@@ -139,8 +139,12 @@ fn questions<'c>(
     accepted: &[Licensee<'c>],
 ) -> Result<(usize, u64), Fail> {
     let expression = Expression::parse(alloc, catalogue, text)?;
-    let mut judge = ExpressionJudge::new(alloc, &expression, accepted)?;
-    let mut selection = Vec::from_elem(alloc, false, accepted.len())?;
+    let mut members = Vec::new(alloc);
+    for licensee in accepted {
+        members.push(licensee)?;
+    }
+    let mut judge = ExpressionJudge::new(alloc, &expression, members.as_slice())?;
+    let mut selection = Vec::from_elem(alloc, false, members.len())?;
     least_selection(&mut judge, selection.as_mut_slice());
     let mut chosen = 0usize;
     for is_chosen in &selection {

@@ -3,13 +3,12 @@
 ghost use Rattle.std.specs.Prelude.{◌≡◌, ◌≤◌, [], ◌∷◌, IfOk, length, map, true};
 ghost use Rattle.std.specs.List.{list_all};
 ghost use Rattle.spdx_catalogue.specs.Items.{requirement_of};
-ghost use Rattle.spdx_parser.specs.Tree.{leaves, postfix, node_of};
-ghost use Rattle.spdx.specs.Written.{IsPostfix};
-ghost use Rattle.spdx_licensee.specs.Held.{held};
-ghost use Rattle.spdx.specs.Judged.{trees_of, members_of, places, places_in, met_by, any_at, question_tree, IsOver, answered, longest};
+ghost use Rattle.spdx_parser.specs.Tree.{leaves, postfix};
+ghost use Rattle.spdx.specs.Written.{nows};
+ghost use Rattle.spdx.specs.Judged.{trees_of, places, places_in, met_by, any_at, question_tree, IsOver, answered, longest};
 
 use crate::expression::Expression;
-use crate::expression::question::{Member, Question};
+use crate::expression::question::Question;
 use spdx_catalogue::LicenseReq;
 use spdx_choice::Sufficiency;
 use spdx_licensee::Licensee;
@@ -28,10 +27,10 @@ use std::slice;
 #[derive(Drop)]
 pub struct ExpressionJudge<'a, 'c: 'a> {
     questions: Vec<Question<'a, 'c>>,
-    members: Vec<Member<'a, 'c>>,
+    members: Vec<&'a Licensee<'c>>,
     truths: Truths,
     asked: u64,
-    ghost over: { IsOver (members_of members.items) questions.items },
+    ghost over: { IsOver (nows members.items) questions.items },
     ghost room: { longest questions.items ≤ truths.room },
 }
 
@@ -42,10 +41,11 @@ impl<'a, 'c: 'a> ExpressionJudge<'a, 'c> {
     pub fn new(
         alloc: Global,
         expr: &'a Expression<'c>,
-        members: &'a [Licensee<'c>],
+        members: &[&'a Licensee<'c>],
     ) -> Result<Self, AllocError>
         ensures tree { IfOk result (λ judge. judged_trees judge ≡ expr.now.tree ∷ []) }
-        ensures members { IfOk result (λ judge. judged_members judge ≡ map held members.now) }
+        ensures members { IfOk result (λ judge. judged_members judge ≡ nows members.now) }
+        ensures count { IfOk result (λ judge. length judge.members.items ≡ length members.now) }
         ensures asked { IfOk result (λ judge. judge.asked ≡ 0) }
     {
         Self::new_all(alloc, slice::from_ref(&expr), members)
@@ -56,28 +56,15 @@ impl<'a, 'c: 'a> ExpressionJudge<'a, 'c> {
     pub fn new_all(
         alloc: Global,
         exprs: &[&'a Expression<'c>],
-        members: &'a [Licensee<'c>],
+        members: &[&'a Licensee<'c>],
     ) -> Result<Self, AllocError>
         ensures trees { IfOk result (λ judge. judged_trees judge ≡ trees_of exprs.now) }
-        ensures members { IfOk result (λ judge. judged_members judge ≡ map held members.now) }
-        ensures asked { IfOk result (λ judge. judge.asked ≡ 0) }
-    {
-        Self::over(alloc, exprs, all_members(alloc, members)?.as_slice())
-    }
-
-    // The judge of these expressions over these members.
-    pub(crate) fn over(
-        alloc: Global,
-        exprs: &[&'a Expression<'c>],
-        members: &[Member<'a, 'c>],
-    ) -> Result<Self, AllocError>
-        ensures trees { IfOk result (λ judge. judged_trees judge ≡ trees_of exprs.now) }
-        ensures members { IfOk result (λ judge. judged_members judge ≡ members_of members.now) }
+        ensures members { IfOk result (λ judge. judged_members judge ≡ nows members.now) }
         ensures count { IfOk result (λ judge. length judge.members.items ≡ length members.now) }
         ensures asked { IfOk result (λ judge. judge.asked ≡ 0) }
     {
         let questions = questions_of(alloc, exprs, members)?;
-        let members = copied_members(alloc, members)?;
+        let members = Vec::from_slice(alloc, members)?;
         let truths = Truths::with_room(alloc, longest_of(questions.as_slice()))?;
         Ok(ExpressionJudge {
             questions,
@@ -118,41 +105,14 @@ impl<'a, 'c: 'a> Sufficiency for ExpressionJudge<'a, 'c> {
     ghost grows = { λ judge some more e h f. suffices_grows (judged_trees judge) (judged_members judge) some more h f };
 }
 
-// All of them as members.
-fn all_members<'a, 'c>(
-    alloc: Global,
-    licensees: &'a [Licensee<'c>],
-) -> Result<Vec<Member<'a, 'c>>, AllocError>
-    ensures { IfOk result (λ members. members_of members.items ≡ map held licensees.now) }
-{
-    let mut members = Vec::with_capacity(alloc, licensees.len())?;
-    for licensee in licensees {
-        members.push(Member { licensee })?;
-    }
-    Ok(members)
-}
-
-fn copied_members<'a, 'c>(
-    alloc: Global,
-    members: &[Member<'a, 'c>],
-) -> Result<Vec<Member<'a, 'c>>, AllocError>
-    ensures { IfOk result (λ copy. copy.items ≡ members.now) }
-{
-    let mut copy = Vec::with_capacity(alloc, members.len())?;
-    for member in members {
-        copy.push(*member)?;
-    }
-    Ok(copy)
-}
-
 // The questions of these expressions to these members.
 fn questions_of<'a, 'c>(
     alloc: Global,
     exprs: &[&'a Expression<'c>],
-    members: &[Member<'_, '_>],
+    members: &[&Licensee<'_>],
 ) -> Result<Vec<Question<'a, 'c>>, AllocError>
     ensures trees { IfOk result (λ questions. map question_tree questions.items ≡ trees_of exprs.now) }
-    ensures over { IfOk result (λ questions. IsOver (members_of members.now) questions.items) }
+    ensures over { IfOk result (λ questions. IsOver (nows members.now) questions.items) }
 {
     let mut questions = Vec::with_capacity(alloc, exprs.len())?;
     for expr in exprs {
@@ -165,10 +125,10 @@ fn questions_of<'a, 'c>(
 fn question_of<'a, 'c>(
     alloc: Global,
     expression: &'a Expression<'c>,
-    members: &[Member<'_, '_>],
+    members: &[&Licensee<'_>],
 ) -> Result<Question<'a, 'c>, AllocError>
     ensures tree { IfOk result (λ question. question_tree question ≡ expression.now.tree) }
-    ensures met_by { IfOk result (λ question. met_by question ≡ map (places (members_of members.now)) (leaves expression.now.tree)) }
+    ensures met_by { IfOk result (λ question. met_by question ≡ map (places (nows members.now)) (leaves expression.now.tree)) }
 {
     let met_by = members_by_node(alloc, members, expression.nodes())?;
     Ok(Question { expression, met_by })
@@ -177,10 +137,10 @@ fn question_of<'a, 'c>(
 // For each requirement among the nodes the places of the members that satisfy it.
 fn members_by_node(
     alloc: Global,
-    members: &[Member<'_, '_>],
+    members: &[&Licensee<'_>],
     nodes: &[ExprNode<'_>],
 ) -> Result<Vec<Vec<usize>>, AllocError>
-    ensures { IfOk result (λ met_by. map (λ v. v.items) met_by.items ≡ places_in (members_of members.now) nodes.now) }
+    ensures { IfOk result (λ met_by. map (λ v. v.items) met_by.items ≡ places_in (nows members.now) nodes.now) }
 {
     let mut met_by = Vec::new(alloc);
     for node in nodes {
@@ -194,14 +154,14 @@ fn members_by_node(
 // The places of the members that satisfy the requirement.
 fn places_of(
     alloc: Global,
-    members: &[Member<'_, '_>],
+    members: &[&Licensee<'_>],
     requirement: &LicenseReq<'_>,
 ) -> Result<Vec<usize>, AllocError>
-    ensures { IfOk result (λ found. found.items ≡ places (members_of members.now) (requirement_of requirement.now)) }
+    ensures { IfOk result (λ found. found.items ≡ places (nows members.now) (requirement_of requirement.now)) }
 {
     let mut found = Vec::new(alloc);
     for place in 0..members.len() {
-        if members[place].licensee.satisfies(requirement) {
+        if members[place].satisfies(requirement) {
             found.push(place)?;
         }
     }

@@ -4,16 +4,15 @@ ghost use Rattle.std.specs.Prelude.{◌≡◌, [], ◌∷◌, Some, Bool, List, 
 ghost use Rattle.std.specs.List.{list_any};
 ghost use Rattle.spdx_catalogue.specs.Items.{requirement_of};
 ghost use Rattle.spdx_parser.specs.Tree.{leaves};
-ghost use Rattle.spdx_licensee.specs.Held.{held};
 ghost use Rattle.spdx_licensee.specs.Satisfies as spec;
 ghost use Rattle.spdx_catalogue.specs.Failures.{IfRefused};
 ghost use Rattle.spdx.specs.Choice.{satisfies_some, useful, chosen, chosen_of, choice_of, IsLeastChoice};
-ghost use Rattle.spdx.specs.Judged.{trees_of, members_of};
+ghost use Rattle.spdx.specs.Judged.{trees_of};
+ghost use Rattle.spdx.specs.Written.{nows};
 ghost use Rattle.spdx.specs.Minimized.{refused_choice, refusal_text, refusal_description};
 
 use crate::expression::Expression;
 use crate::expression::judge::ExpressionJudge;
-use crate::expression::question::Member;
 use spdx_catalogue::{Failure, LicenseReq};
 use spdx_choice::least_selection;
 use spdx_licensee::Licensee;
@@ -71,9 +70,9 @@ impl<'c> Expression<'c> {
         alloc: Global,
         accepted: &'a [Licensee<'c>],
     ) -> Result<Vec<LicenseReq<'c>>, Failure<MinimizeError>>
-        ensures ok { IfOk result (λ reqs. choice_of (self.now.tree ∷ []) (map held accepted.now) ≡ chosen (map requirement_of reqs.items)) }
-        ensures err { IfErr result (IfRefused (λ e. choice_of (self.now.tree ∷ []) (map held accepted.now) ≡ refused_choice e)) }
-        ensures least { IfOk result (λ reqs. IsLeastChoice (self.now.tree ∷ []) (useful (self.now.tree ∷ []) (map held accepted.now)) (map requirement_of reqs.items)) }
+        ensures ok { IfOk result (λ reqs. choice_of (self.now.tree ∷ []) accepted.now ≡ chosen (map requirement_of reqs.items)) }
+        ensures err { IfErr result (IfRefused (λ e. choice_of (self.now.tree ∷ []) accepted.now ≡ refused_choice e)) }
+        ensures least { IfOk result (λ reqs. IsLeastChoice (self.now.tree ∷ []) (useful (self.now.tree ∷ []) accepted.now) (map requirement_of reqs.items)) }
     {
         minimized_for_all(alloc, slice::from_ref(&self), accepted)
     }
@@ -102,16 +101,16 @@ pub fn minimized_for_all<'a, 'c: 'a>(
     exprs: &[&'a Expression<'c>],
     accepted: &'a [Licensee<'c>],
 ) -> Result<Vec<LicenseReq<'c>>, Failure<MinimizeError>>
-    ensures ok { IfOk result (λ reqs. choice_of (trees_of exprs.now) (map held accepted.now) ≡ chosen (map requirement_of reqs.items)) }
-    ensures err { IfErr result (IfRefused (λ e. choice_of (trees_of exprs.now) (map held accepted.now) ≡ refused_choice e)) }
-    ensures least { IfOk result (λ reqs. IsLeastChoice (trees_of exprs.now) (useful (trees_of exprs.now) (map held accepted.now)) (map requirement_of reqs.items)) }
+    ensures ok { IfOk result (λ reqs. choice_of (trees_of exprs.now) accepted.now ≡ chosen (map requirement_of reqs.items)) }
+    ensures err { IfErr result (IfRefused (λ e. choice_of (trees_of exprs.now) accepted.now ≡ refused_choice e)) }
+    ensures least { IfOk result (λ reqs. IsLeastChoice (trees_of exprs.now) (useful (trees_of exprs.now) accepted.now) (map requirement_of reqs.items)) }
 {
     let members = useful_members(alloc, exprs, accepted)?;
     let count = members.len();
     if count > 1024 {
         return Err(Failure::Refused(MinimizeError::TooManyRequirements(count)));
     }
-    let mut judge = ExpressionJudge::over(alloc, exprs, members.as_slice())?;
+    let mut judge = ExpressionJudge::new_all(alloc, exprs, members.as_slice())?;
     let mut selection = Vec::from_elem(alloc, false, count)?;
     let places = selection.as_mut_slice();
     if !least_selection(&mut judge, places) {
@@ -125,14 +124,14 @@ fn useful_members<'a, 'c>(
     alloc: Global,
     exprs: &[&Expression<'_>],
     accepted: &'a [Licensee<'c>],
-) -> Result<Vec<Member<'a, 'c>>, AllocError>
-    ensures { IfOk result (λ members. members_of members.items ≡ useful (trees_of exprs.now) (map held accepted.now)) }
+) -> Result<Vec<&'a Licensee<'c>>, AllocError>
+    ensures { IfOk result (λ members. nows members.items ≡ useful (trees_of exprs.now) accepted.now) }
 {
     let mut seen: BTreeSet<&'a LicenseReq<'c>> = BTreeSet::new(alloc);
     let mut members = Vec::new(alloc);
     for licensee in accepted {
         if seen.insert(licensee.req())? && is_useful(licensee, exprs) {
-            members.push(Member { licensee })?;
+            members.push(licensee)?;
         }
     }
     Ok(members)
@@ -140,7 +139,7 @@ fn useful_members<'a, 'c>(
 
 // Whether the licensee satisfies a requirement of some expression.
 fn is_useful(licensee: &Licensee<'_>, exprs: &[&Expression<'_>]) -> bool
-    ensures { result ≡ satisfies_some (trees_of exprs.now) (held licensee.now) }
+    ensures { result ≡ satisfies_some (trees_of exprs.now) licensee.now }
 {
     for expression in exprs {
         if satisfies_one(licensee, expression) {
@@ -152,7 +151,7 @@ fn is_useful(licensee: &Licensee<'_>, exprs: &[&Expression<'_>]) -> bool
 
 // Whether the licensee satisfies a requirement of the expression.
 fn satisfies_one(licensee: &Licensee<'_>, expression: &Expression<'_>) -> bool
-    ensures { result ≡ list_any (spec.satisfies (held licensee.now)) (leaves expression.now.tree) }
+    ensures { result ≡ list_any (spec.satisfies licensee.now) (leaves expression.now.tree) }
 {
     let nodes = expression.nodes();
     for node in nodes {
@@ -168,16 +167,16 @@ fn satisfies_one(licensee: &Licensee<'_>, expression: &Expression<'_>) -> bool
 // The requirements of the chosen members.
 fn chosen_requirements<'c>(
     alloc: Global,
-    members: &[Member<'_, 'c>],
+    members: &[&Licensee<'c>],
     selection: &[bool],
 ) -> Result<Vec<LicenseReq<'c>>, AllocError>
     requires { length selection.now ≡ length members.now }
-    ensures { IfOk result (λ reqs. map requirement_of reqs.items ≡ chosen_of (members_of members.now) selection.now) }
+    ensures { IfOk result (λ reqs. map requirement_of reqs.items ≡ chosen_of (nows members.now) selection.now) }
 {
     let mut requirements = Vec::new(alloc);
     for place in 0..members.len() {
         if selection[place] {
-            requirements.push(members[place].licensee.req().try_clone(alloc)?)?;
+            requirements.push(members[place].req().try_clone(alloc)?)?;
         }
     }
     Ok(requirements)

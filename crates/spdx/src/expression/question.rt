@@ -4,13 +4,6 @@ ghost use Rattle.std.specs.Prelude.{◌≡◌, length};
 ghost use Rattle.spdx_parser.specs.Tree.{leaves};
 
 use crate::expression::Expression;
-use spdx_licensee::Licensee;
-
-/// A licensee that may be chosen.
-#[derive(Clone, Copy)]
-pub(crate) struct Member<'a, 'c> {
-    pub(crate) licensee: &'a Licensee<'c>,
-}
 
 /// An expression, and for each of its requirements, from left to right, the places of the members
 /// that satisfy it.

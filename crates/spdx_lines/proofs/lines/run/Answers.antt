@@ -1,7 +1,5 @@
-use Rattle.std.proofs.Common.{map}
-use Rattle.spdx_licensee.specs.Held.{held}
 use Rattle.spdx_lines.proofs.Verdict.{the_verdict}
 use Rattle.spdx_lines.proofs.lines.run.Goals as goal
 
 pub returns-clause-verdicts : goal.returns-clause-verdicts
-returns-clause-verdicts g c line = the_verdict c.args.cat.now c.args.mode (map held c.args.accepted.now) line
+returns-clause-verdicts g c line = the_verdict c.args.cat.now c.args.mode c.args.accepted.now line

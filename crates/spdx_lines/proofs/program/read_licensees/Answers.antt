@@ -1,7 +1,5 @@
-use Rattle.std.proofs.Common.{map}
 use Rattle.spdx_lexer.specs.Code.{span_of}
 use Rattle.spdx_lexer.specs.Faults.{fault_of}
-use Rattle.spdx_licensee.specs.Held.{held}
 use Rattle.spdx_lines.proofs.Licensees.{read_at, refused_at}
 use Rattle.spdx_lines.proofs.program.read_licensees.Goals as goal
 
@@ -9,7 +7,7 @@ pub returns-in-Err-Refused-clause-err : goal.returns-in-Err-Refused-clause-err
 returns-in-Err-Refused-clause-err c =
     let h = rw c.in-Err-Refused.field-0-is at c.in-Err-Refused.ensures.err in
     rw c.in-Err-Refused.field-0-is
-    (refused_at c.args.cat.now c.args.words.now c.loop-place.place _ c.loop-place-test.true _ (map held c.loop-place.licensees.items) (fault_of c.in-Err-Refused.error.reason) (span_of c.in-Err-Refused.error.span) c.loop-place.invariant h)
+    (refused_at c.args.cat.now c.args.words.now c.loop-place.place _ c.loop-place-test.true _ c.loop-place.licensees.items (fault_of c.in-Err-Refused.error.reason) (span_of c.in-Err-Refused.error.span) c.loop-place.invariant h)
 
 pub loop-place-preserved : goal.loop-place-preserved
 loop-place-preserved c =

@@ -1,7 +1,8 @@
 use Rattle.std.proofs.Common.{◌∙◌, ap, sym, ◌≡◌, length, map}
 use Rattle.std.proofs.lemmas.List.{length-map}
 use Rattle.spdx_parser.specs.Tree.{leaves, postfix, node_of}
-use Rattle.spdx.specs.Judged.{members_of, places}
+use Rattle.spdx.specs.Judged.{places}
+use Rattle.spdx.specs.Written.{nows}
 use Rattle.spdx.proofs.Places.{places_of_tree}
 use Rattle.spdx.proofs.expression.judge.question_of.Goals as goal
 
@@ -13,7 +14,7 @@ invariant_of-result c =
       each =
           sym (length-map c.in_ok-met_by.met_by.items (λ v. v.items))
           ∙ ap length (c.in_ok-met_by.ensures ∙ places_of_tree _ _ t tree)
-          ∙ length-map (leaves t) (places (members_of c.args.members.now));
+          ∙ length-map (leaves t) (places (nows c.args.members.now));
     }
 
 pub returns-clause-met_by : goal.returns-clause-met_by

@@ -1,9 +1,10 @@
 use Rattle.std.proofs.Common.{◌≡◌, ◌++◌, drop, map}
-use Rattle.spdx.specs.Judged.{trees_of, members_of, question_tree, IsOver}
+use Rattle.spdx.specs.Judged.{trees_of, question_tree, IsOver}
+use Rattle.spdx.specs.Written.{nows}
 use Rattle.spdx.proofs.expression.judge.questions_of.Given as goal
 
 abbrev pub invariant-loop-expr : goal.invariant-loop-expr
 invariant-loop-expr l = record {
   trees : map question_tree l.questions.items ++ trees_of (drop l.expr-index l.exprs) ≡ trees_of l.exprs;
-  over : IsOver (members_of l.members) l.questions.items;
+  over : IsOver (nows l.members) l.questions.items;
 }

@@ -1,8 +1,7 @@
 use Rattle.std.proofs.Common.{◌≡◌, drop}
-use Rattle.spdx_licensee.specs.Held.{held}
 use Rattle.spdx.specs.Choice.{satisfies_some}
 use Rattle.spdx.specs.Judged.{trees_of}
 use Rattle.spdx.proofs.expression.minimize.is_useful.Given as goal
 
 abbrev pub invariant-loop-expression : goal.invariant-loop-expression
-invariant-loop-expression l = satisfies_some (trees_of (drop l.expression-index l.exprs)) (held l.licensee) ≡ satisfies_some (trees_of l.exprs) (held l.licensee)
+invariant-loop-expression l = satisfies_some (trees_of (drop l.expression-index l.exprs)) l.licensee ≡ satisfies_some (trees_of l.exprs) l.licensee

@@ -1,8 +1,7 @@
-use Rattle.std.proofs.Common.{rules, ◌≡◌, ◌∙◌, sym, ap, List, map, drop}
+use Rattle.std.proofs.Common.{rules, ◌≡◌, ◌∙◌, sym, ap, List, map}
 use Rattle.std.specs.List.{list_any}
 use Rattle.std.proofs.lemmas.List.{drop_all}
 use Rattle.spdx_catalogue.specs.Items.{requirement_of}
-use Rattle.spdx_licensee.specs.Held.{held}
 use Rattle.spdx_licensee.specs.Satisfies.{satisfies}
 use Rattle.spdx_parser.specs.declared.node.ExprNode.{ExprNode}
 use Rattle.spdx_parser.specs.Tree.{postfix, node_of}
@@ -14,7 +13,7 @@ pub returns-in-loop-node : goal.returns-in-loop-node
 returns-in-loop-node c =
     let t = c.args.expression.now.tree in
     let tree : map node_of c.nodes-nodes.result.now ≡ postfix t = c.nodes-nodes.ensures.postfix ∙ ap postfix c.nodes-nodes.ensures.tree in
-    let meets = satisfies (held c.args.licensee.now) in
+    let meets = satisfies c.args.licensee.now in
     let here = found_at (λ r. meets (requirement_of r.req)) c.nodes-nodes.result.now c.loop-node.node-index _ c.in-Req.requirement c.loop-node-test.true (sym c.node-item.is ∙ c.in-Req.is) (sym c.satisfies.ensures ∙ c.if-satisfies.true) in
     sym (sym (any_in_tree meets _ t tree) ∙ sym c.loop-node.invariant ∙ here)
 
@@ -22,5 +21,5 @@ pub returns : goal.returns
 returns c =
     let t = c.args.expression.now.tree in
     let tree : map node_of c.nodes-nodes.result.now ≡ postfix t = c.nodes-nodes.ensures.postfix ∙ ap postfix c.nodes-nodes.ensures.tree in
-    let meets = satisfies (held c.args.licensee.now) in
+    let meets = satisfies c.args.licensee.now in
     sym (sym (any_in_tree meets _ t tree) ∙ sym c.loop-node.invariant ∙ ap (λ (z : List ExprNode). list_any (λ r. meets (requirement_of r.req)) (requirements_in z)) (drop_all c.loop-node.node-index c.nodes-nodes.result.now (search rules)))
