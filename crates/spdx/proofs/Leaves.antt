@@ -1,13 +1,13 @@
 -- The printed text of each requirement that was read strictly is read back as that requirement.
-use Rattle.std.proofs.Common.{◌≡◌, ℕ, Bool, true, false, cond, List, [], ◌∷◌, ◌++◌, map, Option, Some, None, Result, Ok, Err, IfOk, IfErr, refl, sym, ◌∙◌, ap, subst, append_assoc, append-nil, IsTrue}
+use Rattle.std.proofs.Common.{◌≡◌, ℕ, true, false, cond, List, [], ◌∷◌, ◌++◌, map, Option, Some, None, Result, Ok, Err, IfOk, IfErr, refl, sym, ◌∙◌, ap, subst, append_assoc, append-nil, IsTrue}
 use Rattle.std.specs.Prelude.{codes}
-use Rattle.spdx_catalogue.specs.Rows.{LicenseRow, Rows}
-use Rattle.spdx_catalogue.specs.Flags.{is_gnu, is_deprecated}
+use Rattle.spdx_catalogue.specs.Rows.{Rows}
+use Rattle.spdx_catalogue.specs.Flags.{is_deprecated}
 use Rattle.spdx_catalogue.specs.WellFormed.{is_well_formed}
 use Rattle.spdx_catalogue.specs.declared.error.Failure.{Failure}
 use Rattle.spdx_catalogue.specs.declared.error.Failure.TheVariants.{Refused, Memory}
 use Rattle.spdx_catalogue.specs.Failures.{IfRefused}
-use Rattle.spdx_catalogue.specs.Items.{Reference, Licence, listed, referred, Addition, excepted, added, Requirement}
+use Rattle.spdx_catalogue.specs.Items.{Licence, listed, referred, Addition, excepted, added, Requirement}
 use Rattle.spdx_catalogue.specs.Texts as texts
 use Rattle.spdx_catalogue.specs.Texts.{license_prefix, addition_prefix, licence_text, with_text, requirement_text}
 use Rattle.spdx_lexer.specs.Modes.{strict}
@@ -16,7 +16,7 @@ use Rattle.spdx_lexer.specs.Lexeme.{reference_text}
 use Rattle.spdx_lexer.specs.Reading.{said, reading, Spells}
 use Rattle.spdx_parser.specs.Spans.{Placed, words}
 use Rattle.spdx_parser.specs.Tree.{Tree, Leaf, Join}
-use Rattle.spdx_parser.specs.Grammar.{LicenceOf, plain, marked, later, named, unknown, AdditionOf, exception, named_addition, unknown_addition, LeafOf, alone, joined, PrimaryOf, leaf, group, AndOf, one_primary, and_more, OrOf, one_and, or_more, Derives, IsTheTree}
+use Rattle.spdx_parser.specs.Grammar.{LicenceOf, plain, marked, later, named, unknown, AdditionOf, exception, named_addition, unknown_addition, LeafOf, alone, joined, PrimaryOf, leaf, group, AndOf, one_primary, and_more, OrOf, one_and, or_more, Derives}
 use Rattle.spdx_parser.proofs.Complete.{the_only}
 use Rattle.spdx_canonical.proofs.Neighbours.{AreRead, apart}
 use Rattle.spdx_canonical.proofs.Read.{are_read}

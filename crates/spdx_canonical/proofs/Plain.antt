@@ -1,5 +1,5 @@
 -- The reading of words, each as it is printed.
-use Rattle.std.proofs.Common.{◌≡◌, ℕ, ◌+◌, Bool, true, false, List, [], ◌∷◌, ◌++◌, map, Ok, refl, ◌∙◌, sym, ap, lit<, append_assoc, IsTrue}
+use Rattle.std.proofs.Common.{◌≡◌, ℕ, true, List, [], ◌∷◌, ◌++◌, refl, ◌∙◌, sym, ap, lit<, append_assoc, IsTrue}
 use Rattle.std.specs.Prelude.{codes}
 use Rattle.spdx_catalogue.specs.Rows.{Rows}
 use Rattle.spdx_catalogue.specs.WellFormed.{is_well_formed}

@@ -1,16 +1,14 @@
 -- What a reading gives of each word.
-use Rattle.std.proofs.Common.{◌≡◌, ℕ, ◌+◌, Bool, true, false, cond, not, ◌&&◌, ◌||◌, ◌==◌, nat_lt, nat_eq, List, [], ◌∷◌, ◌++◌, map, length, take, drop, Option, Some, None, Result, Ok, Err, refl, sym, ◌∙◌, ap, subst, option_map, find, IfSome, IfOk, IsTrue, bytes_eq, lit<, append_assoc, append-nil, ◌⊎◌, inl, inr, eqb-true}
-use Rattle.std.specs.Prelude.{option_and_then, codes, take_while}
-use Rattle.std.specs.List.{list_all, prefix_len, starts_with}
+use Rattle.std.proofs.Common.{◌≡◌, ℕ, ◌+◌, Bool, true, false, cond, not, ◌&&◌, ◌||◌, ◌==◌, nat_lt, List, [], ◌∷◌, ◌++◌, map, length, drop, Option, Some, None, Result, Ok, Err, refl, sym, ◌∙◌, ap, subst, option_map, find, IfSome, IfOk, IsTrue, bytes_eq, lit<, append_assoc, append-nil, ◌⊎◌, inl, inr, eqb-true}
+use Rattle.std.specs.Prelude.{option_and_then, codes}
+use Rattle.std.specs.List.{list_all}
 use Rattle.std.specs.Str.{str_eq_ignore_ascii_case}
-use Rattle.std.proofs.lemmas.List.{take-append-drop}
-use Rattle.std.proofs.lemmas.List.Folds.{length-prefix_len}
 use Rattle.std.proofs.lemmas.List.Sums.{take_while-cons}
 use Rattle.std.proofs.Math.Seq.{drop-append_seam}
 use Rattle.spdx_catalogue.specs.Rows.{LicenseRow, ExceptionRow, ImpreciseRow, Rows}
 use Rattle.spdx_catalogue.specs.WellFormed.{is_well_formed}
 use Rattle.spdx_lexer.specs.declared.token.ParseMode.{ParseMode}
-use Rattle.spdx_lexer.specs.Text.{white, is_run_byte, run_at, name_at, strip}
+use Rattle.spdx_lexer.specs.Text.{white, is_run_byte, run_at}
 use Rattle.spdx_catalogue.specs.Names.{is_name_byte}
 use Rattle.spdx_catalogue.specs.LookUps.{listed, listed_exception, listed_caseless, listed_exception_caseless, imprecise_row, imprecise_license}
 use Rattle.spdx_lexer.specs.Words.{Word, Spdx, LicenseRef, Exception, AdditionRef, Unknown, Plus, OpenParen, CloseParen, With, And, Or, Fault, SeparatedPlus, span}
@@ -21,7 +19,7 @@ use Rattle.spdx_canonical.proofs.Neighbours.{ends_term, takes_license, is_with, 
 use Rattle.spdx_canonical.proofs.Known.{license_named, exception_named, license_itself, license_caseless, exception_itself, exception_caseless}
 use Rattle.spdx_lexer.proofs.Found.{first_all, allowed, lexeme_all}
 use Rattle.spdx_canonical.proofs.Lexed.{and_both}
-use Rattle.spdx_catalogue.proofs.Caseless.{find_passes, bytes_same}
+use Rattle.spdx_catalogue.proofs.Caseless.{find_passes}
 use Rattle.spdx_lexer.proofs.White.{white_none}
 use Rattle.spdx_lexer.proofs.Unfold.{reading_is}
 use Rattle.spdx_canonical.proofs.Terms.{Stops}

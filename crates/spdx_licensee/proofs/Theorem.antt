@@ -1,5 +1,5 @@
 -- The answer that is found item by item is the licensee that the text names, or the fault of the text.
-use Rattle.std.proofs.Common.{◌≡◌, ◌++◌, zero, suc, arith, add-zero, zero-add, map, ℕ, Bool, true, false, List, [], ◌∷◌, length, Option, Some, None, Result, Ok, Err, IfOk, IfErr, refl, sym, ap, subst, ◌∙◌, ok_or, option_and_then, option_map, codes, if◌then◌else◌}
+use Rattle.std.proofs.Common.{◌≡◌, arith, add-zero, zero-add, map, ℕ, Bool, true, false, List, [], ◌∷◌, length, Option, Some, None, Result, Ok, Err, IfOk, IfErr, refl, sym, ap, subst, ◌∙◌, ok_or, option_and_then, option_map, codes, if◌then◌else◌}
 use Rattle.std.proofs.lemmas.Bool.{false≢true}
 use Rattle.spdx_catalogue.specs.Rows.{Rows}
 use Rattle.spdx_catalogue.specs.Items.{Licence, Addition, added, Requirement, requirement_of}

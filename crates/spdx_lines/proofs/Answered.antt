@@ -1,5 +1,5 @@
 -- The verdict on a line, by what the parser answers.
-use Rattle.std.proofs.Common.{◌≡◌, ℕ, List, [], ◌∷◌, map, Result, Ok, refl, sym, ◌∙◌, ap, subst}
+use Rattle.std.proofs.Common.{◌≡◌, ℕ, List, [], ◌∷◌, map, Ok, ◌∙◌, ap, subst}
 use Rattle.std.specs.Prelude.{IsUtf8}
 use Rattle.spdx_catalogue.specs.Rows.{Rows}
 use Rattle.spdx_catalogue.specs.Items.{Requirement}
@@ -13,7 +13,7 @@ use Rattle.spdx_parser.specs.Faults.{IsFaultOf}
 use Rattle.spdx_canonical.specs.Canonical.{canonical_of}
 use Rattle.spdx.specs.Choice.{choice_of}
 use Rattle.spdx_lines.specs.declared.lines.LineMode.{LineMode}
-use Rattle.spdx_lines.specs.Verdict.{Verdict, Accepted, Refused, parse_mode, verdict}
+use Rattle.spdx_lines.specs.Verdict.{Accepted, Refused, parse_mode, verdict}
 use Rattle.spdx_lines.proofs.Verdict.{IsAccepted, accepted_is, refused_is}
 
 -- the line is read as a text in a mode: they are these

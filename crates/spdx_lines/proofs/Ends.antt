@@ -1,11 +1,10 @@
 -- How a program that has not come to its end may end, where what it has to tell finds no memory.
-use Rattle.std.proofs.Common.{◌≡◌, ℕ, ◌-◌, drop, take, length, ap, ◌∙◌, arith, OnOk, OnErr, Bool, true, false, Option, Some, None, List, [], ◌∷◌, ◌++◌, Result, Ok, Err, refl, sym, subst, append-nil}
+use Rattle.std.proofs.Common.{◌≡◌, ℕ, ◌-◌, drop, take, length, ap, ◌∙◌, arith, OnOk, OnErr, Bool, true, false, Option, Some, None, List, [], ◌∷◌, Result, Ok, Err, refl, sym, subst, append-nil}
 use Rattle.std.proofs.lemmas.Bool.{false≢true}
 use Rattle.std.specs.Borrow.{Bor}
 use Rattle.std.specs.Result.{IsErrAnd}
 use Rattle.std.specs.Io.KnownBytes.{Keeps, Appends, Consumes}
 use Rattle.line_engine.specs.declared.lines.Summary.{Summary}
-use Rattle.line_engine.specs.declared.lines.RunFault.{RunFault}
 use Rattle.line_engine.specs.declared.lines.RunFault.TheVariants.{Read, Write, Memory}
 use Rattle.line_engine.specs.Rule.{Rule}
 use Rattle.line_engine.specs.Progress.{HasBegun, HasWrittenLines}
@@ -15,8 +14,8 @@ use Rattle.spdx_catalogue.specs.declared.error.ReadFault.{ReadFault}
 use Rattle.spdx_lines.specs.declared.lines.LineMode.{LineMode}
 use Rattle.spdx_lines.specs.declared.program.Stop.{Stop}
 use Rattle.spdx_lines.specs.declared.program.Stop.TheVariants as stop
-use Rattle.spdx_lines.specs.Program.{Refusal, Usage, Unreadable, NoCatalogue, NoLicensee, texts_of, mode_in, catalogue_of, with_licensees, with_rows, with_mode, with_words, plan_of}
-use Rattle.spdx_lines.specs.Ending.{Ending, Broken, Refused, Devices, HasMovedNothing, BreaksOff, Ends, StopsAt, stopped, ending_of}
+use Rattle.spdx_lines.specs.Program.{Refusal, Usage, Unreadable, NoCatalogue, texts_of, mode_in, catalogue_of, with_licensees, with_rows, with_mode, with_words, plan_of}
+use Rattle.spdx_lines.specs.Ending.{Ending, Refused, Devices, HasMovedNothing, BreaksOff, Ends, StopsAt, stopped, ending_of}
 
 pub keeps_all : (old : Option (List ℕ)) → Keeps old old
 keeps_all None = tt

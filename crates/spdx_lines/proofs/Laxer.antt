@@ -1,11 +1,10 @@
 -- A text that reads strictly without a fault reads loosely as the same words, so an accepted line has a canonical text.
-use Rattle.std.proofs.Common.{◌≡◌, ℕ, zero, suc, ◌+◌, ◌&&◌, ◌==◌, Bool, true, false, cond, List, [], ◌∷◌, ◌++◌, map, length, drop, Option, Some, None, Result, Ok, Err, refl, sym, ◌∙◌, ap, subst, arith, nat_lt}
+use Rattle.std.proofs.Common.{◌≡◌, ℕ, zero, suc, ◌+◌, ◌&&◌, ◌==◌, Bool, true, false, cond, List, [], ◌∷◌, map, length, drop, Option, Some, None, Result, Ok, Err, refl, sym, ◌∙◌, ap, subst, arith, nat_lt}
 use Rattle.std.specs.Prelude.{option_map, ok_or}
 use Rattle.std.proofs.lemmas.Bool.Decides.{nat_tests}
 use Rattle.spdx_catalogue.specs.Rows.{Rows}
-use Rattle.spdx_lexer.specs.declared.token.ParseMode.{ParseMode}
 use Rattle.spdx_lexer.specs.Modes.{strict, lax}
-use Rattle.spdx_lexer.specs.Words.{Word, Plus, OpenParen, CloseParen, Or, Fault, UnknownTerm, SeparatedPlus, Span, span, Item}
+use Rattle.spdx_lexer.specs.Words.{Word, Plus, OpenParen, CloseParen, Or, Fault, UnknownTerm, Span, span, Item}
 use Rattle.spdx_lexer.specs.Text.{run_at, white}
 use Rattle.spdx_lexer.specs.Lexeme.{Found, first_of, exact, referred, caseless, imprecise, unknown, rules, word_of_run, lexeme_of, lexeme}
 use Rattle.spdx_lexer.specs.Reading.{then, behind, items, reading, said, Spells}

@@ -1,9 +1,9 @@
 -- The licensee that is found, or the fault, is the only one that a text has.
-use Rattle.std.proofs.Common.{◌≡◌, ℕ, Bool, true, false, cond, List, [], ◌∷◌, ◌++◌, length, map, Option, Some, None, Result, Ok, Err, refl, sym, ap, subst, ◌∙◌, append-nil, codes}
+use Rattle.std.proofs.Common.{◌≡◌, ℕ, Bool, false, cond, List, [], ◌∷◌, ◌++◌, length, map, Option, Some, None, Result, Ok, Err, refl, sym, ap, subst, ◌∙◌, append-nil, codes}
 use Rattle.std.specs.Prelude.{option_map, option_and_then, ok_or, MatchResult}
 use Rattle.spdx_catalogue.specs.Rows.{Rows}
 use Rattle.spdx_catalogue.specs.Items.{Reference, Licence, Addition, added, Requirement}
-use Rattle.spdx_lexer.specs.Words.{Word, Spdx, LicenseRef, Exception, AdditionRef, Unknown, Plus, OpenParen, CloseParen, With, And, Or, Fault, Unexpected, Span, Item}
+use Rattle.spdx_lexer.specs.Words.{Word, AdditionRef, With, Fault, Unexpected, Span, Item}
 use Rattle.spdx_lexer.specs.Modes.{strict}
 use Rattle.spdx_lexer.specs.Reading.{reading}
 use Rattle.spdx_licensee.specs.Named.{license_named, addition_named, licensee_named, Begins, Placed, words, word_fault, end_fault, Names, IsFaultOf, at_word, at_place, at_end}

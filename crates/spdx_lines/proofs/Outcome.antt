@@ -1,17 +1,15 @@
 -- What `outcome` finds is what the grammar and the table of faults say, and nothing else.
-use Rattle.std.proofs.Common.{◌≡◌, ℕ, zero, suc, ◌+◌, ◌<◌, ◌&&◌, Bool, true, false, cond, List, [], ◌∷◌, ◌++◌, map, length, drop, Option, Some, None, Result, Ok, Err, refl, sym, ◌∙◌, ap, subst, arith, append_assoc, append-nil, nat_lt, ◌==◌}
+use Rattle.std.proofs.Common.{◌≡◌, ℕ, Bool, true, false, List, [], ◌∷◌, ◌++◌, map, length, Option, Some, None, Ok, Err, refl, sym, ◌∙◌, ap, subst, arith, append_assoc, append-nil}
 use Rattle.spdx_catalogue.specs.Rows.{Rows}
 use Rattle.spdx_lexer.specs.declared.token.ParseMode.{ParseMode}
-use Rattle.spdx_lexer.specs.Words.{Word, Fault, Empty, Unexpected, UnclosedParens, SeparatedPlus, Span, span, Item}
-use Rattle.spdx_lexer.specs.Text.{white}
-use Rattle.spdx_lexer.specs.Lexeme.{lexeme}
-use Rattle.spdx_lexer.specs.Reading.{then, behind, items, reading}
+use Rattle.spdx_lexer.specs.Words.{Word, Fault, UnclosedParens, Span, span, Item}
+use Rattle.spdx_lexer.specs.Reading.{reading}
 use Rattle.spdx_parser.specs.Tree.{Tree}
-use Rattle.spdx_parser.specs.Last.{last_of, is_closing, terms}
+use Rattle.spdx_parser.specs.Last.{last_of, is_closing}
 use Rattle.spdx_parser.specs.Grammar.{Derives, IsViable, IsTheTree}
 use Rattle.spdx_parser.specs.Spans.{Placed, words}
-use Rattle.spdx_parser.specs.Faults.{opens, closes, word_fault, IsLastOpen, IsEndFault, empty, short, unclosed, IsFaultOf, at_word, at_place, at_end}
-use Rattle.spdx_parser.specs.Machine.{State, start, step, run, built, built_on, step_on}
+use Rattle.spdx_parser.specs.Faults.{word_fault, IsLastOpen, IsEndFault, empty, short, unclosed, IsFaultOf, at_word, at_place, at_end}
+use Rattle.spdx_parser.specs.Machine.{State, start, step, run, built, built_on}
 use Rattle.spdx_parser.proofs.Complete.{complete}
 use Rattle.spdx_parser.proofs.Sound.{run_none}
 use Rattle.spdx_parser.proofs.Theorem.{run_front, viable, not_viable, the_tree, no_tree}

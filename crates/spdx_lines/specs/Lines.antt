@@ -1,5 +1,5 @@
 -- The rule by which lines are answered.
-use Rattle.std.specs.Prelude.{ℕ, List, []}
+use Rattle.std.specs.Prelude.{List, []}
 use Rattle.line_engine.specs.Rule.{Rule}
 use Rattle.spdx_catalogue.specs.Rows.{Rows}
 use Rattle.spdx_catalogue.specs.Items.{Requirement}

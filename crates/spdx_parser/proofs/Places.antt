@@ -1,5 +1,5 @@
 -- Where the fault of a text stands: on boundaries of the text's characters.
-use Rattle.std.proofs.Common.{◌≡◌, ℕ, List, [], ◌∷◌, ◌++◌, length, map, Ok, Err, sym, ◌∙◌, ap, subst, arith, add-zero, zero-add, IsUtf8, IsCharBoundary}
+use Rattle.std.proofs.Common.{◌≡◌, ℕ, List, ◌∷◌, length, map, Ok, Err, ◌∙◌, ap, subst, arith, add-zero, zero-add, IsUtf8}
 use Rattle.std.specs.List.{All}
 use Rattle.std.proofs.lemmas.List.{map-append}
 use Rattle.std.proofs.lemmas.Str.{IsCharBoundary-end, IsCharBoundary-start}
@@ -10,7 +10,7 @@ use Rattle.spdx_lexer.specs.Reading.{reading}
 use Rattle.spdx_lexer.specs.Laid.{IsPlace, place_of}
 use Rattle.spdx_lexer.proofs.Laid.{place_among}
 use Rattle.spdx_parser.specs.Spans.{Placed}
-use Rattle.spdx_parser.specs.Faults.{IsLastOpen, IsEndFault, empty, short, unclosed, IsFaultOf, at_word, at_place, at_end}
+use Rattle.spdx_parser.specs.Faults.{IsEndFault, empty, short, unclosed, IsFaultOf, at_word, at_place, at_end}
 
 module _ (text : List ℕ) (utf8 : IsUtf8 text) where
   end_place : (items : List Item) → All (λ i. IsPlace text (place_of i)) items → (read : List Placed) (f : Fault) (s : Span) → items ≡ map Ok read → IsEndFault (length text) read f s → IsPlace text s

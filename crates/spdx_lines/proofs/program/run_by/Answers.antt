@@ -1,4 +1,4 @@
-use Rattle.std.proofs.Common.{◌≡◌, Ok, Err, ap, subst, sym, ◌∙◌}
+use Rattle.std.proofs.Common.{Ok, Err, ap, subst, sym, ◌∙◌}
 use Rattle.spdx_lines.specs.Program.{with_licensees, licensees_from, plan_of}
 use Rattle.spdx_lines.specs.Ending.{Devices, Ends, ending_of}
 use Rattle.spdx_lines.proofs.Catalogue.{the_catalogue}

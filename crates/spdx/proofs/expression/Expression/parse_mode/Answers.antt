@@ -1,9 +1,9 @@
-use Rattle.std.proofs.Common.{◌≡◌, sym, ◌∙◌, ap, subst, map, rules}
-use Rattle.spdx_parser.specs.Tree.{Tree, node_of, postfix}
+use Rattle.std.proofs.Common.{◌≡◌, sym, ◌∙◌, ap, subst, rules}
+use Rattle.spdx_parser.specs.Tree.{Tree, postfix}
 use Rattle.spdx_parser.specs.Grammar.{IsTheTree}
 use Rattle.spdx_parser.specs.Spans.{words}
 use Rattle.spdx_parser.specs.Parsed.{IsOfRows}
-use Rattle.spdx.specs.Written.{IsPostfix, tree_of}
+use Rattle.spdx.specs.Written.{tree_of}
 use Rattle.spdx.specs.Coding.{tree_of_postfix}
 use Rattle.spdx_lexer.specs.Reading.{reading}
 use Rattle.spdx_lexer.specs.Faults.{fault_of}

@@ -1,4 +1,4 @@
-use Rattle.std.proofs.Common.{arith, ap, ◌≡◌, ℕ, length}
+use Rattle.std.proofs.Common.{arith, ap, length}
 use Rattle.spdx_parser.specs.Tree.{postfix}
 use Rattle.spdx.specs.declared.expression.question.Question.{Question}
 use Rattle.spdx.specs.Judged.{question_tree}

@@ -1,12 +1,12 @@
-use Rattle.std.proofs.Common.{rules, arith, refl, sym, ◌∙◌, ap, ◌≡◌, ◌≤◌, ◌<◌, ℕ, Bool, List, [], ◌∷◌, length, map, get_or, false}
+use Rattle.std.proofs.Common.{rules, arith, sym, ◌∙◌, ap, ◌≡◌, ◌<◌, ℕ, Bool, List, ◌∷◌, length, map, get_or, false}
 use Rattle.std.specs.Global.{Vec}
 use Rattle.std.proofs.lemmas.List.{length-map}
 use Rattle.spdx_parser.specs.declared.node.Operator.TheVariants.{And, Or}
 use Rattle.spdx_parser.specs.declared.node.ExprNode.{ExprNode}
 use Rattle.spdx_parser.specs.declared.node.ExprNode.TheVariants.{Op}
-use Rattle.spdx_parser.specs.Tree.{Tree, leaves, postfix, node_of}
+use Rattle.spdx_parser.specs.Tree.{Tree, postfix, node_of}
 use Rattle.spdx.specs.Judged.{met_by, any_at, question_tree}
-use Rattle.spdx.proofs.Asking.{begins, leaf_there, reads_requirement, reads_operator, two_there, one_left, finishes}
+use Rattle.spdx.proofs.Asking.{begins, leaf_there, reads_requirement, reads_operator, finishes}
 use Rattle.spdx.proofs.Places.{each_answer, answer_at}
 use Rattle.spdx.proofs.expression.judge.is_true.Goals as goal
 use Rattle.spdx.proofs.expression.judge.is_true.Goals.{in-Req, in-Op-And, in-Op-Or}

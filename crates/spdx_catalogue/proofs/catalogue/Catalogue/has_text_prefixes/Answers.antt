@@ -1,4 +1,4 @@
-use Rattle.std.proofs.Common.{◌≡◌, ℕ, List, Option, Some, None, map, option_map, string_bytes, sym, ◌∙◌, ap, subst, IsUtf8}
+use Rattle.std.proofs.Common.{◌≡◌, Option, Some, None, option_map, sym, ◌∙◌, subst, IsUtf8}
 use Rattle.std.specs.Prelude.{slice_get}
 use Rattle.std.proofs.lemmas.Option.{slice_get-map}
 use Rattle.std.proofs.lemmas.Str.{IsUtf8-string_bytes}
