@@ -8,7 +8,7 @@ ghost use Rattle.spdx_licensee.specs.Equality.{same_requirement_laws};
 
 use crate::licensee::Licensee;
 
-// Of their requirements.
+// Of their requirements, of whose rows the index alone is compared.
 impl<'c> PartialEq for Licensee<'c> {
     ghost eq = { same_requirement };
 

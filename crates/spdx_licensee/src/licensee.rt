@@ -4,7 +4,7 @@ ghost use Rattle.std.specs.Prelude.{◌≡◌, ◌↔◌, IsTrue, IfOk, IfErr, f
 ghost use Rattle.std.specs.Option.{option_copied};
 ghost use Rattle.spdx_catalogue.specs.Ids.{id_row};
 ghost use Rattle.spdx_catalogue.specs.Items.{licence_of, addition_of, requirement_of};
-ghost use Rattle.spdx_catalogue.specs.Keys.{addition_key, requirement_key};
+ghost use Rattle.spdx_catalogue.specs.Keys.{addition_key};
 ghost use Rattle.spdx_catalogue.specs.Names as names;
 ghost use Rattle.spdx_catalogue.specs.Versions as parted;
 ghost use Rattle.spdx_lexer.specs.Faults.{fault_of};
@@ -106,13 +106,6 @@ impl<'c> Licensee<'c> {
         are_same_additions(&self.req.addition, &req.addition)
             && covers(&self.req.license, &req.license)
     }
-}
-
-/// `==` of licensees: of their requirements.
-pub fn are_same_licensees(a: &Licensee<'_>, b: &Licensee<'_>) -> bool
-    ensures { IsTrue result ↔ (requirement_key a.now ≡ requirement_key b.now) }
-{
-    a == b
 }
 
 /// `==` of additions, or of none, as `satisfies` compares them.
