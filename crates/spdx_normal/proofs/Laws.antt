@@ -40,23 +40,20 @@ module _ (c : Rows) where
   good t s = (or_good c s.means (known t s)).0
 
   -- the normal text of good requirements
-  pub good_reads : IsTrue (is_well_formed c) → (t : Tree) → EachLeaf (IsGood c) t → ReadsAs c (normal_text t) t
-  good_reads well t h =
+  spells : IsTrue (is_well_formed c) → (t : Tree) → EachLeaf (IsGood c) t → Spells c strict (normal_text t) (normal_words t)
+  spells well t h =
       let ws = normal_words t in
-      let d = normal_derived c t h in
-      record {
-        words = ws;
-        read = subst (λ (x : List ℕ). Spells c strict x ws) (normal_words_text c t h) (plain c well strict OpenParen ws (apart c strict ws t d) (normal_read c t h) 0);
-        meant = the_only c strict ws t d;
-      }
+      subst (λ (x : List ℕ). Spells c strict x ws) (normal_words_text c t h) (plain c well strict OpenParen ws (apart c strict ws t (normal_derived c t h)) (normal_read c t h) 0)
+
+  pub good_reads : IsTrue (is_well_formed c) → (t : Tree) → EachLeaf (IsGood c) t → ReadsAs c (normal_text t) t
+  good_reads well t h = record { words = normal_words t; read = spells well t h; meant = the_only c strict (normal_words t) t (normal_derived c t h) }
 
   pub reads : (t : Tree) → IsStrict c t → ReadsAs c (normal_text t) t
   reads t s = good_reads s.well_formed t (good t s)
 
   pub fewest : (t : Tree) → IsStrict c t → HasFewestParens c (normal_text t) t
   fewest t s ws other e d =
-      let h = good t s in
-      let same : normal_words t ≡ ws = same_words (normal_words t) ws (sym ((good_reads s.well_formed t h).read) ∙ e) in
+      let same : normal_words t ≡ ws = same_words (normal_words t) ws (sym (spells s.well_formed t (good t s)) ∙ e) in
       subst (λ (x : List Word). parens x ≤ parens other) same (Fewest.fewest c strict t other d)
 
   -- equal texts mean equal trees

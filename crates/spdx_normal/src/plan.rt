@@ -36,7 +36,8 @@ fn plan(
     ensures few { OnOk result (vec_len tasks.new ≤ vec_len tasks.old + 4) }
 {
     let ExprNode::Op(operator) = root else {
-        return pieces.push(Piece::Node(at));
+        pieces.push(Piece::Node(at))?;
+        return Ok(());
     };
     if needs_parens(place, root) {
         pieces.push(Piece::Close)?;

@@ -15,8 +15,9 @@ use std::fmt::Write;
 /// ` AND ` and ` OR ` between them, and as few parentheses as the tree allows
 /// (`docs/EXPRESSIONS.md`).
 ///
-/// Linear in the nodes and in the bytes of the text. Beside the text, the pieces that it is made of
-/// take memory, up to three for each node, and what waits to be planned, up to four for each.
+/// Linear in the nodes and in the bytes of the text, without recursion. Each reference is copied
+/// once, into the text. Beside the text, what it is made of takes memory while it is written: for
+/// each operator up to three pieces and four tasks.
 ///
 /// # Errors
 ///

@@ -21,8 +21,8 @@ impl<'c> Expression<'c> {
     /// are claimed (`text`).
     ///
     /// Linear in the nodes and in the bytes of the text, without recursion. Each reference is copied
-    /// once, into the text. Beside the text, what it is made of takes memory while it is written: up
-    /// to three pieces and four tasks for each operator.
+    /// once, into the text. Beside the text, what it is made of takes memory while it is written: for
+    /// each operator up to three pieces and four tasks.
     ///
     /// # Errors
     ///
