@@ -10,7 +10,7 @@ use Rattle.spdx_parser.specs.Grammar.{PrimaryOf, leaf, group, AndOf, one_primary
 use Rattle.spdx_normal.specs.Normal.{root, left_in_parens, right_in_parens}
 use Rattle.spdx_normal.specs.Law.{EachLeaf}
 use Rattle.spdx_normal.proofs.Leaves.{IsGood}
-use Rattle.spdx_normal.proofs.Words.{group_if, operator_word, normal_words}
+use Rattle.spdx_normal.proofs.Words.{group_if, normal_words}
 
 module _ (c : Rows) where
   -- as a primary, in a chain of AND, and as a whole; whatever follows

@@ -1,5 +1,5 @@
 -- No words that mean the tree have fewer parentheses than its normal words.
-use Rattle.std.proofs.Common.{◌≡◌, ◌+◌, ◌≤◌, true, List, [], ◌∷◌, ◌++◌, Some, None, arith}
+use Rattle.std.proofs.Common.{◌≡◌, ◌+◌, ◌≤◌, true, List, [], ◌∷◌, ◌++◌, Some, arith}
 use Rattle.spdx_catalogue.specs.Rows.{Rows}
 use Rattle.spdx_catalogue.specs.Items.{Licence, Addition, Requirement}
 use Rattle.spdx_lexer.specs.declared.token.ParseMode.{ParseMode}

@@ -1,5 +1,5 @@
 -- The words of a normal text.
-use Rattle.std.proofs.Common.{◌≡◌, ℕ, Bool, true, false, List, [], ◌∷◌, ◌++◌, refl, sym, ◌∙◌, ap}
+use Rattle.std.proofs.Common.{◌≡◌, ℕ, Bool, true, false, List, [], ◌∷◌, ◌++◌, refl, ◌∙◌, ap}
 use Rattle.std.specs.Prelude.{codes}
 use Rattle.spdx_catalogue.specs.Rows.{Rows}
 use Rattle.spdx_lexer.specs.Words as Words

@@ -4,7 +4,7 @@ use Rattle.spdx_catalogue.specs.Rows.{Rows}
 use Rattle.spdx_catalogue.specs.WellFormed.{is_well_formed}
 use Rattle.spdx_catalogue.specs.Items.{Requirement}
 use Rattle.spdx_lexer.specs.Modes.{strict}
-use Rattle.spdx_lexer.specs.Words.{Word, Spdx, LicenseRef, Exception, AdditionRef, Unknown, Plus, OpenParen, CloseParen, With, And, Or}
+use Rattle.spdx_lexer.specs.Words.{Word, OpenParen, CloseParen}
 use Rattle.spdx_lexer.specs.Reading.{Spells}
 use Rattle.spdx_parser.specs.Tree.{Tree, Leaf, Join}
 use Rattle.spdx_parser.specs.Grammar.{Derives, IsTheTree}
