@@ -31,8 +31,10 @@ fn plan(
     at: usize,
     root: &ExprNode<'_>,
 ) -> Result<(), AllocError>
-    ensures due { OnOk result (tasks.new.items ≡ tasks.old.items ++ tasks_for place at (node_of root.now)) }
-    ensures written { OnOk result (pieces.new.items ≡ pieces.old.items ++ pieces_for place at (node_of root.now)) }
+    ensures due { OnOk result (tasks.new.items ≡
+        tasks.old.items ++ tasks_for place at (node_of root.now)) }
+    ensures written { OnOk result (pieces.new.items ≡
+        pieces.old.items ++ pieces_for place at (node_of root.now)) }
     ensures few { OnOk result (vec_len tasks.new ≤ vec_len tasks.old + 4) }
 {
     let ExprNode::Op(operator) = root else {

@@ -36,7 +36,8 @@ pub fn normal_text(alloc: Global, nodes: &[ExprNode<'_>]) -> Result<String, Allo
 
 // Appends a piece.
 fn put_piece(text: &mut String, nodes: &[ExprNode<'_>], piece: Piece) -> Result<(), AllocError>
-    ensures { OnOk result (string_bytes text.new ≡ string_bytes text.old ++ piece_text nodes.now piece) }
+    ensures { OnOk result (string_bytes text.new ≡
+        string_bytes text.old ++ piece_text nodes.now piece) }
 {
     match piece {
         Piece::Node(place) => match nodes.get(place) {
@@ -50,7 +51,8 @@ fn put_piece(text: &mut String, nodes: &[ExprNode<'_>], piece: Piece) -> Result<
 
 // Appends a requirement or an operator.
 fn put_node(text: &mut String, node: &ExprNode<'_>) -> Result<(), AllocError>
-    ensures { OnOk result (string_bytes text.new ≡ string_bytes text.old ++ node_text (node_of node.now)) }
+    ensures { OnOk result (string_bytes text.new ≡
+        string_bytes text.old ++ node_text (node_of node.now)) }
 {
     match node {
         ExprNode::Req(requirement) => write!(text, "{}", requirement.req),

@@ -17,12 +17,12 @@ impl<'c> Expression<'c> {
     /// Of an expression that strict parsing gives: the strict reading of the text has no fault, and
     /// its tokens mean this tree and no other (`read`); no tokens that mean this tree have fewer
     /// parentheses (`fewest`); and two such expressions over one catalogue have equal normal texts
-    /// exactly if they are equal by `==` (`tells`). Of a tree that another mode found the bytes alone
-    /// are claimed (`text`).
+    /// exactly if they are equal by `==` (`tells`). Of a tree that another mode found the bytes
+    /// alone are claimed (`text`).
     ///
-    /// Linear in the nodes and in the bytes of the text, without recursion. Each reference is copied
-    /// once, into the text. Beside the text, what it is made of takes memory while it is written: for
-    /// each operator up to three pieces and four tasks.
+    /// Linear in the nodes and in the bytes of the text, without recursion. Each reference is
+    /// copied once, into the text. Beside the text, what it is made of takes memory while it is
+    /// written: for each operator up to three pieces and four tasks.
     ///
     /// # Errors
     ///
