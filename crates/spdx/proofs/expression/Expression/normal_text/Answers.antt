@@ -1,6 +1,5 @@
-use Rattle.std.proofs.Common.{◌≡◌, ℕ, List, sym, ◌∙◌, ap, subst, string_bytes}
+use Rattle.std.proofs.Common.{ℕ, List, sym, ◌∙◌, ap, subst, string_bytes}
 use Rattle.spdx_parser.specs.Tree.{postfix}
-use Rattle.spdx_normal.specs.Normal.{normal_text}
 use Rattle.spdx_normal.specs.Law.{ReadsAs, HasFewestParens}
 use Rattle.spdx_normal.proofs.Laws.{reads, fewest}
 use Rattle.spdx.proofs.Leaves.{if_ok}
