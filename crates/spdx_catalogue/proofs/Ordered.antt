@@ -10,7 +10,7 @@ use Rattle.std.proofs.lemmas.Option.{slice_get_within, get_or_from_slice_get}
 use Rattle.spdx_catalogue.specs.Rows.{Rows, LicenseRow, ExceptionRow, license_name, exception_name}
 use Rattle.spdx_catalogue.specs.WellFormed.{is_well_formed}
 use Rattle.spdx_catalogue.specs.Ascends.{Ascends}
-use Rattle.spdx_catalogue.specs.Orders.{IsLicenseNameOrder, IsExceptionNameOrder}
+use Rattle.spdx_catalogue.specs.NameOrders.{IsLicenseNameOrder, IsExceptionNameOrder}
 use Rattle.spdx_catalogue.proofs.Sorted.{far}
 use Rattle.spdx_catalogue.proofs.Ascending.{licenses_ascend, exceptions_ascend, licenses_keep, exceptions_keep}
 

@@ -1,5 +1,5 @@
 -- The items of a requirement as rows and bytes, capacities aside.
-use Rattle.std.specs.Prelude.{ℕ, Bool, List, Option, Some, None, IsSome, IfSome, option_map, string_bytes}
+use Rattle.std.specs.Prelude.{ℕ, Bool, List, Option, Some, None, option_map, string_bytes}
 use Rattle.spdx_catalogue.specs.declared.requirement.LicenseRef.{LicenseRef}
 use Rattle.spdx_catalogue.specs.declared.requirement.AdditionRef.{AdditionRef}
 use Rattle.spdx_catalogue.specs.declared.requirement.LicenseItem.{LicenseItem}
@@ -53,7 +53,3 @@ licence_row (referred r) = None
 abbrev pub addition_row : Addition → Option ExceptionRow
 addition_row (excepted r) = Some r
 addition_row (added r) = None
-
--- its licence is listed, and so is its addition, if it has one
-abbrev pub HasNoReference : Requirement → Type 0
-HasNoReference r = IsSome (licence_row r.licence) × IfSome r.addition (λ a. IsSome (addition_row a))

@@ -1,11 +1,9 @@
 -- The orders of items and requirements. Of a row its index alone counts.
-use Rattle.std.specs.Prelude.{◌≡◌, Bool, true, false, Option, Some, None, slice_get}
+use Rattle.std.specs.Prelude.{Bool, true, false, Option, Some, None}
 use Rattle.std.specs.Ordering.{nat_cmp, ordering_then}
 use Rattle.std.specs.declared.cmp.Ordering.{Ordering}
 use Rattle.std.specs.declared.cmp.Ordering.TheVariants.{Less, Equal, Greater}
 use Rattle.std.specs.Cmp.Lexicographic.{slice_cmp}
-use Rattle.spdx_catalogue.specs.Rows.{Rows, LicenseRow, ExceptionRow}
-use Rattle.spdx_catalogue.specs.WellFormed.{is_well_formed}
 use Rattle.spdx_catalogue.specs.Items.{Reference, Licence, listed, referred, Addition, excepted, added, Requirement}
 
 -- none before some
@@ -42,17 +40,3 @@ addition_cmp (added r) (added s) = reference_cmp r s
 -- by licence, then by addition
 abbrev pub requirement_cmp : Requirement → Requirement → Ordering
 requirement_cmp r s = ordering_then (licence_cmp r.licence s.licence) (option_cmp addition_cmp r.addition s.addition)
-
--- the order of two licences of one catalogue is that of their names, by bytes
-abbrev pub IsLicenseNameOrder : LicenseRow → LicenseRow → Ordering → Type 0
-IsLicenseNameOrder r s order =
-    (c : Rows) → is_well_formed c ≡ true
-    → slice_get c.licenses r.index ≡ Some r → slice_get c.licenses s.index ≡ Some s
-    → order ≡ slice_cmp nat_cmp r.name s.name
-
--- the order of two exceptions of one catalogue is that of their names, by bytes
-abbrev pub IsExceptionNameOrder : ExceptionRow → ExceptionRow → Ordering → Type 0
-IsExceptionNameOrder r s order =
-    (c : Rows) → is_well_formed c ≡ true
-    → slice_get c.exceptions r.index ≡ Some r → slice_get c.exceptions s.index ≡ Some s
-    → order ≡ slice_cmp nat_cmp r.name s.name

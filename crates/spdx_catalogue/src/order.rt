@@ -5,7 +5,8 @@ ghost use Rattle.std.specs.Ordering.{nat_cmp};
 ghost use Rattle.spdx_catalogue.specs.Ids.{id_row, exception_row};
 ghost use Rattle.spdx_catalogue.specs.Items.{license_reference_of, addition_reference_of, licence_of, addition_of, requirement_of};
 ghost use Rattle.spdx_catalogue.specs.Keys.{licence_key, addition_key, requirement_key};
-ghost use Rattle.spdx_catalogue.specs.Orders.{IsLicenseNameOrder, IsExceptionNameOrder, reference_cmp, licence_cmp, addition_cmp, requirement_cmp};
+ghost use Rattle.spdx_catalogue.specs.Orders.{reference_cmp, licence_cmp, addition_cmp, requirement_cmp};
+ghost use Rattle.spdx_catalogue.specs.NameOrders.{IsLicenseNameOrder, IsExceptionNameOrder};
 
 use crate::id::{ExceptionId, LicenseId};
 use crate::requirement::{AdditionItem, AdditionRef, LicenseItem, LicenseRef, LicenseReq};

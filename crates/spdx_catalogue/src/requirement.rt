@@ -2,7 +2,8 @@
 
 ghost use Rattle.std.specs.Prelude.{◌≡◌, Some, None, false, IfOk, IsOk, IsSome, option_map};
 ghost use Rattle.spdx_catalogue.specs.Ids.{id_row, exception_row};
-ghost use Rattle.spdx_catalogue.specs.Items.{license_reference_of, addition_reference_of, licence_of, addition_of, requirement_of, licence_row, addition_row, HasNoReference};
+ghost use Rattle.spdx_catalogue.specs.Items.{license_reference_of, addition_reference_of, licence_of, addition_of, requirement_of, licence_row, addition_row};
+ghost use Rattle.spdx_catalogue.specs.References.{HasNoReference};
 ghost use Rattle.spdx_catalogue.specs.Texts.{license_prefix, addition_prefix, reference_text, licence_text, addition_text, requirement_text};
 
 use crate::id::{ExceptionId, LicenseId};
