@@ -9,3 +9,4 @@ pub mod Asking
 pub mod Places
 pub mod Chosen
 pub mod Told
+pub mod PlacedNodes
