@@ -4,7 +4,7 @@ ghost use Rattle.std.specs.Prelude.{◌≡◌, ◌<◌, ◌^◌, IfOk, List, len
 ghost use Rattle.spdx_parser.specs.Tree.{Tree, postfix, leaves, node_of};
 ghost use Rattle.spdx_parser.specs.Spans.{requirement_spans};
 ghost use Rattle.spdx.specs.Written.{Written, IsPostfix, tree_of, placed, placed_of, placed_in};
-ghost use Rattle.spdx.specs.Iterators.{nodes_left, requirements_left};
+ghost use Rattle.spdx.specs.Iterators.{nodes_left, placed_nodes, requirements_left};
 
 use smallvec::SmallVec;
 use std::alloc::{AllocError, Global};
@@ -74,8 +74,9 @@ impl<'c> Expression<'c> {
     }
 
     /// The nodes of the tree in postfix order: the left operand, the right operand, the operator.
+    /// Each requirement comes with its place.
     pub fn iter(&self) -> Nodes<'_, 'c>
-        ensures { nodes_left result ≡ postfix self.now.tree }
+        ensures { nodes_left result ≡ placed_nodes self.now }
     {
         Nodes::new(self.nodes.as_slice())
     }

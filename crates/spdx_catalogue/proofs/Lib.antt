@@ -6,3 +6,4 @@ pub mod Ascending
 pub mod Joined
 pub mod Caseless
 pub mod Listed
+pub mod Ordered

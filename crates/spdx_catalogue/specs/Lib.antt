@@ -15,3 +15,5 @@ pub mod Shape
 pub mod Reading
 pub mod Versions
 pub mod Failures
+pub mod NameOrders
+pub mod References

@@ -27,7 +27,7 @@ pub(crate) fn license_named<'c>(rows: &'c [License], name: &[u8]) -> Option<&'c 
     ensures { option_map row_of (option_copied result) ≡ listed (map row_of rows.now) name.now }
 {
     match rows.binary_search_by(|row| row.name.as_bytes().cmp(name)) {
-        Ok(at) => license_at(rows, at),
+        Ok(place) => license_at(rows, place),
         Err(_) => None,
     }
 }

@@ -195,7 +195,7 @@ impl PartialEq for ExceptionId<'_> {
     ghost laws = { Prim.search (comparing, rules) };
 
     fn eq(&self, other: &Self) -> bool {
-        self.row.index == other.row.index
+        self.exception().index == other.exception().index
     }
 }
 

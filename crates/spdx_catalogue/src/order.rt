@@ -6,21 +6,24 @@ ghost use Rattle.spdx_catalogue.specs.Ids.{id_row, exception_row};
 ghost use Rattle.spdx_catalogue.specs.Items.{license_reference_of, addition_reference_of, licence_of, addition_of, requirement_of};
 ghost use Rattle.spdx_catalogue.specs.Keys.{licence_key, addition_key, requirement_key};
 ghost use Rattle.spdx_catalogue.specs.Orders.{reference_cmp, licence_cmp, addition_cmp, requirement_cmp};
+ghost use Rattle.spdx_catalogue.specs.NameOrders.{IsLicenseNameOrder, IsExceptionNameOrder};
 
 use crate::id::{ExceptionId, LicenseId};
 use crate::requirement::{AdditionItem, AdditionRef, LicenseItem, LicenseRef, LicenseReq};
 use std::cmp::Ordering;
 
-/// `cmp` of licence ids: by index.
+/// `cmp` of licence ids: by index, which in one catalogue is the order of the names, byte by byte.
 pub fn compare_license_ids(a: LicenseId<'_>, b: LicenseId<'_>) -> Ordering
-    ensures { result ≡ nat_cmp (id_row a.entry).index (id_row b.entry).index }
+    ensures index { result ≡ nat_cmp (id_row a.entry).index (id_row b.entry).index }
+    ensures names { IsLicenseNameOrder (id_row a.entry) (id_row b.entry) result }
 {
     LicenseId::cmp(&a, &b)
 }
 
-/// `cmp` of exception ids: by index.
+/// `cmp` of exception ids: by index, which in one catalogue is the order of the names, byte by byte.
 pub fn compare_exception_ids(a: ExceptionId<'_>, b: ExceptionId<'_>) -> Ordering
-    ensures { result ≡ nat_cmp (exception_row a.entry).index (exception_row b.entry).index }
+    ensures index { result ≡ nat_cmp (exception_row a.entry).index (exception_row b.entry).index }
+    ensures names { IsExceptionNameOrder (exception_row a.entry) (exception_row b.entry) result }
 {
     ExceptionId::cmp(&a, &b)
 }

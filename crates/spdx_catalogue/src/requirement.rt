@@ -1,8 +1,9 @@
 // The items of a licence requirement.
 
-ghost use Rattle.std.specs.Prelude.{◌≡◌, Some, None, false, IfOk, option_map};
+ghost use Rattle.std.specs.Prelude.{◌≡◌, Some, None, false, IfOk, IsOk, IsSome, option_map};
 ghost use Rattle.spdx_catalogue.specs.Ids.{id_row, exception_row};
 ghost use Rattle.spdx_catalogue.specs.Items.{license_reference_of, addition_reference_of, licence_of, addition_of, requirement_of, licence_row, addition_row};
+ghost use Rattle.spdx_catalogue.specs.References.{HasNoReference};
 ghost use Rattle.spdx_catalogue.specs.Texts.{license_prefix, addition_prefix, reference_text, licence_text, addition_text, requirement_text};
 
 use crate::id::{ExceptionId, LicenseId};
@@ -184,7 +185,8 @@ impl<'c> LicenseItem<'c> {
     ///
     /// Memory was refused; a listed licence takes none.
     pub fn try_clone(&self, alloc: Global) -> Result<LicenseItem<'c>, AllocError>
-        ensures { IfOk result (λ c. licence_of c ≡ licence_of self.now) }
+        ensures copy { IfOk result (λ c. licence_of c ≡ licence_of self.now) }
+        ensures no_memory { IsSome (licence_row (licence_of self.now)) → IsOk result }
     {
         match self {
             LicenseItem::Spdx { id, or_later } => Ok(LicenseItem::Spdx {
@@ -215,7 +217,8 @@ impl<'c> AdditionItem<'c> {
     ///
     /// Memory was refused; a listed exception takes none.
     pub fn try_clone(&self, alloc: Global) -> Result<AdditionItem<'c>, AllocError>
-        ensures { IfOk result (λ c. addition_of c ≡ addition_of self.now) }
+        ensures copy { IfOk result (λ c. addition_of c ≡ addition_of self.now) }
+        ensures no_memory { IsSome (addition_row (addition_of self.now)) → IsOk result }
     {
         match self {
             AdditionItem::Spdx(id) => Ok(AdditionItem::Spdx(*id)),
@@ -233,7 +236,8 @@ impl<'c> LicenseReq<'c> {
     ///
     /// Memory was refused; listed names take none.
     pub fn try_clone(&self, alloc: Global) -> Result<LicenseReq<'c>, AllocError>
-        ensures { IfOk result (λ c. requirement_of c ≡ requirement_of self.now) }
+        ensures copy { IfOk result (λ c. requirement_of c ≡ requirement_of self.now) }
+        ensures no_memory { HasNoReference (requirement_of self.now) → IsOk result }
     {
         let addition = match &self.addition {
             Some(addition) => Some(addition.try_clone(alloc)?),

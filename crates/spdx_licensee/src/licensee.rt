@@ -1,10 +1,11 @@
 //! Licensees, and which requirements they satisfy.
 
-ghost use Rattle.std.specs.Prelude.{◌≡◌, ◌↔◌, IsTrue, IfOk, IfErr, false, option_map};
+ghost use Rattle.std.specs.Prelude.{◌≡◌, ◌↔◌, IsTrue, IsOk, IfOk, IfErr, false, option_map};
 ghost use Rattle.std.specs.Option.{option_copied};
 ghost use Rattle.spdx_catalogue.specs.Ids.{id_row};
 ghost use Rattle.spdx_catalogue.specs.Items.{licence_of, addition_of, requirement_of};
 ghost use Rattle.spdx_catalogue.specs.Keys.{addition_key};
+ghost use Rattle.spdx_catalogue.specs.References.{HasNoReference};
 ghost use Rattle.spdx_catalogue.specs.Names as names;
 ghost use Rattle.spdx_catalogue.specs.Versions as parted;
 ghost use Rattle.spdx_lexer.specs.Faults.{fault_of};
@@ -84,9 +85,10 @@ impl<'c> Licensee<'c> {
     ///
     /// # Errors
     ///
-    /// Want of memory.
+    /// Want of memory, which references alone take.
     pub fn try_clone(&self, alloc: Global) -> Result<Licensee<'c>, AllocError>
-        ensures { IfOk result (λ copy. copy ≡ self.now) }
+        ensures copy { IfOk result (λ copy. copy ≡ self.now) }
+        ensures no_memory { HasNoReference self.now → IsOk result }
     {
         Ok(Licensee {
             req: self.req.try_clone(alloc)?,

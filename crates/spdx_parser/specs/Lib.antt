@@ -7,3 +7,4 @@ pub mod Parsed
 pub mod Machine
 pub mod Code
 pub mod Written
+pub mod Nodes

@@ -1,8 +1,10 @@
 // The nodes of an expression.
 
-ghost use Rattle.std.specs.Prelude.{◌≡◌, IfOk};
+ghost use Rattle.std.specs.Prelude.{◌≡◌, IfOk, IsOk};
 ghost use Rattle.spdx_catalogue.specs.Items.{requirement_of};
+ghost use Rattle.spdx_catalogue.specs.References.{HasNoReference};
 ghost use Rattle.spdx_parser.specs.Tree.{node_of};
+ghost use Rattle.spdx_parser.specs.Nodes.{NodeHasNoReference};
 ghost use Rattle.spdx_parser.specs.Spans.{node_span};
 
 use spdx_catalogue::LicenseReq;
@@ -40,10 +42,12 @@ impl Default for ExprNode<'_> {
 }
 
 impl<'c> ExpressionReq<'c> {
-    /// A copy with the same requirement and the same span, or the want of memory.
+    /// A copy with the same requirement and the same span, or the want of memory, which references
+    /// alone take.
     pub fn try_clone(&self, alloc: Global) -> Result<ExpressionReq<'c>, AllocError>
         ensures requirement { IfOk result (λ copy. requirement_of copy.req ≡ requirement_of self.now.req) }
         ensures span { IfOk result (λ copy. copy.span ≡ self.now.span) }
+        ensures no_memory { HasNoReference (requirement_of self.now.req) → IsOk result }
     {
         Ok(ExpressionReq {
             req: self.req.try_clone(alloc)?,
@@ -53,10 +57,12 @@ impl<'c> ExpressionReq<'c> {
 }
 
 impl<'c> ExprNode<'c> {
-    /// A copy with the same operator, or the same requirement and the same span, or the want of memory.
+    /// A copy with the same operator, or the same requirement and the same span, or the want of memory,
+    /// which references alone take.
     pub fn try_clone(&self, alloc: Global) -> Result<ExprNode<'c>, AllocError>
         ensures node { IfOk result (λ copy. node_of copy ≡ node_of self.now) }
         ensures span { IfOk result (λ copy. node_span copy ≡ node_span self.now) }
+        ensures no_memory { NodeHasNoReference (node_of self.now) → IsOk result }
     {
         match self {
             ExprNode::Op(operator) => Ok(ExprNode::Op(*operator)),

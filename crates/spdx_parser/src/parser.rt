@@ -1,9 +1,11 @@
 // The parser of a text.
 
-ghost use Rattle.std.specs.Prelude.{◌≡◌, IfOk, IfErr};
+ghost use Rattle.std.specs.Prelude.{◌≡◌, All, IfOk, IfErr};
 ghost use Rattle.spdx_catalogue.specs.declared.error.Failure.TheVariants.{Refused};
 ghost use Rattle.spdx_catalogue.specs.Failures.{IfRefused};
+ghost use Rattle.spdx_lexer.specs.Laid.{IsPlace};
 ghost use Rattle.spdx_parser.specs.Parsed.{IsParsed, IsRefused};
+ghost use Rattle.spdx_parser.specs.Spans.{requirement_spans};
 
 use crate::frames::Parser;
 use crate::node::ExprNode;
@@ -32,7 +34,7 @@ fn refusal(text: &str, span: Range<usize>, reason: Reason) -> Failure<ParseError
 /// that of SPDX 2.1 (`docs/EXPRESSIONS.md`), with what the mode allows beyond it.
 ///
 /// The text is read once, up to its end or its first fault, in time linear in the number of its
-/// tokens besides their look-up. Up to five nodes take no memory but for the texts of references.
+/// tokens besides their look-up.
 ///
 /// # Errors
 ///
@@ -46,6 +48,7 @@ pub fn parse_nodes<'c, 't>(
 ) -> Result<SmallVec<ExprNode<'c>, 5>, Failure<ParseError<'t>>>
     ensures ok { IfOk result (λ nodes. IsParsed catalogue.now mode text.now nodes.items) }
     ensures err { IfErr result (IfRefused (λ error. IsRefused catalogue.now mode text.now error)) }
+    ensures spans { IfOk result (λ nodes. All (IsPlace text.now) (requirement_spans nodes.items)) }
 {
     catalogue.is_well_formed();
     let mut parser = Parser::new(alloc, catalogue, text);

@@ -1,7 +1,7 @@
 //! The nodes and the requirements of an expression, one after another.
 
 ghost use Rattle.std.specs.Prelude.{◌≡◌, map};
-ghost use Rattle.spdx_parser.specs.Tree.{node_of};
+ghost use Rattle.spdx_parser.specs.Nodes.{placed_node};
 ghost use Rattle.spdx.specs.Written.{placed_of, placed_in};
 
 use spdx_parser::node::{ExprNode, ExpressionReq};
@@ -26,7 +26,7 @@ impl<'e, 'c> Iterator for Nodes<'e, 'c> {
 
     type Item = &'e ExprNode<'c>;
 
-    ghost next_gives = { YieldsFirstBy (λ node. node_of node.now) nodes_left };
+    ghost next_gives = { YieldsFirstBy (λ node. placed_node node.now) nodes_left };
 
     ghost remaining = { item_count nodes_left };
 

@@ -1,6 +1,6 @@
 //! Expressions read from texts.
 
-ghost use Rattle.std.specs.Prelude.{◌≡◌, IfOk, IfErr};
+ghost use Rattle.std.specs.Prelude.{◌≡◌, All, IfOk, IfErr};
 ghost use Rattle.spdx_lexer.specs.Code.{span_of};
 ghost use Rattle.spdx_lexer.specs.Laid.{IsPlace};
 ghost use Rattle.spdx_lexer.specs.Modes.{strict};
@@ -28,6 +28,7 @@ impl<'c> Expression<'c> {
         ensures err { IfErr result (IfRefused (λ error. IsRefused cat.now strict text.now error)) }
         ensures place { IfErr result (IfRefused (λ error. IsPlace text.now (span_of error.span))) }
         ensures strict { IfOk result (λ expression. IsStrict cat.now expression.tree) }
+        ensures spans { IfOk result (λ expression. All (IsPlace text.now) expression.spans) }
         ensures back { IfOk result (λ expression. EachLeaf (ReadsBack cat.now) expression.tree) }
     {
         cat.is_well_formed();
@@ -35,12 +36,11 @@ impl<'c> Expression<'c> {
     }
 
     /// The expression that the text means in this mode: the one tree that the grammar derives from
-    /// the text's tokens, with the span of each requirement's licence, and the text itself. The
-    /// grammar is that of SPDX 2.1, appendix IV, with what the mode allows beyond it; both are in
-    /// `docs/EXPRESSIONS.md`.
+    /// the text's tokens, with the span of each requirement's licence, in bytes of the text on
+    /// boundaries of characters, and the text itself. The grammar is that of SPDX 2.1, appendix IV,
+    /// with what the mode allows beyond it; both are in `docs/EXPRESSIONS.md`.
     ///
-    /// Linear in the number of tokens, besides the look-up of each. An expression of up to five
-    /// nodes takes no memory but for the text and the texts of its references.
+    /// Linear in the number of tokens, besides the look-up of each.
     ///
     /// # Errors
     ///
@@ -56,6 +56,7 @@ impl<'c> Expression<'c> {
         ensures ok { IfOk result (λ expression. IsReadFrom cat.now mode text.now expression) }
         ensures err { IfErr result (IfRefused (λ error. IsRefused cat.now mode text.now error)) }
         ensures place { IfErr result (IfRefused (λ error. IsPlace text.now (span_of error.span))) }
+        ensures spans { IfOk result (λ expression. All (IsPlace text.now) expression.spans) }
     {
         cat.is_well_formed();
         cat.has_text_prefixes();

@@ -14,7 +14,7 @@ returns-in-Ok c =
     let rows : List License = c.args.rows.now in
     let q : List ℕ = c.args.name.now in
     let compared : License → Ordering = λ y. slice_cmp nat_cmp (license_name (row_of y)) q in
-    c.license_at.ensures ∙ found_at row_of license_name rows c.requires q c.in-Ok.at c.in-Ok.ensures.bound (c.in-Ok.ensures.position compared (search (rules, always_returns_same)))
+    c.license_at.ensures ∙ found_at row_of license_name rows c.requires q c.in-Ok.place c.in-Ok.ensures.bound (c.in-Ok.ensures.position compared (search (rules, always_returns_same)))
 
 pub returns-in-Err : goal.returns-in-Err
 returns-in-Err c =

@@ -1,9 +1,12 @@
-use Rattle.std.proofs.Common.{◌≡◌, Ok, Err, [], ◌∷◌, ◌++◌, length, refl, sym, ◌∙◌, ap, arith}
+use Rattle.std.proofs.Common.{◌≡◌, Ok, Err, [], ◌∷◌, ◌++◌, length, refl, sym, ◌∙◌, ap, subst, arith}
 use Rattle.spdx_lexer.specs.Words.{Unexpected}
 use Rattle.spdx_lexer.specs.Code.{word_of, span_of, item_of}
 use Rattle.spdx_lexer.specs.Faults.{fault_of}
 use Rattle.spdx_lexer.specs.Left.{items_left}
 use Rattle.spdx_parser.proofs.Loop.{seen_of, nothing_read, row_known, takes, stops, lexes_no_more, refused, span_is, ends_empty, ends_short, ends_open, ends_well, shows_popped, popped_none}
+use Rattle.std.specs.List.{All}
+use Rattle.spdx_lexer.specs.Laid.{IsPlace, place_of}
+use Rattle.spdx_parser.proofs.Places.{node_places}
 use Rattle.spdx_parser.proofs.parser.parse_nodes.Goals as goal
 
 pub loop-item-init : goal.loop-item-init
@@ -65,3 +68,9 @@ returns-clause-ok c =
     let closing = sym c.is_closing.ensures ∙ c.if-not-is_closing.false in
     ends_well c.args.catalogue.now c.args.mode c.args.text.now read _ _ c.loop-item.parser r c.in-None.ensures.steps.0 c.is_well_formed.ensures (popped_none c.loop-item.parser.opened.items c.in-None-pop.ensures.variant.1) c.in_ok-finish-in-None-pop.field-0.items
     (λ p f seen s. c.in_ok-finish-in-None-pop.ensures p f seen (shows_popped p f seen c.loop-item.parser c.pop.new.self c.in-None-pop.ensures.items s) closing)
+
+pub returns-clause-spans : goal.returns-clause-spans
+returns-clause-spans c =
+    let text = c.args.text.now in
+    let all = subst (All (λ i. IsPlace text (place_of i))) c.new_mode-lexer.ensures.items c.new_mode-lexer.ensures.places in
+    node_places c.args.catalogue.now c.args.mode text all c.in_ok-finish-in-None-pop.field-0.items (returns-clause-ok c)

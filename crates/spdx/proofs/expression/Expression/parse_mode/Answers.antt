@@ -10,6 +10,8 @@ use Rattle.spdx_lexer.specs.Faults.{fault_of}
 use Rattle.spdx_lexer.specs.Code.{span_of}
 use Rattle.spdx_lexer.proofs.Laid.{reading_laid, laid_places}
 use Rattle.spdx_parser.proofs.Places.{fault_place}
+use Rattle.std.specs.List.{All}
+use Rattle.spdx_lexer.specs.Laid.{IsPlace}
 use Rattle.spdx.proofs.Leaves.{if_refused}
 use Rattle.spdx.proofs.expression.Expression.parse_mode.Goals as goal
 
@@ -40,3 +42,6 @@ returns-in_err-nodes-clause-place c =
     let place = if_refused c.parse_nodes.result c.parse_nodes.ensures.err (λ e r. fault_place text c.utf8.text cat c.args.mode all (fault_of e.reason) (span_of e.span) r.fault_is) in
     let told = rw (c.in_err-nodes.was) at place in
     search (rules, told)
+
+pub returns-clause-spans : goal.returns-clause-spans
+returns-clause-spans c = subst (All (IsPlace c.args.text.now)) (sym c.from_nodes.ensures.spans) c.in_ok-nodes.ensures.spans
