@@ -3,3 +3,4 @@ pub mod Device
 pub mod Output
 pub mod Progress
 pub mod Rule
+pub mod Runs
