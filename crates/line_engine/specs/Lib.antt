@@ -4,3 +4,4 @@ pub mod Output
 pub mod Progress
 pub mod Rule
 pub mod Runs
+pub mod Split
