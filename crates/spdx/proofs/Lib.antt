@@ -8,4 +8,5 @@ pub mod Selections
 pub mod Asking
 pub mod Places
 pub mod Chosen
+pub mod Doubles
 pub mod Told
