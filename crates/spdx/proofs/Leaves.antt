@@ -1,48 +1,20 @@
--- The printed text of each requirement that was read strictly is read back as that requirement.
-use Rattle.std.proofs.Common.{◌≡◌, ℕ, true, false, cond, List, [], ◌∷◌, ◌++◌, map, Option, Some, None, Result, Ok, Err, IfOk, IfErr, refl, sym, ◌∙◌, ap, subst, append_assoc, append-nil, IsTrue}
-use Rattle.std.specs.Prelude.{codes}
+-- The tree of a text that was read strictly is strict, and the printed text of each of its requirements is read back.
+use Rattle.std.proofs.Common.{◌≡◌, ℕ, List, [], ◌∷◌, map, Result, Ok, Err, IfOk, IfErr, refl, ◌∙◌, ap, IsTrue}
 use Rattle.spdx_catalogue.specs.Rows.{Rows}
-use Rattle.spdx_catalogue.specs.Flags.{is_deprecated}
 use Rattle.spdx_catalogue.specs.WellFormed.{is_well_formed}
 use Rattle.spdx_catalogue.specs.declared.error.Failure.{Failure}
 use Rattle.spdx_catalogue.specs.declared.error.Failure.TheVariants.{Refused, Memory}
 use Rattle.spdx_catalogue.specs.Failures.{IfRefused}
-use Rattle.spdx_catalogue.specs.Items.{Licence, listed, referred, Addition, excepted, added, Requirement}
-use Rattle.spdx_catalogue.specs.Texts as texts
-use Rattle.spdx_catalogue.specs.Texts.{license_prefix, addition_prefix, licence_text, with_text, requirement_text}
 use Rattle.spdx_lexer.specs.Modes.{strict}
-use Rattle.spdx_lexer.specs.Words.{Word, Spdx, LicenseRef, Exception, AdditionRef, Plus, With, Fault, Item}
-use Rattle.spdx_lexer.specs.Lexeme.{reference_text}
-use Rattle.spdx_lexer.specs.Reading.{said, reading, Spells}
+use Rattle.spdx_lexer.specs.Words.{Word, Fault, Item}
+use Rattle.spdx_lexer.specs.Reading.{said}
 use Rattle.spdx_parser.specs.Spans.{Placed, words}
 use Rattle.spdx_parser.specs.Tree.{Tree, Leaf, Join}
-use Rattle.spdx_parser.specs.Grammar.{LicenceOf, plain, marked, later, named, unknown, AdditionOf, exception, named_addition, unknown_addition, LeafOf, alone, joined, PrimaryOf, leaf, group, AndOf, one_primary, and_more, OrOf, one_and, or_more, Derives}
-use Rattle.spdx_parser.proofs.Complete.{the_only}
-use Rattle.spdx_canonical.proofs.Neighbours.{AreRead, apart}
-use Rattle.spdx_canonical.proofs.Read.{are_read}
-use Rattle.spdx_canonical.proofs.Plain as Plain
-use Rattle.spdx_canonical.proofs.Plain.{words_text, text-append}
-use Rattle.spdx_lexer.specs.Words.{OpenParen}
-use Rattle.spdx.specs.Parsed.{EachLeaf, ReadsBack}
-
--- ---- the words of a requirement
-
-abbrev pub licence_words : Licence → List Word
-licence_words (listed r false) = Spdx r ∷ []
-licence_words (listed r true) = Spdx r ∷ Plus ∷ []
-licence_words (referred x) = LicenseRef x.document x.name ∷ []
-
-abbrev pub addition_words : Option Addition → List Word
-addition_words None = []
-addition_words (Some (excepted r)) = With ∷ Exception r ∷ []
-addition_words (Some (added x)) = With ∷ AdditionRef x.document x.name ∷ []
-
-abbrev pub requirement_words : Requirement → List Word
-requirement_words r = licence_words r.licence ++ addition_words r.addition
-
-reference_same : (p : List ℕ) (d : Option (List ℕ)) (y : List ℕ) → reference_text p d y ++ [] ≡ texts.reference_text p (record { document = d; name = y })
-reference_same p None y = append-nil (p ++ y)
-reference_same p (Some x) y = append-nil (reference_text p (Some x) y) ∙ ap (λ (t : List ℕ). codes "DocumentRef-" ++ t) (sym (append_assoc x (codes ":") (p ++ y)))
+use Rattle.spdx_normal.specs.Law.{EachLeaf, IsStrict}
+use Rattle.spdx_normal.proofs.Leaves.{IsGood}
+use Rattle.spdx_normal.proofs.Laws.{good, good_reads}
+use Rattle.spdx.specs.Written.{Written}
+use Rattle.spdx.specs.Parsed.{IsReadFrom, ReadsBack}
 
 -- ---- answers
 
@@ -55,95 +27,18 @@ if_refused (Ok x) h f = tt
 if_refused (Err (Refused e)) h f = f e h
 if_refused (Err (Memory m)) h f = tt
 
-module _ (c : Rows) where
-  -- ---- what is known of a requirement that was read
+said_words : (read : List Placed) → map said (map {B = Item} Ok read) ≡ map {B = Result Word Fault} Ok (words read)
+said_words [] = refl
+said_words (p ∷ read) = ap (λ (xs : List (Result Word Fault)). Ok p.0 ∷ xs) (said_words read)
 
-  pub record IsGoodLicence (l : Licence) : Type 0 where
-    pub read : AreRead c (licence_words l)
-    pub means : (more : List Word) → LicenceOf c strict (licence_words l ++ more) l more
-    pub text : words_text (licence_words l) ≡ licence_text l
+module _ (c : Rows) (well : IsTrue (is_well_formed c)) where
+  pub strictly_read : (text : List ℕ) (e : Written) → IsReadFrom c strict text e → IsStrict c e.tree
+  strictly_read text e r = record { well_formed = well; text = text; words = words r.read; read = ap (map said) r.reads ∙ said_words r.read; means = r.meant.derived }
 
-  pub record IsGoodAddition (a : Option Addition) : Type 0 where
-    pub read : AreRead c (addition_words a)
-    pub means : (l : Licence) (more : List Word) → ((rest : List Word) → LicenceOf c strict (licence_words l ++ rest) l rest) → LeafOf c strict (licence_words l ++ (addition_words a ++ more)) (record { licence = l; addition = a }) more
-    pub text : words_text (addition_words a) ≡ with_text a
+  -- a requirement is a tree, and its text is the normal one
+  leaves_back : (t : Tree) → EachLeaf (IsGood c) t → EachLeaf (ReadsBack c) t
+  leaves_back (Leaf r) h = good_reads c well (Leaf r) h
+  leaves_back (Join o l r) h = (leaves_back l h.0, leaves_back r h.1)
 
-  licence_good : {ws rest : List Word} {l : Licence} → LicenceOf c strict ws l rest → AreRead c ws → IsGoodLicence l × AreRead c rest
-  licence_good (plain {r = r} p) h = (record { read = (h.0, tt); means = λ more. plain p; text = append-nil r.name }, h.1)
-  licence_good (marked {r = r} p e) h = (record { read = (h.0, (tt, tt)); means = λ more. marked p e; text = ap (λ b. r.name ++ cond b (cond (is_deprecated r.flags) (codes "-or-later") []) (codes "+")) (sym e) }, h.1.1)
-  licence_good (later p e q s l) h = absurd cc
-  licence_good (named {d = d} {n = y}) h = (record { read = (h.0, tt); means = λ more. named; text = reference_same license_prefix d y }, h.1)
-  licence_good unknown h = absurd h.0
-
-  none_good : IsGoodAddition None
-  none_good = record { read = tt; means = λ l more f. alone (f more); text = refl }
-
-  addition_good : {ws rest : List Word} {a : Addition} → AdditionOf ws a rest → AreRead c ws → IsGoodAddition (Some a) × AreRead c rest
-  addition_good (exception {r = r}) h = (record { read = (tt, (h.0, tt)); means = λ l more f. joined (f (With ∷ Exception r ∷ more)) exception; text = ap (λ (t : List ℕ). codes " WITH " ++ t) (append-nil r.name) }, h.1)
-  addition_good (named_addition {d = d} {n = y}) h = (record { read = (tt, (h.0, tt)); means = λ l more f. joined (f (With ∷ AdditionRef d y ∷ more)) named_addition; text = ap (λ (t : List ℕ). codes " WITH " ++ t) (reference_same addition_prefix d y) }, h.1)
-  addition_good unknown_addition h = absurd h.0
-
-  -- its words, on which a strict reader and the grammar agree
-  pub record IsGood (r : Requirement) : Type 0 where
-    pub read : AreRead c (requirement_words r)
-    pub means : (more : List Word) → LeafOf c strict (requirement_words r ++ more) r more
-    pub text : words_text (requirement_words r) ≡ requirement_text r
-
-  read_append : (xs ys : List Word) → AreRead c xs → AreRead c ys → AreRead c (xs ++ ys)
-  read_append [] ys h k = k
-  read_append (x ∷ xs) ys h k = (h.0, read_append xs ys h.1 k)
-
-  good : (l : Licence) (a : Option Addition) → IsGoodLicence l → IsGoodAddition a → IsGood (record { licence = l; addition = a })
-  good l a h k = record {
-    read = read_append (licence_words l) (addition_words a) h.read k.read;
-    means = λ more. subst (λ (ws : List Word). LeafOf c strict ws (record { licence = l; addition = a }) more) (sym (append_assoc (licence_words l) (addition_words a) more)) (k.means l more h.means);
-    text = text-append (licence_words l) (addition_words a) ∙ ap (λ (t : List ℕ). t ++ words_text (addition_words a)) h.text ∙ ap (λ (t : List ℕ). licence_text l ++ t) k.text;
-  }
-
-  leaf_good : {ws rest : List Word} {r : Requirement} → LeafOf c strict ws r rest → AreRead c ws → IsGood r × AreRead c rest
-  leaf_good (alone {l = l} d) h = let k = licence_good d h in (good l None k.0 none_good, k.1)
-  leaf_good (joined {l = l} {a = a} d e) h =
-      let k = licence_good d h in
-      let n = addition_good e k.1.1 in
-      (good l (Some a) k.0 n.0, n.1)
-
-  mutual
-    primary_good : {ws rest : List Word} {t : Tree} → PrimaryOf c strict ws t rest → AreRead c ws → EachLeaf IsGood t × AreRead c rest
-    primary_good (leaf d) h = leaf_good d h
-    primary_good (group d) h = let k = or_good d h.1 in (k.0, k.1.1)
-
-    and_good : {ws rest : List Word} {t : Tree} → AndOf c strict ws t rest → AreRead c ws → EachLeaf IsGood t × AreRead c rest
-    and_good (one_primary d) h = primary_good d h
-    and_good (and_more d e) h =
-        let k = primary_good d h in
-        let n = and_good e k.1.1 in
-        ((k.0, n.0), n.1)
-
-    pub or_good : {ws rest : List Word} {t : Tree} → OrOf c strict ws t rest → AreRead c ws → EachLeaf IsGood t × AreRead c rest
-    or_good (one_and d) h = and_good d h
-    or_good (or_more d e) h =
-        let k = and_good d h in
-        let n = or_good e k.1.1 in
-        ((k.0, n.0), n.1)
-
-  -- ---- and so of its text
-
-  module _ (well : IsTrue (is_well_formed c)) where
-    back : (r : Requirement) → IsGood r → ReadsBack c r
-    back r g =
-        let ws = requirement_words r in
-        let d : Derives c strict ws (Leaf r) = subst (λ (vs : List Word). Derives c strict vs (Leaf r)) (append-nil ws) (one_and (one_primary (leaf (g.means [])))) in
-        record { words = ws; read = subst (λ (t : List ℕ). Spells c strict t ws) g.text (Plain.plain c well strict OpenParen ws (apart c strict ws (Leaf r) d) g.read 0); meant = the_only c strict ws (Leaf r) d }
-
-    leaves_back : (t : Tree) → EachLeaf IsGood t → EachLeaf (ReadsBack c) t
-    leaves_back (Leaf r) h = back r h
-    leaves_back (Join o l r) h = (leaves_back l h.0, leaves_back r h.1)
-
-    said_words : (read : List Placed) → map said (map {B = Item} Ok read) ≡ map {B = Result Word Fault} Ok (words read)
-    said_words [] = refl
-    said_words (p ∷ read) = ap (λ (xs : List (Result Word Fault)). Ok p.0 ∷ xs) (said_words read)
-
-    pub reads_back : (text : List ℕ) (read : List Placed) (t : Tree) → reading c strict 0 text ≡ map Ok read → Derives c strict (words read) t → EachLeaf (ReadsBack c) t
-    reads_back text read t e d =
-        let known = are_read c well strict refl OpenParen (words read) (apart c strict (words read) t d) 0 text (ap (map said) e ∙ said_words read) in
-        leaves_back t (or_good d known).0
+  pub reads_back : (t : Tree) → IsStrict c t → EachLeaf (ReadsBack c) t
+  reads_back t s = leaves_back t (good c t s)

@@ -10,3 +10,4 @@ pub mod Places
 pub mod Chosen
 pub mod Doubles
 pub mod Told
+pub mod Telling

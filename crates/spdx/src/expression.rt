@@ -17,6 +17,7 @@ pub mod iterators;
 pub mod judge;
 pub mod laws;
 pub mod minimize;
+mod normal;
 mod parser;
 mod question;
 mod texts;

@@ -17,6 +17,8 @@ mod lexing;
 #[cfg(test)]
 mod licensees;
 #[cfg(test)]
+mod normal;
+#[cfg(test)]
 mod parsing;
 #[cfg(test)]
 mod printing;

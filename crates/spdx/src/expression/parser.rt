@@ -6,7 +6,8 @@ ghost use Rattle.spdx_lexer.specs.Laid.{IsPlace};
 ghost use Rattle.spdx_lexer.specs.Modes.{strict};
 ghost use Rattle.spdx_catalogue.specs.Failures.{IfRefused};
 ghost use Rattle.spdx_parser.specs.Parsed.{IsRefused};
-ghost use Rattle.spdx.specs.Parsed.{IsReadFrom, EachLeaf, ReadsBack};
+ghost use Rattle.spdx_normal.specs.Law.{EachLeaf, IsStrict};
+ghost use Rattle.spdx.specs.Parsed.{IsReadFrom, ReadsBack};
 
 use crate::expression::Expression;
 use spdx_catalogue::{Catalogue, Failure};
@@ -26,6 +27,7 @@ impl<'c> Expression<'c> {
         ensures ok { IfOk result (λ expression. IsReadFrom cat.now strict text.now expression) }
         ensures err { IfErr result (IfRefused (λ error. IsRefused cat.now strict text.now error)) }
         ensures place { IfErr result (IfRefused (λ error. IsPlace text.now (span_of error.span))) }
+        ensures strict { IfOk result (λ expression. IsStrict cat.now expression.tree) }
         ensures back { IfOk result (λ expression. EachLeaf (ReadsBack cat.now) expression.tree) }
     {
         cat.is_well_formed();
