@@ -2,3 +2,4 @@ pub mod Cutting
 pub mod Dividing
 pub mod Known
 pub mod Steps
+pub mod Splitting

@@ -3,3 +3,5 @@ pub mod Device
 pub mod Output
 pub mod Progress
 pub mod Rule
+pub mod Runs
+pub mod Split

@@ -1,7 +1,8 @@
--- How far a run has come. Of each device `old` and `new` are the bytes that it told before and after, if it tells them.
+-- How far a run has come.
 use Rattle.std.specs.Prelude.{◌≡◌, ℕ, Bool, true, Option, Some, List, [], ◌∷◌, ◌++◌}
 use Rattle.std.specs.Io.KnownBytes.{Appends, Consumes, IsAtEnd}
 use Rattle.line_engine.specs.declared.lines.Summary.{Summary}
+use Rattle.line_engine.specs.Device.{Told, Devices}
 use Rattle.line_engine.specs.Rule.{Rule}
 use Rattle.line_engine.specs.Cut.{cut, lines_of, IsCut}
 use Rattle.line_engine.specs.Output.{text_of, output_of, output_so_far, summary_of, count_line}
@@ -13,48 +14,57 @@ pub record AppendsBeginning (old new : Option (List ℕ)) (bytes : List ℕ) : T
   pub whole : bytes ≡ begun ++ others
   pub appended : Appends old new begun
 
--- one more line is answered, written and counted
-pub record HasPut (rule : Rule) (Old New : List (List ℕ) → Type 0) (line : List ℕ) (taken taken' : Option (List ℕ)) (summary summary' : Summary) : Type 0 where
-  pub written : Appends taken taken' (rule.text line)
-  pub counted : summary' ≡ count_line summary (rule.refuses line)
-  pub answered : (lines : List (List ℕ)) → Old lines → New (lines ++ line ∷ [])
+-- which lines may be answered so far, what the output tells, and the counts
+pub record State : Type 1 where
+  pub HasAnswered : List (List ℕ) → Type 0
+  pub output : Told
+  pub summary : Summary
 
--- these lines are answered, written and counted
-pub record HasPutAll (rule : Rule) (HasAnswered : List (List ℕ) → Type 0) (lines : List (List ℕ)) (taken taken' : Option (List ℕ)) (summary : Summary) : Type 0 where
-  pub written : Appends taken taken' (text_of rule lines)
-  pub counted : summary ≡ summary_of rule lines
-  pub answered : HasAnswered lines
+abbrev pub state : (List (List ℕ) → Type 0) → Told → Summary → State
+state HasAnswered output summary = record { HasAnswered = HasAnswered; output = output; summary = summary }
+
+-- one more line is answered, written and counted
+pub record HasPut (rule : Rule) (line : List ℕ) (old new : State) : Type 0 where
+  pub written : Appends old.output.bytes new.output.bytes (rule.text line)
+  pub counted : new.summary ≡ count_line old.summary (rule.refuses line)
+  pub answered : (lines : List (List ℕ)) → old.HasAnswered lines → new.HasAnswered (lines ++ line ∷ [])
+
+-- these lines are answered, written and counted, from an output that told these bytes on
+pub record HasPutAll (rule : Rule) (lines : List (List ℕ)) (start : Option (List ℕ)) (now : State) : Type 0 where
+  pub written : Appends start now.output.bytes (text_of rule lines)
+  pub counted : now.summary ≡ summary_of rule lines
+  pub answered : now.HasAnswered lines
 
 -- of the bytes read so far each whole line is answered, written and counted, and the incomplete one is kept
-pub record HasKept (rule : Rule) (HasAnswered : List (List ℕ) → Type 0) (bytes : List ℕ) (taken taken' : Option (List ℕ)) (kept : List ℕ) (summary : Summary) : Type 0 where
-  pub put : HasPutAll rule HasAnswered (cut bytes).whole taken taken' summary
+pub record HasKept (rule : Rule) (bytes : List ℕ) (start : Option (List ℕ)) (kept : List ℕ) (now : State) : Type 0 where
+  pub put : HasPutAll rule (cut bytes).whole start now
   pub rest : kept ≡ (cut bytes).rest
 
 -- all of the input was read and cut into its lines, its output was written and nothing else, and these are its counts
-pub record HasRun (rule : Rule) (coming coming' taken taken' : Option (List ℕ)) (summary : Summary) : Type 0 where
+pub record HasRun (rule : Rule) (d : Devices) (summary : Summary) : Type 0 where
   pub bytes : List ℕ
-  pub read : Consumes coming coming' bytes
-  pub ended : IsAtEnd coming'
+  pub read : Consumes d.input.bytes d.input'.bytes bytes
+  pub ended : IsAtEnd d.input'.bytes
   pub divided : IsCut bytes (cut bytes)
-  pub written : Appends taken taken' (output_of rule bytes)
+  pub written : Appends d.output.bytes d.output'.bytes (output_of rule bytes)
   pub counts : summary ≡ summary_of rule (lines_of bytes)
 
 -- the same of an input that tells its bytes: these were all of them
-pub record IsAnswered (rule : Rule) (coming' taken taken' : Option (List ℕ)) (summary : Summary) (bytes : List ℕ) : Type 0 where
-  pub ended : coming' ≡ Some []
-  pub written : Appends taken taken' (output_of rule bytes)
+pub record IsAnswered (rule : Rule) (d : Devices) (summary : Summary) (bytes : List ℕ) : Type 0 where
+  pub ended : d.input'.bytes ≡ Some []
+  pub written : Appends d.output.bytes d.output'.bytes (output_of rule bytes)
   pub counts : summary ≡ summary_of rule (lines_of bytes)
 
 -- these bytes were read, and a beginning of what they give was written, the last line among them only where the end of the input was met
-pub record HasBegun (rule : Rule) (coming coming' taken taken' : Option (List ℕ)) : Type 0 where
+pub record HasBegun (rule : Rule) (d : Devices) : Type 0 where
   pub bytes : List ℕ
-  pub read : Consumes coming coming' bytes
+  pub read : Consumes d.input.bytes d.input'.bytes bytes
   pub is_ended : Bool
-  pub ended : is_ended ≡ true → IsAtEnd coming'
-  pub written : AppendsBeginning taken taken' (output_so_far rule bytes is_ended)
+  pub ended : is_ended ≡ true → IsAtEnd d.input'.bytes
+  pub written : AppendsBeginning d.output.bytes d.output'.bytes (output_so_far rule bytes is_ended)
 
 -- these bytes were read, and the answers to all lines that are whole in them were written, and nothing else
-pub record HasWrittenLines (rule : Rule) (coming coming' taken taken' : Option (List ℕ)) : Type 0 where
+pub record HasWrittenLines (rule : Rule) (d : Devices) : Type 0 where
   pub bytes : List ℕ
-  pub read : Consumes coming coming' bytes
-  pub written : Appends taken taken' (text_of rule (cut bytes).whole)
+  pub read : Consumes d.input.bytes d.input'.bytes bytes
+  pub written : Appends d.output.bytes d.output'.bytes (text_of rule (cut bytes).whole)

@@ -1,10 +1,12 @@
 // Lines in, answers out, a piece of the input at a time.
 
-ghost use Rattle.std.specs.Prelude.{◌≡◌, ◌↔◌, ℕ, ◌<◌, ◌++◌, ◌∷◌, [], List, length, Bool, true, false, IfSome, IsNone, Option, IfOk, OnOk, OnErr, IsErrOf};
+ghost use Rattle.std.specs.Prelude.{◌≡◌, ℕ, ◌<◌, ◌++◌, ◌∷◌, [], List, length, true, false, IfSome, IsNone, Option, OnOk, OnErr, IsErrOf};
 ghost use Rattle.std.specs.Io.KnownBytes.{Appends};
 ghost use Rattle.line_engine.specs.Cut.{cut, lines_of, HasNoNewline};
+ghost use Rattle.line_engine.specs.Device.{devices};
 ghost use Rattle.line_engine.specs.Output.{count_line, text_of, output_of};
-ghost use Rattle.line_engine.specs.Progress.{AppendsBeginning, HasPut, HasPutAll, HasKept, HasRun, HasBegun, HasWrittenLines, IsAnswered};
+ghost use Rattle.line_engine.specs.Progress.{AppendsBeginning, state, HasPut, HasPutAll, HasKept};
+ghost use Rattle.line_engine.specs.Runs.{Runs};
 ghost use Rattle.line_engine.specs.declared.lines.RunFault.TheVariants.{Memory as MemoryFault};
 
 use crate::device::{Failed, Sink, Source};
@@ -73,9 +75,10 @@ struct Kept {
 
 /// Writes all of the bytes, in as many writes as it takes. After `Err` a beginning of them was written.
 pub fn write_all<O: Sink>(output: &mut O, bytes: &[u8]) -> Result<(), Failed>
-    ensures all { OnOk result (Appends (O.taken output.old) (O.taken output.new) bytes.now) }
-    ensures begun { OnErr result (AppendsBeginning (O.taken output.old) (O.taken output.new) bytes.now) }
-    ensures failed { OnErr result (O.has_failed output.new ≡ true) }
+    ensures all { OnOk result (Appends (O.told output.old).bytes (O.told output.new).bytes bytes.now) }
+    ensures begun { OnErr result (
+        AppendsBeginning (O.told output.old).bytes (O.told output.new).bytes bytes.now) }
+    ensures failed { OnErr result ((O.told output.new).has_failed ≡ true) }
 {
     let mut at = 0;
     while at < bytes.len() {
@@ -86,7 +89,8 @@ pub fn write_all<O: Sink>(output: &mut O, bytes: &[u8]) -> Result<(), Failed>
 
 // The bytes before the first newline, and those behind it.
 fn split_line(bytes: &[u8]) -> Option<(&[u8], &[u8])>
-    ensures some { IfSome result (λ parts. (bytes.now ≡ parts.0.now ++ 10 ∷ parts.1.now) × HasNoNewline parts.0.now) }
+    ensures some { IfSome result (λ parts.
+        (bytes.now ≡ parts.0.now ++ 10 ∷ parts.1.now) × HasNoNewline parts.0.now) }
     ensures none { IsNone result → HasNoNewline bytes.now }
 {
     let end = memchr(b'\n', bytes)?;
@@ -101,11 +105,15 @@ fn put_line<V: Verdicts, O: Sink>(
     tally: &mut Tally,
     line: &[u8],
 ) -> Result<(), RunFault>
-    ensures put { OnOk result (HasPut (V.rule verdicts.old) (V.HasAnswered verdicts.old) (V.HasAnswered verdicts.new) line.now (O.taken output.old) (O.taken output.new) tally.old.summary tally.new.summary) }
-    ensures begun { OnErr result (AppendsBeginning (O.taken output.old) (O.taken output.new) ((V.rule verdicts.old).text line.now)) }
+    ensures put { OnOk result (HasPut (V.rule verdicts.old) line.now
+        (state (V.HasAnswered verdicts.old) (O.told output.old) tally.old.summary)
+        (state (V.HasAnswered verdicts.new) (O.told output.new) tally.new.summary)) }
+    ensures begun { OnErr result (
+        AppendsBeginning (O.told output.old).bytes (O.told output.new).bytes
+        ((V.rule verdicts.old).text line.now)) }
     ensures rule { V.rule verdicts.new ≡ V.rule verdicts.old }
     ensures no_read { IsErrOf result RunFault.Read → ⊥ }
-    ensures write { IsErrOf result RunFault.Write → O.has_failed output.new ≡ true }
+    ensures write { IsErrOf result RunFault.Write → (O.told output.new).has_failed ≡ true }
 {
     tally.answer.clear();
     let is_refused = verdicts.answer(alloc, line, &mut tally.answer)?;
@@ -126,12 +134,16 @@ fn end_line<V: Verdicts, O: Sink>(
     kept: &mut Kept,
     end: &[u8],
 ) -> Result<(), RunFault>
-    ensures put { OnOk result (HasPut (V.rule verdicts.old) (V.HasAnswered verdicts.old) (V.HasAnswered verdicts.new) (kept.old.line.items ++ end.now) (O.taken output.old) (O.taken output.new) kept.old.tally.summary kept.new.tally.summary) }
+    ensures put { OnOk result (HasPut (V.rule verdicts.old) (kept.old.line.items ++ end.now)
+        (state (V.HasAnswered verdicts.old) (O.told output.old) kept.old.tally.summary)
+        (state (V.HasAnswered verdicts.new) (O.told output.new) kept.new.tally.summary)) }
     ensures emptied { OnOk result (kept.new.line.items ≡ []) }
-    ensures begun { OnErr result (AppendsBeginning (O.taken output.old) (O.taken output.new) ((V.rule verdicts.old).text (kept.old.line.items ++ end.now))) }
+    ensures begun { OnErr result (
+        AppendsBeginning (O.told output.old).bytes (O.told output.new).bytes
+        ((V.rule verdicts.old).text (kept.old.line.items ++ end.now))) }
     ensures rule { V.rule verdicts.new ≡ V.rule verdicts.old }
     ensures no_read { IsErrOf result RunFault.Read → ⊥ }
-    ensures write { IsErrOf result RunFault.Write → O.has_failed output.new ≡ true }
+    ensures write { IsErrOf result RunFault.Write → (O.told output.new).has_failed ≡ true }
 {
     if kept.line.is_empty() {
         return put_line(alloc, verdicts, output, &mut kept.tally, end);
@@ -151,14 +163,18 @@ fn take_piece<V: Verdicts, O: Sink>(
     piece: &[u8],
 ) -> Result<(), RunFault>
     ensures ok { OnOk result ((bytes : List ℕ) (start : Option (List ℕ)) →
-        HasKept (V.rule verdicts.old) (V.HasAnswered verdicts.old) bytes start (O.taken output.old) kept.old.line.items kept.old.tally.summary →
-        HasKept (V.rule verdicts.old) (V.HasAnswered verdicts.new) (bytes ++ piece.now) start (O.taken output.new) kept.new.line.items kept.new.tally.summary) }
+        HasKept (V.rule verdicts.old) bytes start kept.old.line.items
+        (state (V.HasAnswered verdicts.old) (O.told output.old) kept.old.tally.summary) →
+        HasKept (V.rule verdicts.old) (bytes ++ piece.now) start kept.new.line.items
+        (state (V.HasAnswered verdicts.new) (O.told output.new) kept.new.tally.summary)) }
     ensures begun { OnErr result ((bytes : List ℕ) (start : Option (List ℕ)) →
-        HasKept (V.rule verdicts.old) (V.HasAnswered verdicts.old) bytes start (O.taken output.old) kept.old.line.items kept.old.tally.summary →
-        AppendsBeginning start (O.taken output.new) (text_of (V.rule verdicts.old) (cut (bytes ++ piece.now)).whole)) }
+        HasKept (V.rule verdicts.old) bytes start kept.old.line.items
+        (state (V.HasAnswered verdicts.old) (O.told output.old) kept.old.tally.summary) →
+        AppendsBeginning start (O.told output.new).bytes
+        (text_of (V.rule verdicts.old) (cut (bytes ++ piece.now)).whole)) }
     ensures rule { V.rule verdicts.new ≡ V.rule verdicts.old }
     ensures no_read { IsErrOf result RunFault.Read → ⊥ }
-    ensures write { IsErrOf result RunFault.Write → O.has_failed output.new ≡ true }
+    ensures write { IsErrOf result RunFault.Write → (O.told output.new).has_failed ≡ true }
 {
     let mut rest = piece;
     while let Some((end, behind)) = split_line(rest) {
@@ -177,14 +193,17 @@ fn put_last<V: Verdicts, O: Sink>(
     kept: &mut Kept,
 ) -> Result<(), RunFault>
     ensures ok { OnOk result ((bytes : List ℕ) (start : Option (List ℕ)) →
-        HasKept (V.rule verdicts.old) (V.HasAnswered verdicts.old) bytes start (O.taken output.old) kept.old.line.items kept.old.tally.summary →
-        HasPutAll (V.rule verdicts.old) (V.HasAnswered verdicts.new) (lines_of bytes) start (O.taken output.new) kept.new.tally.summary) }
+        HasKept (V.rule verdicts.old) bytes start kept.old.line.items
+        (state (V.HasAnswered verdicts.old) (O.told output.old) kept.old.tally.summary) →
+        HasPutAll (V.rule verdicts.old) (lines_of bytes) start
+        (state (V.HasAnswered verdicts.new) (O.told output.new) kept.new.tally.summary)) }
     ensures begun { OnErr result ((bytes : List ℕ) (start : Option (List ℕ)) →
-        HasKept (V.rule verdicts.old) (V.HasAnswered verdicts.old) bytes start (O.taken output.old) kept.old.line.items kept.old.tally.summary →
-        AppendsBeginning start (O.taken output.new) (output_of (V.rule verdicts.old) bytes)) }
+        HasKept (V.rule verdicts.old) bytes start kept.old.line.items
+        (state (V.HasAnswered verdicts.old) (O.told output.old) kept.old.tally.summary) →
+        AppendsBeginning start (O.told output.new).bytes (output_of (V.rule verdicts.old) bytes)) }
     ensures rule { V.rule verdicts.new ≡ V.rule verdicts.old }
     ensures no_read { IsErrOf result RunFault.Read → ⊥ }
-    ensures write { IsErrOf result RunFault.Write → O.has_failed output.new ≡ true }
+    ensures write { IsErrOf result RunFault.Write → (O.told output.new).has_failed ≡ true }
 {
     if kept.line.is_empty() {
         Ok(())
@@ -201,13 +220,15 @@ fn write_end<V: Verdicts, O: Sink>(
     text: &mut Vec<u8>,
 ) -> Result<(), RunFault>
     ensures written { OnOk result ((lines : List (List ℕ)) → V.HasAnswered verdicts.old lines →
-        Appends (O.taken output.old) (O.taken output.new) ((V.rule verdicts.old).closing lines)) }
+        Appends (O.told output.old).bytes (O.told output.new).bytes
+        ((V.rule verdicts.old).closing lines)) }
     ensures begun { OnErr result ((lines : List (List ℕ)) → V.HasAnswered verdicts.old lines →
-        AppendsBeginning (O.taken output.old) (O.taken output.new) ((V.rule verdicts.old).closing lines)) }
-    ensures sound { OnOk result (O.has_failed output.new ≡ false) }
+        AppendsBeginning (O.told output.old).bytes (O.told output.new).bytes
+        ((V.rule verdicts.old).closing lines)) }
+    ensures sound { OnOk result ((O.told output.new).has_failed ≡ false) }
     ensures rule { V.rule verdicts.new ≡ V.rule verdicts.old }
     ensures no_read { IsErrOf result RunFault.Read → ⊥ }
-    ensures write { IsErrOf result RunFault.Write → O.has_failed output.new ≡ true }
+    ensures write { IsErrOf result RunFault.Write → (O.told output.new).has_failed ≡ true }
 {
     text.clear();
     verdicts.close(alloc, text)?;
@@ -237,13 +258,9 @@ pub fn run_in<V: Verdicts, I: Source, O: Sink>(
 ) -> Result<Summary, RunFault>
     requires room { 0 < length buffer.old }
     requires fresh { V.HasAnswered verdicts.old [] }
-    ensures ok { IfOk result (HasRun (V.rule verdicts.old) (I.coming input.old) (I.coming input.new) (O.taken output.old) (O.taken output.new)) }
-    ensures known { IfOk result (λ summary. IfSome (I.coming input.old) (IsAnswered (V.rule verdicts.old) (I.coming input.new) (O.taken output.old) (O.taken output.new) summary)) }
-    ensures sound { OnOk result ((I.has_failed input.new ≡ false) × (O.has_failed output.new ≡ false)) }
-    ensures begun { OnErr result (HasBegun (V.rule verdicts.old) (I.coming input.old) (I.coming input.new) (O.taken output.old) (O.taken output.new)) }
-    ensures read_all { IsErrOf result RunFault.Read → HasWrittenLines (V.rule verdicts.old) (I.coming input.old) (I.coming input.new) (O.taken output.old) (O.taken output.new) }
-    ensures read { IsErrOf result RunFault.Read ↔ (I.has_failed input.new ≡ true) }
-    ensures write { IsErrOf result RunFault.Write → O.has_failed output.new ≡ true }
+    ensures runs { Runs (V.rule verdicts.old)
+        (devices (I.told input.old) (I.told input.new) (O.told output.old) (O.told output.new))
+        result }
     ensures rule { V.rule verdicts.new ≡ V.rule verdicts.old }
 {
     let mut kept = Kept {
@@ -276,13 +293,9 @@ pub fn run<V: Verdicts, I: Source, O: Sink>(
     output: &mut O,
 ) -> Result<Summary, RunFault>
     requires fresh { V.HasAnswered verdicts.old [] }
-    ensures ok { IfOk result (HasRun (V.rule verdicts.old) (I.coming input.old) (I.coming input.new) (O.taken output.old) (O.taken output.new)) }
-    ensures known { IfOk result (λ summary. IfSome (I.coming input.old) (IsAnswered (V.rule verdicts.old) (I.coming input.new) (O.taken output.old) (O.taken output.new) summary)) }
-    ensures sound { OnOk result ((I.has_failed input.new ≡ false) × (O.has_failed output.new ≡ false)) }
-    ensures begun { OnErr result (HasBegun (V.rule verdicts.old) (I.coming input.old) (I.coming input.new) (O.taken output.old) (O.taken output.new)) }
-    ensures read_all { IsErrOf result RunFault.Read → HasWrittenLines (V.rule verdicts.old) (I.coming input.old) (I.coming input.new) (O.taken output.old) (O.taken output.new) }
-    ensures read { IsErrOf result RunFault.Read ↔ (I.has_failed input.new ≡ true) }
-    ensures write { IsErrOf result RunFault.Write → O.has_failed output.new ≡ true }
+    ensures runs { Runs (V.rule verdicts.old)
+        (devices (I.told input.old) (I.told input.new) (O.told output.old) (O.told output.new))
+        result }
     ensures rule { V.rule verdicts.new ≡ V.rule verdicts.old }
 {
     let mut buffer = [0u8; 4096];

@@ -1,6 +1,7 @@
 // The devices of the engine, over a reader and a writer of std.
 
 ghost use Rattle.std.specs.Prelude.{◌≡◌, ◌-◌, ◌^◌, false};
+ghost use Rattle.line_engine.specs.Device.{told};
 
 use crate::device::{Failed, Sink, Source};
 use std::io::{Read, Write};
@@ -18,9 +19,8 @@ impl<R: Read> Input<R> {
     /// Has not failed.
     pub fn new(inner: R) -> Input<R>
         ensures inner { result.inner ≡ inner }
-        ensures coming { ⟦<Input<R> as Source>⟧.coming result ≡ R.remaining inner }
+        ensures told { ⟦<Input<R> as Source>⟧.told result ≡ told (R.remaining inner) false }
         ensures left { ⟦<Input<R> as Source>⟧.left result ≡ 2 ^ 64 - 1 }
-        ensures sound { ⟦<Input<R> as Source>⟧.has_failed result ≡ false }
     {
         Input {
             inner,
@@ -32,7 +32,7 @@ impl<R: Read> Input<R> {
     /// The reader, behind the bytes that were read.
     pub fn into_inner(self) -> R
         ensures inner { result ≡ self.inner }
-        ensures remaining { R.remaining result ≡ ⟦<Input<R> as Source>⟧.coming self }
+        ensures remaining { R.remaining result ≡ (⟦<Input<R> as Source>⟧.told self).bytes }
     {
         let Input {
             inner,
@@ -44,11 +44,9 @@ impl<R: Read> Input<R> {
 }
 
 impl<R: Read> Source for Input<R> {
-    ghost coming = { λ input. R.remaining input.inner };
+    ghost told = { λ input. told (R.remaining input.inner) input.has_failed };
 
     ghost left = { λ input. input.left };
-
-    ghost has_failed = { λ input. input.has_failed };
 
     fn read(&mut self, buffer: &mut [u8]) -> Result<usize, Failed> {
         if self.has_failed || (self.left == 0 && !buffer.is_empty()) {
@@ -85,8 +83,7 @@ impl<W: Write> Output<W> {
     /// Has not failed.
     pub fn new(inner: W) -> Output<W>
         ensures inner { result.inner ≡ inner }
-        ensures taken { ⟦<Output<W> as Sink>⟧.taken result ≡ W.contents inner }
-        ensures sound { ⟦<Output<W> as Sink>⟧.has_failed result ≡ false }
+        ensures told { ⟦<Output<W> as Sink>⟧.told result ≡ told (W.contents inner) false }
     {
         Output {
             inner,
@@ -97,7 +94,7 @@ impl<W: Write> Output<W> {
     /// The writer, with the bytes that it took.
     pub fn into_inner(self) -> W
         ensures inner { result ≡ self.inner }
-        ensures contents { W.contents result ≡ ⟦<Output<W> as Sink>⟧.taken self }
+        ensures contents { W.contents result ≡ (⟦<Output<W> as Sink>⟧.told self).bytes }
     {
         let Output {
             inner,
@@ -108,9 +105,7 @@ impl<W: Write> Output<W> {
 }
 
 impl<W: Write> Sink for Output<W> {
-    ghost taken = { λ output. W.contents output.inner };
-
-    ghost has_failed = { λ output. output.has_failed };
+    ghost told = { λ output. told (W.contents output.inner) output.has_failed };
 
     fn write(&mut self, bytes: &[u8]) -> Result<usize, Failed> {
         if self.has_failed {

@@ -19,10 +19,12 @@ pub trait Verdicts {
         ensures text { OnOk result (text.new.items ≡ text.old.items ++ (rule self.old).text line.now) }
         ensures refuses { IfOk result (λ refused. refused ≡ (rule self.old).refuses line.now) }
         ensures rule { rule self.new ≡ rule self.old }
-        ensures answered { OnOk result ((lines : List (List ℕ)) → HasAnswered self.old lines → HasAnswered self.new (lines ++ line.now ∷ [])) };
+        ensures answered { OnOk result ((lines : List (List ℕ)) →
+            HasAnswered self.old lines → HasAnswered self.new (lines ++ line.now ∷ [])) };
 
     /// Appends what stands behind all answers, if anything does.
     fn close(&mut self, alloc: Global, text: &mut Vec<u8>) -> Result<(), AllocError>
-        ensures text { OnOk result ((lines : List (List ℕ)) → HasAnswered self.old lines → text.new.items ≡ text.old.items ++ (rule self.old).closing lines) }
+        ensures text { OnOk result ((lines : List (List ℕ)) → HasAnswered self.old lines →
+            text.new.items ≡ text.old.items ++ (rule self.old).closing lines) }
         ensures rule { rule self.new ≡ rule self.old };
 }

@@ -8,6 +8,7 @@ pub mod Selections
 pub mod Asking
 pub mod Places
 pub mod Chosen
+pub mod Doubles
 pub mod Told
 pub mod Telling
 pub mod PlacedNodes

@@ -12,4 +12,5 @@ pub mod Growing
 pub mod Judged
 pub mod Judging
 pub mod Laws
+pub mod Doubles
 pub mod Minimized

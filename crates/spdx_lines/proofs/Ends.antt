@@ -1,21 +1,25 @@
 -- How a program that has not come to its end may end, where what it has to tell finds no memory.
-use Rattle.std.proofs.Common.{◌≡◌, ℕ, ◌-◌, drop, take, length, ap, ◌∙◌, arith, OnOk, OnErr, Bool, true, false, Option, Some, None, List, [], ◌∷◌, Result, Ok, Err, refl, sym, subst, append-nil}
+use Rattle.std.proofs.Common.{◌≡◌, ℕ, ◌-◌, drop, take, length, ap, ◌∙◌, arith, OnOk, OnErr, Bool, true, false, Option, Some, None, List, [], ◌∷◌, Result, Ok, Err, refl, sym, subst, append-nil, cond}
 use Rattle.std.proofs.lemmas.Bool.{false≢true}
 use Rattle.std.specs.Borrow.{Bor}
 use Rattle.std.specs.Result.{IsErrAnd}
 use Rattle.std.specs.Io.KnownBytes.{Keeps, Appends, Consumes}
 use Rattle.line_engine.specs.declared.lines.Summary.{Summary}
+use Rattle.line_engine.specs.declared.lines.RunFault.{RunFault}
 use Rattle.line_engine.specs.declared.lines.RunFault.TheVariants.{Read, Write, Memory}
+use Rattle.line_engine.specs.Device.{Told, Devices, devices}
 use Rattle.line_engine.specs.Rule.{Rule}
-use Rattle.line_engine.specs.Progress.{HasBegun, HasWrittenLines}
+use Rattle.line_engine.specs.Progress.{HasBegun}
+use Rattle.line_engine.specs.Runs.{Runs}
 use Rattle.spdx_catalogue.specs.Rows.{Rows}
 use Rattle.spdx_catalogue.specs.Items.{Requirement}
 use Rattle.spdx_catalogue.specs.declared.error.ReadFault.{ReadFault}
-use Rattle.spdx_lines.specs.declared.lines.LineMode.{LineMode}
 use Rattle.spdx_lines.specs.declared.program.Stop.{Stop}
+use Rattle.spdx_lines.specs.declared.program.Task.{Task}
 use Rattle.spdx_lines.specs.declared.program.Stop.TheVariants as stop
-use Rattle.spdx_lines.specs.Program.{Refusal, Usage, Unreadable, NoCatalogue, texts_of, mode_in, catalogue_of, with_licensees, with_rows, with_mode, with_words, plan_of}
-use Rattle.spdx_lines.specs.Ending.{Ending, Refused, Devices, HasMovedNothing, BreaksOff, Ends, StopsAt, stopped, ending_of}
+use Rattle.spdx_lines.specs.Program.{Refusal, Usage, Unreadable, NoCatalogue, texts_of, task_in, catalogue_of, task_rule, with_licensees, with_rows, with_task, with_words, plan_of}
+use Rattle.spdx_lines.specs.Lines.{rule_of, rule_of_all}
+use Rattle.spdx_lines.specs.Ending.{Ending, Refused, HasMovedNothing, BreaksOff, RunsSo, Ends, StopsAt, stopped, run_ending, ending_of}
 
 pub keeps_all : (old : Option (List ℕ)) → Keeps old old
 keeps_all None = tt
@@ -36,13 +40,13 @@ appends_none (Some bytes) None h = absurd h
 appends_none (Some bytes) (Some others) h = h ∙ sym (append-nil bytes)
 
 -- nothing was read yet
-begun_nothing : (rule : Rule) (d : Devices) → HasMovedNothing d → HasBegun rule d.coming d.coming' d.taken d.taken'
+begun_nothing : (rule : Rule) (d : Devices) → HasMovedNothing d → HasBegun rule d
 begun_nothing rule d h = record {
   bytes = [];
-  read = consumes_nothing d.coming d.coming' h.0;
+  read = consumes_nothing d.input.bytes d.input'.bytes h.0;
   is_ended = false;
   ended = λ e. absurd (false≢true e);
-  written = record { begun = []; others = []; whole = refl; appended = appends_none d.taken d.taken' h.1 };
+  written = record { begun = []; others = []; whole = refl; appended = appends_none d.output.bytes d.output'.bytes h.1 };
 }
 
 -- memory was wanted before the run
@@ -51,39 +55,57 @@ early (Ok rule) d h = begun_nothing rule d h
 early (Err refusal) d h = h
 
 -- the licensees are refused, or memory was wanted for them
-stops_before : (c : Rows) (mode : LineMode) (r : Result (List Requirement) Refusal) (d : Devices) → HasMovedNothing d → (s : Stop) → StopsAt r s → Ends (with_licensees c mode r) d (stopped s)
-stops_before c mode r d moved stop.Usage h = (ap (with_licensees c mode) h, moved)
-stops_before c mode r d moved stop.Unreadable h = (ap (with_licensees c mode) h, moved)
-stops_before c mode r d moved (stop.Catalogue fault) h = (ap (with_licensees c mode) h, moved)
-stops_before c mode r d moved (stop.Licensee n error) h = (ap (with_licensees c mode) h, moved)
-stops_before c mode r d moved (stop.Run Read) h = absurd h
-stops_before c mode r d moved (stop.Run Write) h = absurd h
-stops_before c mode r d moved (stop.Run Memory) h = early (with_licensees c mode r) d moved
+stops_before : (c : Rows) (task : Task) (r : Result (List Requirement) Refusal) (d : Devices) → HasMovedNothing d → (s : Stop) → StopsAt r s → Ends (with_licensees c task r) d (stopped s)
+stops_before c task r d moved stop.Usage h = (ap (with_licensees c task) h, moved)
+stops_before c task r d moved stop.Unreadable h = (ap (with_licensees c task) h, moved)
+stops_before c task r d moved (stop.Catalogue fault) h = (ap (with_licensees c task) h, moved)
+stops_before c task r d moved (stop.Licensee n error) h = (ap (with_licensees c task) h, moved)
+stops_before c task r d moved (stop.Run Read) h = absurd h
+stops_before c task r d moved (stop.Run Write) h = absurd h
+stops_before c task r d moved (stop.Run Memory) h = early (with_licensees c task r) d moved
 
 -- devices that nothing was asked of
-abbrev still : Option (List ℕ) → Bool → Option (List ℕ) → Bool → Devices
-still coming input_failed taken output_failed = record { coming = coming; coming' = coming; input_failed = input_failed; taken = taken; taken' = taken; output_failed = output_failed }
+abbrev still : Told → Told → Devices
+still input output = devices input input output output
 
-pub stopped_early : (c : Rows) (mode : LineMode) (r : Result (List Requirement) Refusal) (coming : Option (List ℕ)) (input_failed : Bool) (taken : Option (List ℕ)) (output_failed : Bool) (e : Ending) (s : Stop) →
-    e ≡ stopped s → StopsAt r s → Ends (with_licensees c mode r) (still coming input_failed taken output_failed) e
-stopped_early c mode r coming input_failed taken output_failed e s is h =
-    subst (λ x. Ends (with_licensees c mode r) (still coming input_failed taken output_failed) x) (sym is)
-    (stops_before c mode r (still coming input_failed taken output_failed) (keeps_all coming, keeps_all taken) s h)
+pub still_moved : (input output : Told) → HasMovedNothing (still input output)
+still_moved input output = (keeps_all input.bytes, keeps_all output.bytes)
 
-pub memory_wanted : (plan : Result Rule Refusal) (coming : Option (List ℕ)) (input_failed : Bool) (taken : Option (List ℕ)) (output_failed : Bool) (s : Stop) →
-    s ≡ stop.Run Memory → Ends plan (still coming input_failed taken output_failed) (stopped s)
-memory_wanted plan coming input_failed taken output_failed s is =
-    subst (λ x. Ends plan (still coming input_failed taken output_failed) (stopped x)) (sym is) (early plan (still coming input_failed taken output_failed) (keeps_all coming, keeps_all taken))
+pub stopped_early : (c : Rows) (task : Task) (r : Result (List Requirement) Refusal) (input output : Told) (e : Ending) (s : Stop) →
+    e ≡ stopped s → StopsAt r s → Ends (with_licensees c task r) (still input output) e
+stopped_early c task r input output e s is h =
+    subst (λ x. Ends (with_licensees c task r) (still input output) x) (sym is)
+    (stops_before c task r (still input output) (still_moved input output) s h)
+
+pub memory_wanted : (plan : Result Rule Refusal) (input output : Told) (s : Stop) → s ≡ stop.Run Memory → Ends plan (still input output) (stopped s)
+memory_wanted plan input output s is = subst (λ x. Ends plan (still input output) (stopped x)) (sym is) (early plan (still input output) (still_moved input output))
+
+-- ---- the run
+
+-- a run of the rule that is planned ends as it says
+pub ran : (plan : Result Rule Refusal) (rule : Rule) (d : Devices) (result : Result Summary RunFault) → plan ≡ Ok rule → Runs rule d result → Ends plan d (run_ending result)
+ran plan rule d (Ok summary) e h = record { rule = rule; planned = e; runs = h }
+ran plan rule d (Err Read) e h = record { rule = rule; planned = e; runs = h }
+ran plan rule d (Err Write) e h = record { rule = rule; planned = e; runs = h }
+ran plan rule d (Err Memory) e h = subst (λ p. BreaksOff p d) (sym e) h.begun
+
+-- ---- the rule that is asked for
+
+pub each_rule : (c : Rows) (task : Task) (accepted : List Requirement) → task.is_joint ≡ false → task_rule c task accepted ≡ rule_of c task.mode accepted
+each_rule c task accepted e = ap (λ b. cond b (rule_of_all c task.mode accepted) (rule_of c task.mode accepted)) e
+
+pub joint_rule : (c : Rows) (task : Task) (accepted : List Requirement) → task.is_joint ≡ true → task_rule c task accepted ≡ rule_of_all c task.mode accepted
+joint_rule c task accepted e = ap (λ b. cond b (rule_of_all c task.mode accepted) (rule_of c task.mode accepted)) e
 
 -- ---- what the words say
 
-pub plan_is : (words : Option (Bor (List (Bor (List ℕ))))) (catalogue : Option (Bor (List ℕ))) (w : Bor (List (Bor (List ℕ)))) (mode : LineMode) (b : Bor (List ℕ)) (r : Result Rows ReadFault) →
-    words ≡ Some w → mode_in (texts_of w.now) ≡ Some mode → catalogue ≡ Some b → catalogue_of b.now ≡ r → plan_of words catalogue ≡ with_rows mode (drop 2 (texts_of w.now)) r
-plan_is words catalogue w mode b r p q s t =
+pub plan_is : (words : Option (Bor (List (Bor (List ℕ))))) (catalogue : Option (Bor (List ℕ))) (w : Bor (List (Bor (List ℕ)))) (task : Task) (b : Bor (List ℕ)) (r : Result Rows ReadFault) →
+    words ≡ Some w → task_in (texts_of w.now) ≡ Some task → catalogue ≡ Some b → catalogue_of b.now ≡ r → plan_of words catalogue ≡ with_rows task (drop 2 (texts_of w.now)) r
+plan_is words catalogue w task b r p q s t =
     ap (λ x. plan_of x catalogue) p
     ∙ ap (λ x. with_words (texts_of w.now) x catalogue) q
-    ∙ ap (λ x. with_mode mode (drop 2 (texts_of w.now)) x) s
-    ∙ ap (λ x. with_rows mode (drop 2 (texts_of w.now)) x) t
+    ∙ ap (λ x. with_task task (drop 2 (texts_of w.now)) x) s
+    ∙ ap (λ x. with_rows task (drop 2 (texts_of w.now)) x) t
 
 take_all : {A : Type 0} (xs : List A) → take (length xs) xs ≡ xs
 take_all [] = refl
@@ -111,17 +133,10 @@ unless_failed (Err e) P b p q n = absurd (false≢true (sym n ∙ q))
 -- ---- memory is wanted for the line
 
 module _ (plan : Result Rule Refusal) (d : Devices) where
-  written : (rule : Rule) → HasWrittenLines rule d.coming d.coming' d.taken d.taken' → HasBegun rule d.coming d.coming' d.taken d.taken'
-  written rule h = record {
-    bytes = h.bytes;
-    read = h.read;
-    is_ended = false;
-    ended = λ e. absurd (false≢true e);
-    written = record { begun = _; others = []; whole = sym (append-nil _); appended = h.written };
-  }
-
-  of_rule : (rule : Rule) → plan ≡ Ok rule → HasBegun rule d.coming d.coming' d.taken d.taken' → BreaksOff plan d
-  of_rule rule e h = subst (λ p. BreaksOff p d) (sym e) h
+  of_run : (result : Result Summary RunFault) → RunsSo plan d result → (fault : RunFault) → result ≡ Err fault → BreaksOff plan d
+  of_run result h fault e =
+      let b : OnErr {T = Summary} (Err fault) (HasBegun h.rule d) = subst (λ r. OnErr r (HasBegun h.rule d)) e h.runs.begun in
+      subst (λ p. BreaksOff p d) (sym h.planned) b
 
   of_refusal : (refusal : Refusal) → Ends plan d (Refused refusal) → BreaksOff plan d
   of_refusal refusal h = subst (λ p. BreaksOff p d) (sym h.0) h.1
@@ -132,6 +147,6 @@ module _ (plan : Result Rule Refusal) (d : Devices) where
   breaks_off stop.Unreadable h = of_refusal Unreadable h
   breaks_off (stop.Catalogue fault) h = of_refusal (NoCatalogue fault) h
   breaks_off (stop.Licensee n error) h = of_refusal _ h
-  breaks_off (stop.Run Read) h = of_rule h.0 h.1 (written h.0 h.2)
-  breaks_off (stop.Run Write) h = of_rule h.0 h.1 h.2
+  breaks_off (stop.Run Read) h = of_run (Err Read) h Read refl
+  breaks_off (stop.Run Write) h = of_run (Err Write) h Write refl
   breaks_off (stop.Run Memory) h = h

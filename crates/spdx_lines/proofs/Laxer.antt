@@ -15,7 +15,7 @@ use Rattle.spdx_canonical.specs.Canonical.{canonical_text, canonical_of}
 use Rattle.spdx_canonical.proofs.Neighbours.{apart}
 use Rattle.spdx_canonical.proofs.Sound.{has_text}
 use Rattle.spdx_lines.specs.declared.lines.LineMode.{LineMode}
-use Rattle.spdx_lines.specs.declared.lines.LineMode.TheVariants.{Strict, Lax}
+use Rattle.spdx_lines.specs.declared.lines.LineMode.TheVariants.{Strict, Lax, Normal}
 use Rattle.spdx_lines.specs.Verdict.{parse_mode}
 
 -- ---- one word
@@ -100,6 +100,7 @@ reads_same c text = items_same c (length text) 0 text
 reads_loosely : (c : Rows) (mode : LineMode) (text : List ℕ) → Same (reading c (parse_mode mode) 0 text) (reading c lax 0 text)
 reads_loosely c Strict text = reads_same c text
 reads_loosely c Lax text = λ read e. e
+reads_loosely c Normal text = reads_same c text
 
 said_words : (read : List Placed) → map said (map Ok read) ≡ map {B = Result Word Fault} Ok (words read)
 said_words [] = refl

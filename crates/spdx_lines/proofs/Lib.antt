@@ -4,6 +4,7 @@ pub mod Outcome
 pub mod Laxer
 pub mod Verdict
 pub mod Answered
+pub mod Keeping
 pub mod Catalogue
 pub mod Licensee
 pub mod Licensees

@@ -1,11 +1,13 @@
 -- How a program ends.
-use Rattle.std.specs.Prelude.{◌≡◌, ℕ, ◌==◌, if◌then◌else◌, Bool, true, false, Option, Result, Ok, Err, List, [], codes}
-use Rattle.std.specs.Io.KnownBytes.{Keeps}
+use Rattle.std.specs.Prelude.{◌≡◌, ℕ, ◌==◌, if◌then◌else◌, Result, Ok, Err, List, [], false, codes}
+use Rattle.std.specs.Io.KnownBytes.{Keeps, Appends}
 use Rattle.line_engine.specs.declared.lines.Summary.{Summary}
 use Rattle.line_engine.specs.declared.lines.RunFault.{RunFault}
 use Rattle.line_engine.specs.declared.lines.RunFault.TheVariants.{Read, Write, Memory}
 use Rattle.line_engine.specs.Rule.{Rule}
-use Rattle.line_engine.specs.Progress.{HasRun, HasBegun, HasWrittenLines}
+use Rattle.line_engine.specs.Device.{Told, Devices}
+use Rattle.line_engine.specs.Progress.{HasBegun}
+use Rattle.line_engine.specs.Runs.{Runs}
 use Rattle.spdx_lexer.specs.Faults.{fault_of}
 use Rattle.spdx_lexer.specs.Code.{span_of}
 use Rattle.spdx_lines.specs.declared.program.Stop.{Stop}
@@ -18,29 +20,26 @@ pub data Ending : Type 0 where
   Broken : RunFault → Ending
   Refused : Refusal → Ending
 
--- what the devices of a run tell, before and after it
-pub record Devices : Type 0 where
-  pub coming : Option (List ℕ)
-  pub coming' : Option (List ℕ)
-  pub input_failed : Bool
-  pub taken : Option (List ℕ)
-  pub taken' : Option (List ℕ)
-  pub output_failed : Bool
-
 abbrev pub HasMovedNothing : Devices → Type 0
-HasMovedNothing d = Keeps d.coming d.coming' × Keeps d.taken d.taken'
+HasMovedNothing d = Keeps d.input.bytes d.input'.bytes × Keeps d.output.bytes d.output'.bytes
 
 -- memory may be wanted before the run and in it
 abbrev pub BreaksOff : Result Rule Refusal → Devices → Type 0
-BreaksOff (Ok rule) d = HasBegun rule d.coming d.coming' d.taken d.taken'
+BreaksOff (Ok rule) d = HasBegun rule d
 BreaksOff (Err refusal) d = HasMovedNothing d
 
--- Done: no device has failed, all of the input was read, and its output was written. Broken: the input or the output
--- has failed, or memory was wanted, and a beginning of the output was written. Refused: nothing was read or written.
+-- the plan is a rule, and its run ended so
+pub record RunsSo (plan : Result Rule Refusal) (d : Devices) (result : Result Summary RunFault) : Type 0 where
+  pub rule : Rule
+  pub planned : plan ≡ Ok rule
+  pub runs : Runs rule d result
+
+-- Done: the run came to its end. Broken: the input or the output has failed, or memory was wanted, and a beginning of
+-- the output was written. Refused: nothing was read or written.
 abbrev pub Ends : Result Rule Refusal → Devices → Ending → Type 0
-Ends plan d (Done summary) = (rule : Rule) × (plan ≡ Ok rule) × HasRun rule d.coming d.coming' d.taken d.taken' summary × (d.input_failed ≡ false) × (d.output_failed ≡ false)
-Ends plan d (Broken Read) = (rule : Rule) × (plan ≡ Ok rule) × HasWrittenLines rule d.coming d.coming' d.taken d.taken' × (d.input_failed ≡ true)
-Ends plan d (Broken Write) = (rule : Rule) × (plan ≡ Ok rule) × HasBegun rule d.coming d.coming' d.taken d.taken' × (d.output_failed ≡ true)
+Ends plan d (Done summary) = RunsSo plan d (Ok summary)
+Ends plan d (Broken Read) = RunsSo plan d (Err Read)
+Ends plan d (Broken Write) = RunsSo plan d (Err Write)
 Ends plan d (Broken Memory) = BreaksOff plan d
 Ends plan d (Refused refusal) = (plan ≡ Err refusal) × HasMovedNothing d
 
@@ -56,6 +55,10 @@ ending_line (Broken Read) = codes "read fault\n"
 ending_line (Broken Write) = codes "write fault\n"
 ending_line (Broken Memory) = codes "out of memory\n"
 ending_line (Refused refusal) = refusal_line refusal
+
+-- this is told, unless the device has failed
+abbrev pub Tells : Told → Told → List ℕ → Type 0
+Tells old new line = new.has_failed ≡ false → Appends old.bytes new.bytes line
 
 -- what the program's own type says, what it borrows aside
 abbrev pub stopped : Stop → Ending
@@ -73,6 +76,11 @@ StopsAt plan stop.Usage = plan ≡ Err Usage
 StopsAt plan stop.Unreadable = plan ≡ Err Unreadable
 StopsAt plan (stop.Catalogue fault) = plan ≡ Err (NoCatalogue fault)
 StopsAt plan (stop.Licensee n error) = plan ≡ Err (NoLicensee n (fault_of error.reason) (span_of error.span))
+
+-- how a run ends
+abbrev pub run_ending : Result Summary RunFault → Ending
+run_ending (Ok summary) = Done summary
+run_ending (Err fault) = Broken fault
 
 abbrev pub ending_of : Result Summary Stop → Ending
 ending_of (Ok summary) = Done summary

@@ -1,5 +1,5 @@
 -- What the words and the catalogue's bytes of a program make.
-use Rattle.std.specs.Prelude.{◌≡◌, ℕ, ◌+◌, ◌++◌, List, [], ◌∷◌, length, drop, map, Option, None, Some, Result, Ok, Err, if◌then◌else◌, codes, slice_get, option_and_then, bytes_eq, MatchResult}
+use Rattle.std.specs.Prelude.{◌≡◌, ℕ, ◌+◌, ◌++◌, List, [], ◌∷◌, length, drop, map, Bool, true, false, Option, None, Some, Result, Ok, Err, if◌then◌else◌, codes, slice_get, option_and_then, bytes_eq, MatchResult}
 use Rattle.std.specs.Str.{is_utf8}
 use Rattle.std.specs.Fmt.{decimal}
 use Rattle.std.specs.Borrow.{Bor}
@@ -18,9 +18,10 @@ use Rattle.spdx_lexer.specs.Reading.{reading}
 use Rattle.spdx_licensee.specs.Named.{Names, IsFaultOf}
 use Rattle.spdx_licensee.specs.Answers.{licensee_at}
 use Rattle.spdx_lines.specs.declared.lines.LineMode.{LineMode}
-use Rattle.spdx_lines.specs.declared.lines.LineMode.TheVariants.{Strict, Lax}
+use Rattle.spdx_lines.specs.declared.lines.LineMode.TheVariants.{Strict, Lax, Normal}
+use Rattle.spdx_lines.specs.declared.program.Task.{Task}
 use Rattle.spdx_lines.specs.Verdict.{refusal_text}
-use Rattle.spdx_lines.specs.Lines.{rule_of}
+use Rattle.spdx_lines.specs.Lines.{rule_of, rule_of_all}
 
 -- why there is no run; licensees are counted from 1
 pub data Refusal : Type 0 where
@@ -32,14 +33,22 @@ pub data Refusal : Type 0 where
 abbrev pub texts_of : List (Bor (List ℕ)) → List (List ℕ)
 texts_of words = map (λ (word : Bor (List ℕ)). word.now) words
 
--- ---- the mode
+-- ---- the mode word
 
-abbrev pub read_mode : List ℕ → Option LineMode
-read_mode text = if bytes_eq text (codes "strict") then Some Strict else (if bytes_eq text (codes "lax") then Some Lax else None)
+abbrev pub asks : LineMode → Bool → Option Task
+asks mode is_joint = Some (record { mode = mode; is_joint = is_joint })
+
+abbrev pub read_task : List ℕ → Option Task
+read_task text =
+    if bytes_eq text (codes "strict") then asks Strict false else
+    (if bytes_eq text (codes "lax") then asks Lax false else
+    (if bytes_eq text (codes "strict-all") then asks Strict true else
+    (if bytes_eq text (codes "lax-all") then asks Lax true else
+    (if bytes_eq text (codes "normal") then asks Normal false else None))))
 
 -- the second word names it
-abbrev pub mode_in : List (List ℕ) → Option LineMode
-mode_in texts = option_and_then read_mode (slice_get texts 1)
+abbrev pub task_in : List (List ℕ) → Option Task
+task_in texts = option_and_then read_task (slice_get texts 1)
 
 -- ---- the catalogue
 
@@ -84,32 +93,35 @@ licensees_from c n (text ∷ texts) = licensee_before n (licensee_of c text) (li
 
 -- ---- together
 
-abbrev pub with_licensees : Rows → LineMode → Result (List Requirement) Refusal → Result Rule Refusal
-with_licensees c mode (Ok accepted) = Ok (rule_of c mode accepted)
-with_licensees c mode (Err refusal) = Err refusal
+abbrev pub task_rule : Rows → Task → List Requirement → Rule
+task_rule c task accepted = if task.is_joint then rule_of_all c task.mode accepted else rule_of c task.mode accepted
 
-abbrev pub with_rows : LineMode → List (List ℕ) → Result Rows ReadFault → Result Rule Refusal
-with_rows mode texts (Ok c) = with_licensees c mode (licensees_from c 1 texts)
-with_rows mode texts (Err fault) = Err (NoCatalogue fault)
+abbrev pub with_licensees : Rows → Task → Result (List Requirement) Refusal → Result Rule Refusal
+with_licensees c task (Ok accepted) = Ok (task_rule c task accepted)
+with_licensees c task (Err refusal) = Err refusal
 
-abbrev pub with_mode : LineMode → List (List ℕ) → Option (Bor (List ℕ)) → Result Rule Refusal
-with_mode mode texts (Some bytes) = with_rows mode texts (catalogue_of bytes.now)
-with_mode mode texts None = Err Unreadable
+abbrev pub with_rows : Task → List (List ℕ) → Result Rows ReadFault → Result Rule Refusal
+with_rows task texts (Ok c) = with_licensees c task (licensees_from c 1 texts)
+with_rows task texts (Err fault) = Err (NoCatalogue fault)
 
-abbrev pub with_words : List (List ℕ) → Option LineMode → Option (Bor (List ℕ)) → Result Rule Refusal
-with_words texts (Some mode) catalogue = with_mode mode (drop 2 texts) catalogue
+abbrev pub with_task : Task → List (List ℕ) → Option (Bor (List ℕ)) → Result Rule Refusal
+with_task task texts (Some bytes) = with_rows task texts (catalogue_of bytes.now)
+with_task task texts None = Err Unreadable
+
+abbrev pub with_words : List (List ℕ) → Option Task → Option (Bor (List ℕ)) → Result Rule Refusal
+with_words texts (Some task) catalogue = with_task task (drop 2 texts) catalogue
 with_words texts None catalogue = Err Usage
 
 -- The rule of a run: by the mode, the catalogue and the licensees that the words and the bytes name. Or the first of
 -- them that is refused, in this order.
 abbrev pub plan_of : Option (Bor (List (Bor (List ℕ)))) → Option (Bor (List ℕ)) → Result Rule Refusal
-plan_of (Some words) catalogue = with_words (texts_of words.now) (mode_in (texts_of words.now)) catalogue
+plan_of (Some words) catalogue = with_words (texts_of words.now) (task_in (texts_of words.now)) catalogue
 plan_of None catalogue = Err Usage
 
 -- ---- what is told of it
 
 abbrev pub refusal_line : Refusal → List ℕ
-refusal_line Usage = codes "usage: spdx_lines CATALOGUE strict|lax [LICENSEE]..\n"
+refusal_line Usage = codes "usage: spdx_lines CATALOGUE strict|lax|strict-all|lax-all|normal [LICENSEE]..\n"
 refusal_line Unreadable = codes "catalogue: unreadable\n"
 refusal_line (NoCatalogue fault) = codes "catalogue: " ++ (read_text fault ++ 10 ∷ [])
 refusal_line (NoLicensee n fault s) = codes "licensee " ++ (decimal n ++ (codes ": " ++ (refusal_text fault s ++ 10 ∷ [])))

@@ -1,7 +1,7 @@
 -- What is said of a line.
 use Rattle.std.specs.Prelude.{◌≡◌, ℕ, Bool, true, false, List, [], ◌∷◌, ◌++◌, map, Result, Ok, Err, if◌then◌else◌, codes, unwrap_or, IsUtf8}
 use Rattle.std.specs.Str.{is_utf8}
-use Rattle.std.specs.List.{join_by}
+use Rattle.std.specs.List.{flat_map, join_by}
 use Rattle.std.specs.Result.{result_ok}
 use Rattle.std.specs.Fmt.{decimal}
 use Rattle.spdx_catalogue.specs.Rows.{Rows}
@@ -17,14 +17,15 @@ use Rattle.spdx_parser.specs.Grammar.{IsTheTree}
 use Rattle.spdx_parser.specs.Spans.{Placed, words}
 use Rattle.spdx_parser.specs.Faults.{IsFaultOf}
 use Rattle.spdx_canonical.specs.Canonical.{canonical_of}
+use Rattle.spdx_normal.specs.Normal.{normal_text}
 use Rattle.spdx.specs.Choice.{Choice, chosen, too_many, unmet, choice_of}
 use Rattle.spdx_lines.specs.declared.lines.LineMode.{LineMode}
-use Rattle.spdx_lines.specs.declared.lines.LineMode.TheVariants.{Strict, Lax}
+use Rattle.spdx_lines.specs.declared.lines.LineMode.TheVariants.{Strict, Lax, Normal}
 use Rattle.spdx_lines.specs.Outcome.{Outcome, outcome}
 
--- an accepted line has a canonical text and a choice among the accepted licensees; a refused one a fault and its place
+-- an accepted line has a tree, and a text of it as its second column; a refused one a fault and its place
 pub data Verdict : Type 0 where
-  Accepted : List ℕ → Choice → Verdict
+  Accepted : Tree → List ℕ → Verdict
   Refused : Fault → Span → Verdict
   BadUtf8 : Verdict
 
@@ -32,28 +33,56 @@ pub data Verdict : Type 0 where
 abbrev pub parse_mode : LineMode → ParseMode
 parse_mode Strict = strict
 parse_mode Lax = lax
+parse_mode Normal = strict
+
+-- the second column of an accepted line: its canonical text, or the normal text of its tree
+abbrev pub IsColumn : Rows → LineMode → List ℕ → Tree → List ℕ → Type 0
+IsColumn c Strict line t column = canonical_of c line ≡ Ok column
+IsColumn c Lax line t column = canonical_of c line ≡ Ok column
+IsColumn c Normal line t column = column ≡ normal_text t
 
 -- ---- the verdict, by what the words mean
 
 -- A line that is text is accepted if the grammar derives a tree from its words, and no other; else it has a fault.
-pub data IsVerdict (c : Rows) (mode : LineMode) (accepted : List Requirement) (line : List ℕ) : Verdict → Type 0 where
-  is_accepted : (read : List Placed) (t : Tree) (canonical : List ℕ) → IsUtf8 line → reading c (parse_mode mode) 0 line ≡ map Ok read → IsTheTree c (parse_mode mode) (words read) t → canonical_of c line ≡ Ok canonical → IsVerdict c mode accepted line (Accepted canonical (choice_of (t ∷ []) accepted))
-  is_refused : (fault : Fault) (s : Span) → IsUtf8 line → IsFaultOf c (parse_mode mode) line fault s → IsVerdict c mode accepted line (Refused fault s)
-  is_no_text : ¬ (IsUtf8 line) → IsVerdict c mode accepted line BadUtf8
+pub data IsVerdict (c : Rows) (mode : LineMode) (line : List ℕ) : Verdict → Type 0 where
+  is_accepted : (read : List Placed) (t : Tree) (column : List ℕ) → IsUtf8 line → reading c (parse_mode mode) 0 line ≡ map Ok read → IsTheTree c (parse_mode mode) (words read) t → IsColumn c mode line t column → IsVerdict c mode line (Accepted t column)
+  is_refused : (fault : Fault) (s : Span) → IsUtf8 line → IsFaultOf c (parse_mode mode) line fault s → IsVerdict c mode line (Refused fault s)
+  is_no_text : ¬ (IsUtf8 line) → IsVerdict c mode line BadUtf8
 
 -- this is the verdict, and there is no other
-pub record IsTheVerdict (c : Rows) (mode : LineMode) (accepted : List Requirement) (line : List ℕ) (v : Verdict) : Type 0 where
-  pub given : IsVerdict c mode accepted line v
-  pub only : (other : Verdict) → IsVerdict c mode accepted line other → other ≡ v
+pub record IsTheVerdict (c : Rows) (mode : LineMode) (line : List ℕ) (v : Verdict) : Type 0 where
+  pub given : IsVerdict c mode line v
+  pub only : (other : Verdict) → IsVerdict c mode line other → other ≡ v
 
 -- ---- the verdict, found
 
-abbrev pub verdict_of : Result (List ℕ) (Fault × Span) → List Requirement → Outcome → Verdict
-verdict_of canonical accepted (Ok t) = Accepted (unwrap_or (result_ok canonical) []) (choice_of (t ∷ []) accepted)
-verdict_of canonical accepted (Err fault) = Refused fault.0 fault.1
+abbrev pub column : Rows → LineMode → List ℕ → Tree → List ℕ
+column c Strict line t = unwrap_or (result_ok (canonical_of c line)) []
+column c Lax line t = unwrap_or (result_ok (canonical_of c line)) []
+column c Normal line t = normal_text t
 
-unfoldable pub verdict : Rows → LineMode → List Requirement → List ℕ → Verdict
-verdict c mode accepted line = if is_utf8 line then verdict_of (canonical_of c line) accepted (outcome c (parse_mode mode) line) else BadUtf8
+abbrev pub verdict_of : (Tree → List ℕ) → Outcome → Verdict
+verdict_of column (Ok t) = Accepted t (column t)
+verdict_of column (Err fault) = Refused fault.0 fault.1
+
+unfoldable pub verdict : Rows → LineMode → List ℕ → Verdict
+verdict c mode line = if is_utf8 line then verdict_of (column c mode line) (outcome c (parse_mode mode) line) else BadUtf8
+
+-- a line that is no text counts as refused
+abbrev pub counts_as_refused : Verdict → Bool
+counts_as_refused (Accepted t text) = false
+counts_as_refused (Refused fault s) = true
+counts_as_refused BadUtf8 = true
+
+-- the tree, where there is one
+abbrev pub tree_in : Verdict → List Tree
+tree_in (Accepted t text) = t ∷ []
+tree_in (Refused fault s) = []
+tree_in BadUtf8 = []
+
+-- the trees of the accepted ones of these lines
+abbrev pub accepted_trees : Rows → LineMode → List (List ℕ) → List Tree
+accepted_trees c mode lines = flat_map (λ line. tree_in (verdict c mode line)) lines
 
 -- ---- its text
 
@@ -66,14 +95,19 @@ choice_text unmet = codes "unmet"
 abbrev pub refusal_text : Fault → Span → List ℕ
 refusal_text fault s = decimal s.from ++ (codes ".." ++ (decimal s.to ++ (codes " " ++ fault_text fault)))
 
--- the columns of an accepted line have a tab between them
-abbrev pub verdict_text : Verdict → List ℕ
-verdict_text (Accepted canonical choice) = codes "accepted" ++ (9 ∷ (canonical ++ (9 ∷ (choice_text choice ++ 10 ∷ []))))
-verdict_text (Refused fault s) = codes "refused " ++ (refusal_text fault s ++ 10 ∷ [])
-verdict_text BadUtf8 = codes "bad-utf8" ++ 10 ∷ []
+-- the columns of an accepted line have a tab between them, the first two of them and what its tree has behind
+abbrev pub verdict_text : (Tree → List ℕ) → Verdict → List ℕ
+verdict_text behind (Accepted t text) = codes "accepted" ++ (9 ∷ (text ++ (behind t ++ 10 ∷ [])))
+verdict_text behind (Refused fault s) = codes "refused " ++ (refusal_text fault s ++ 10 ∷ [])
+verdict_text behind BadUtf8 = codes "bad-utf8" ++ 10 ∷ []
 
--- a line that is no text counts as refused
-abbrev pub counts_as_refused : Verdict → Bool
-counts_as_refused (Accepted canonical choice) = false
-counts_as_refused (Refused fault s) = true
-counts_as_refused BadUtf8 = true
+-- a third column: the choice for the tree
+abbrev pub choice_column : List Requirement → Tree → List ℕ
+choice_column accepted t = 9 ∷ choice_text (choice_of (t ∷ []) accepted)
+
+abbrev pub no_column : Tree → List ℕ
+no_column t = []
+
+-- the line behind all others: the choice for all accepted ones
+abbrev pub all_text : Choice → List ℕ
+all_text choice = codes "all" ++ (9 ∷ (choice_text choice ++ 10 ∷ []))

@@ -1,13 +1,19 @@
 //! Verdicts on lines of licence expressions, and the program that gives them.
 #![tactic(auto)]
 
+mod all_lines;
+mod answer;
+mod each_line;
+mod kept;
 pub mod lines;
 pub mod program;
+#[cfg(test)]
+mod row_tests;
 #[cfg(test)]
 mod tests;
 mod text;
 
-pub use crate::lines::{LineMode, run, run_in};
+pub use crate::lines::{LineMode, run, run_all, run_all_in, run_in};
 pub use line_engine::device::{Failed, Sink, Source};
-pub use line_engine::lines::{RunFault, Summary};
+pub use line_engine::lines::{RunFault, Summary, write_all};
 pub use line_engine::stream::{Input, Output};

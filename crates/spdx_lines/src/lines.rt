@@ -1,17 +1,20 @@
 // Lines of expressions in, their verdicts out.
 
-ghost use Rattle.std.specs.Prelude.{◌≡◌, ◌↔◌, ℕ, ◌<◌, List, length, true, false, IfSome, IfOk, OnOk, OnErr, IsErrOf};
-ghost use Rattle.line_engine.specs.Progress.{HasRun, HasBegun, HasWrittenLines, IsAnswered};
+ghost use Rattle.std.specs.Prelude.{◌≡◌, ◌<◌, length};
+ghost use Rattle.line_engine.specs.Device.{devices};
+ghost use Rattle.line_engine.specs.Runs.{Runs};
+ghost use Rattle.line_engine.specs.Split.{SplitsAtLines};
+ghost use Rattle.spdx_lines.specs.Lines.{rule_of, rule_of_all, HaveVerdicts, ClosesAlike};
 ghost use Rattle.spdx_lines.specs.Verdict as spec;
-ghost use Rattle.spdx_lines.specs.Lines.{rule_of};
 
-use crate::text::{put_accepted, put_refused};
+use crate::all_lines::AllLines;
+use crate::each_line::EachLine;
+use crate::kept::Kept;
 use line_engine::device::{Sink, Source};
 use line_engine::lines as engine;
 use line_engine::lines::{RunFault, Summary};
-use line_engine::verdicts::Verdicts;
-use spdx::{Catalogue, Expression, Failure, Licensee, ParseMode};
-use std::alloc::{AllocError, Global};
+use spdx::{Catalogue, Licensee, ParseMode};
+use std::alloc::Global;
 
 /// How the lines are read.
 #[derive(Clone, Copy, PartialEq, Eq, Debug)]
@@ -20,57 +23,18 @@ pub enum LineMode {
     Strict,
     /// By `ParseMode::LAX`.
     Lax,
+    /// By `ParseMode::STRICT`, and the second column is the normal text in place of the canonical one.
+    Normal,
 }
 
 impl LineMode {
-    fn parse_mode(self) -> ParseMode
+    pub(crate) fn parse_mode(self) -> ParseMode
         ensures { result ≡ spec.parse_mode self }
     {
         match self {
-            LineMode::Strict => ParseMode::STRICT,
+            LineMode::Strict | LineMode::Normal => ParseMode::STRICT,
             LineMode::Lax => ParseMode::LAX,
         }
-    }
-}
-
-// Answers each line by itself.
-#[derive(Drop)]
-struct EachLine<'r, 'c> {
-    cat: &'c Catalogue,
-    mode: LineMode,
-    accepted: &'r [Licensee<'c>],
-}
-
-impl Verdicts for EachLine<'_, '_> {
-    ghost rule = { λ each. rule_of each.cat.now each.mode each.accepted.now };
-
-    ghost HasAnswered = { λ _ _. Unit {0} };
-
-    fn answer(
-        &mut self,
-        alloc: Global,
-        line: &[u8],
-        text: &mut Vec<u8>,
-    ) -> Result<bool, AllocError> {
-        let Ok(line) = str::from_utf8(line) else {
-            text.extend_from_slice(b"bad-utf8\n")?;
-            return Ok(true);
-        };
-        match Expression::parse_mode(alloc, self.cat, line, self.mode.parse_mode()) {
-            Ok(expression) => {
-                put_accepted(alloc, text, self.cat, line, &expression, self.accepted)?;
-                Ok(false)
-            }
-            Err(Failure::Refused(error)) => {
-                put_refused(text, &error)?;
-                Ok(true)
-            }
-            Err(Failure::Memory(error)) => Err(error),
-        }
-    }
-
-    fn close(&mut self, _alloc: Global, _text: &mut Vec<u8>) -> Result<(), AllocError> {
-        Ok(())
     }
 }
 
@@ -82,7 +46,7 @@ impl Verdicts for EachLine<'_, '_> {
 /// The input is read by pieces as long as the buffer; each answer is written once its line is whole, and the output is
 /// flushed once, at the end. `Read` comes only where the input has failed, and `Write` only where the output has. After
 /// a fault, also one of memory, what was written is a beginning of the answers to the lines that were read whole; after
-/// `Read` it is all of them.
+/// `Read` it is all of them. An input that is cut behind newlines is answered piece by piece (`splits`).
 pub fn run_in<'c, I: Source, O: Sink>(
     alloc: Global,
     cat: &'c Catalogue,
@@ -93,14 +57,11 @@ pub fn run_in<'c, I: Source, O: Sink>(
     buffer: &mut [u8],
 ) -> Result<Summary, RunFault>
     requires room { 0 < length buffer.old }
-    ensures verdicts { (line : List ℕ) → spec.IsTheVerdict cat.now mode accepted.now line (spec.verdict cat.now mode accepted.now line) }
-    ensures ok { IfOk result (HasRun (rule_of cat.now mode accepted.now) (I.coming input.old) (I.coming input.new) (O.taken output.old) (O.taken output.new)) }
-    ensures known { IfOk result (λ summary. IfSome (I.coming input.old) (IsAnswered (rule_of cat.now mode accepted.now) (I.coming input.new) (O.taken output.old) (O.taken output.new) summary)) }
-    ensures sound { OnOk result ((I.has_failed input.new ≡ false) × (O.has_failed output.new ≡ false)) }
-    ensures begun { OnErr result (HasBegun (rule_of cat.now mode accepted.now) (I.coming input.old) (I.coming input.new) (O.taken output.old) (O.taken output.new)) }
-    ensures read_all { IsErrOf result RunFault.Read → HasWrittenLines (rule_of cat.now mode accepted.now) (I.coming input.old) (I.coming input.new) (O.taken output.old) (O.taken output.new) }
-    ensures read { IsErrOf result RunFault.Read ↔ (I.has_failed input.new ≡ true) }
-    ensures write { IsErrOf result RunFault.Write → O.has_failed output.new ≡ true }
+    ensures verdicts { HaveVerdicts cat.now mode }
+    ensures splits { SplitsAtLines (rule_of cat.now mode accepted.now) }
+    ensures runs { Runs (rule_of cat.now mode accepted.now)
+        (devices (I.told input.old) (I.told input.new) (O.told output.old) (O.told output.new))
+        result }
 {
     let mut each = EachLine {
         cat,
@@ -119,14 +80,11 @@ pub fn run<'c, I: Source, O: Sink>(
     input: &mut I,
     output: &mut O,
 ) -> Result<Summary, RunFault>
-    ensures verdicts { (line : List ℕ) → spec.IsTheVerdict cat.now mode accepted.now line (spec.verdict cat.now mode accepted.now line) }
-    ensures ok { IfOk result (HasRun (rule_of cat.now mode accepted.now) (I.coming input.old) (I.coming input.new) (O.taken output.old) (O.taken output.new)) }
-    ensures known { IfOk result (λ summary. IfSome (I.coming input.old) (IsAnswered (rule_of cat.now mode accepted.now) (I.coming input.new) (O.taken output.old) (O.taken output.new) summary)) }
-    ensures sound { OnOk result ((I.has_failed input.new ≡ false) × (O.has_failed output.new ≡ false)) }
-    ensures begun { OnErr result (HasBegun (rule_of cat.now mode accepted.now) (I.coming input.old) (I.coming input.new) (O.taken output.old) (O.taken output.new)) }
-    ensures read_all { IsErrOf result RunFault.Read → HasWrittenLines (rule_of cat.now mode accepted.now) (I.coming input.old) (I.coming input.new) (O.taken output.old) (O.taken output.new) }
-    ensures read { IsErrOf result RunFault.Read ↔ (I.has_failed input.new ≡ true) }
-    ensures write { IsErrOf result RunFault.Write → O.has_failed output.new ≡ true }
+    ensures verdicts { HaveVerdicts cat.now mode }
+    ensures splits { SplitsAtLines (rule_of cat.now mode accepted.now) }
+    ensures runs { Runs (rule_of cat.now mode accepted.now)
+        (devices (I.told input.old) (I.told input.new) (O.told output.old) (O.told output.new))
+        result }
 {
     let mut each = EachLine {
         cat,
@@ -134,4 +92,60 @@ pub fn run<'c, I: Source, O: Sink>(
         accepted,
     };
     engine::run(alloc, &mut each, input, output)
+}
+
+/// As `run_in`, but an accepted line is written without its choice and the tab before it; at the end of the input one
+/// more line follows, `all`, a tab and the least choice that makes all accepted lines true at once (nothing behind the
+/// tab where it is empty). It is not counted, and written only where the end of the input was met.
+///
+/// Each different expression is kept once, so the memory follows them and not the lines; their choice is that of all
+/// lines, since doubles change none. A line costs its own reading and one look among the kept ones, by a text of its
+/// tree.
+pub fn run_all_in<'c, I: Source, O: Sink>(
+    alloc: Global,
+    cat: &'c Catalogue,
+    mode: LineMode,
+    accepted: &[Licensee<'c>],
+    input: &mut I,
+    output: &mut O,
+    buffer: &mut [u8],
+) -> Result<Summary, RunFault>
+    requires room { 0 < length buffer.old }
+    ensures verdicts { HaveVerdicts cat.now mode }
+    ensures doubles { ClosesAlike (rule_of_all cat.now mode accepted.now) }
+    ensures runs { Runs (rule_of_all cat.now mode accepted.now)
+        (devices (I.told input.old) (I.told input.new) (O.told output.old) (O.told output.new))
+        result }
+{
+    let mut all = AllLines {
+        cat,
+        mode,
+        accepted,
+        kept: Kept::new(alloc),
+    };
+    engine::run_in(alloc, &mut all, input, output, buffer)
+}
+
+/// `run_all_in` with a buffer of 4,096 bytes.
+pub fn run_all<'c, I: Source, O: Sink>(
+    alloc: Global,
+    cat: &'c Catalogue,
+    mode: LineMode,
+    accepted: &[Licensee<'c>],
+    input: &mut I,
+    output: &mut O,
+) -> Result<Summary, RunFault>
+    ensures verdicts { HaveVerdicts cat.now mode }
+    ensures doubles { ClosesAlike (rule_of_all cat.now mode accepted.now) }
+    ensures runs { Runs (rule_of_all cat.now mode accepted.now)
+        (devices (I.told input.old) (I.told input.new) (O.told output.old) (O.told output.new))
+        result }
+{
+    let mut all = AllLines {
+        cat,
+        mode,
+        accepted,
+        kept: Kept::new(alloc),
+    };
+    engine::run(alloc, &mut all, input, output)
 }

@@ -1,16 +1,16 @@
 // The program, apart from its arguments and files.
 
-ghost use Rattle.std.specs.Prelude.{◌≡◌, ℕ, ◌++◌, List, IfOk, IfErr, OnOk, Ok, false};
-ghost use Rattle.std.specs.Io.KnownBytes.{Appends};
+ghost use Rattle.std.specs.Prelude.{◌≡◌, ℕ, ◌++◌, List, IfOk, IfErr, OnOk, Ok};
+ghost use Rattle.line_engine.specs.Device.{devices};
+ghost use Rattle.line_engine.specs.Runs.{Runs};
 ghost use Rattle.spdx_catalogue.specs.Rows.{Rows};
-ghost use Rattle.spdx_catalogue.specs.Items.{Requirement};
 ghost use Rattle.spdx_lexer.specs.Code.{span_of};
 ghost use Rattle.spdx_lexer.specs.Faults.{fault_of};
-ghost use Rattle.spdx_lines.specs.Verdict.{IsTheVerdict, verdict};
-ghost use Rattle.spdx_lines.specs.Program.{NoCatalogue, NoLicensee, texts_of, mode_in, catalogue_of, licensee_of, licensees_from, with_licensees, plan_of, refusal_line, IsTheCatalogue, IsTheLicensee};
-ghost use Rattle.spdx_lines.specs.Ending.{Ending, Ends, StopsAt, status_of, ending_line, stopped, ending_of};
+ghost use Rattle.spdx_lines.specs.Lines.{HaveVerdicts};
+ghost use Rattle.spdx_lines.specs.Program.{NoCatalogue, NoLicensee, texts_of, task_in, catalogue_of, licensee_of, licensees_from, task_rule, with_licensees, plan_of, refusal_line, IsTheCatalogue, IsTheLicensee};
+ghost use Rattle.spdx_lines.specs.Ending.{Ending, Ends, Tells, StopsAt, status_of, ending_line, stopped, ending_of};
 
-use crate::lines::{LineMode, run};
+use crate::lines::{LineMode, run, run_all};
 use crate::text::put_refusal;
 use line_engine::device::{Sink, Source};
 use line_engine::lines::{RunFault, Summary, write_all};
@@ -19,9 +19,26 @@ use spdx::{Catalogue, Failure, Licensee, ParseError, ReadFault};
 use std::alloc::{AllocError, AllocFailed, Global};
 use std::io::Write;
 
-const USAGE: &[u8] = b"usage: spdx_lines CATALOGUE strict|lax [LICENSEE]..\n";
+const USAGE: &[u8] =
+    b"usage: spdx_lines CATALOGUE strict|lax|strict-all|lax-all|normal [LICENSEE]..\n";
 
 const OUT_OF_MEMORY: &[u8] = b"out of memory\n";
+
+// How the lines are read, and whether one choice is for all of them.
+#[derive(Drop)]
+struct Task {
+    mode: LineMode,
+    is_joint: bool,
+}
+
+impl Task {
+    fn new(mode: LineMode, is_joint: bool) -> Task
+        ensures mode { result.mode ≡ mode }
+        ensures is_joint { result.is_joint ≡ is_joint }
+    {
+        Task { mode, is_joint }
+    }
+}
 
 // Why the program did not come to the end of its input.
 #[derive(Drop)]
@@ -56,15 +73,21 @@ impl<'w, T: Drop> From<AllocFailed<T>> for Stop<'w> {
     }
 }
 
-// The mode that the second word names.
-fn mode_of(words: &[&str]) -> Option<LineMode>
-    ensures { result ≡ mode_in (texts_of words.now) }
+// What the second word asks for.
+fn task_of(words: &[&str]) -> Option<Task>
+    ensures { result ≡ task_in (texts_of words.now) }
 {
-    let mode = words.get(1)?;
-    if *mode == "strict" {
-        Some(LineMode::Strict)
-    } else if *mode == "lax" {
-        Some(LineMode::Lax)
+    let word = words.get(1)?;
+    if *word == "strict" {
+        Some(Task::new(LineMode::Strict, false))
+    } else if *word == "lax" {
+        Some(Task::new(LineMode::Lax, false))
+    } else if *word == "strict-all" {
+        Some(Task::new(LineMode::Strict, true))
+    } else if *word == "lax-all" {
+        Some(Task::new(LineMode::Lax, true))
+    } else if *word == "normal" {
+        Some(Task::new(LineMode::Normal, false))
     } else {
         None
     }
@@ -76,8 +99,10 @@ fn read_licensees<'c, 'w>(
     cat: &'c Catalogue,
     words: &[&'w str],
 ) -> Result<Vec<Licensee<'c>>, Stop<'w>>
-    ensures ok { IfOk result (λ licensees. licensees_from cat.now 1 (texts_of words.now) ≡ Ok licensees.items) }
-    ensures err { IfErr result (λ stop. StopsAt (licensees_from cat.now 1 (texts_of words.now)) stop) }
+    ensures ok { IfOk result (λ licensees.
+        licensees_from cat.now 1 (texts_of words.now) ≡ Ok licensees.items) }
+    ensures err { IfErr result (λ stop.
+        StopsAt (licensees_from cat.now 1 (texts_of words.now)) stop) }
 {
     let mut licensees = Vec::new(alloc);
     for (place, word) in words.iter().enumerate() {
@@ -90,23 +115,43 @@ fn read_licensees<'c, 'w>(
     Ok(licensees)
 }
 
-// The run under this catalogue and mode.
+// What is asked for, under this catalogue.
 fn run_with<'w, I: Source, O: Sink>(
     alloc: Global,
     cat: &Catalogue,
-    mode: LineMode,
+    task: Task,
     licensees: &[&'w str],
     input: &mut I,
     output: &mut O,
 ) -> Result<Summary, Stop<'w>>
-    ensures { Ends (with_licensees cat.now mode (licensees_from cat.now 1 (texts_of licensees.now)))
-        (record { coming = I.coming input.old; coming' = I.coming input.new; input_failed = I.has_failed input.new; taken = O.taken output.old; taken' = O.taken output.new; output_failed = O.has_failed output.new })
+    ensures { Ends
+        (with_licensees cat.now task (licensees_from cat.now 1 (texts_of licensees.now)))
+        (devices (I.told input.old) (I.told input.new) (O.told output.old) (O.told output.new))
         (ending_of result) }
 {
     let accepted = read_licensees(alloc, cat, licensees)?;
-    match run(alloc, cat, mode, &accepted, input, output) {
+    match run_task(alloc, cat, &task, &accepted, input, output) {
         Ok(summary) => Ok(summary),
         Err(fault) => Err(Stop::Run(fault)),
+    }
+}
+
+fn run_task<'c, I: Source, O: Sink>(
+    alloc: Global,
+    cat: &'c Catalogue,
+    task: &Task,
+    accepted: &[Licensee<'c>],
+    input: &mut I,
+    output: &mut O,
+) -> Result<Summary, RunFault>
+    ensures { Runs (task_rule cat.now task.now accepted.now)
+        (devices (I.told input.old) (I.told input.new) (O.told output.old) (O.told output.new))
+        result }
+{
+    if task.is_joint {
+        run_all(alloc, cat, task.mode, accepted, input, output)
+    } else {
+        run(alloc, cat, task.mode, accepted, input, output)
     }
 }
 
@@ -119,20 +164,20 @@ fn run_by<'w, I: Source, O: Sink>(
     output: &mut O,
 ) -> Result<Summary, Stop<'w>>
     ensures { Ends (plan_of words.entry catalogue.entry)
-        (record { coming = I.coming input.old; coming' = I.coming input.new; input_failed = I.has_failed input.new; taken = O.taken output.old; taken' = O.taken output.new; output_failed = O.has_failed output.new })
+        (devices (I.told input.old) (I.told input.new) (O.told output.old) (O.told output.new))
         (ending_of result) }
 {
     let Some(words) = words else {
         return Err(Stop::Usage);
     };
-    let Some(mode) = mode_of(words) else {
+    let Some(task) = task_of(words) else {
         return Err(Stop::Usage);
     };
     let Some(bytes) = catalogue else {
         return Err(Stop::Unreadable);
     };
     match Catalogue::from_json(alloc, bytes) {
-        Ok(catalogue) => run_with(alloc, &catalogue, mode, &words[2..], input, output),
+        Ok(catalogue) => run_with(alloc, &catalogue, task, &words[2..], input, output),
         Err(Failure::Refused(fault)) => Err(Stop::Catalogue(fault)),
         Err(Failure::Memory(error)) => Err(Stop::from(error)),
     }
@@ -156,7 +201,8 @@ fn line_of(alloc: Global, stop: &Stop<'_>) -> Result<Vec<u8>, AllocError>
 }
 
 fn put_catalogue(text: &mut Vec<u8>, fault: ReadFault) -> Result<(), AllocError>
-    ensures { OnOk result (text.new.items ≡ text.old.items ++ refusal_line (NoCatalogue fault)) }
+    ensures { OnOk result (
+        text.new.items ≡ text.old.items ++ refusal_line (NoCatalogue fault)) }
 {
     match write!(text, "catalogue: {fault}\n") {
         Ok(()) => Ok(()),
@@ -165,7 +211,8 @@ fn put_catalogue(text: &mut Vec<u8>, fault: ReadFault) -> Result<(), AllocError>
 }
 
 fn put_licensee(text: &mut Vec<u8>, place: usize, error: &ParseError<'_>) -> Result<(), AllocError>
-    ensures { OnOk result (text.new.items ≡ text.old.items ++ refusal_line (NoLicensee place (fault_of error.now.reason) (span_of error.now.span))) }
+    ensures { OnOk result (text.new.items ≡ text.old.items ++ refusal_line
+        (NoLicensee place (fault_of error.now.reason) (span_of error.now.span))) }
 {
     match write!(text, "licensee {place}: ") {
         Ok(()) => {}
@@ -185,14 +232,14 @@ fn status(stop: &Stop<'_>) -> u8
     }
 }
 
-/// Serves a program `spdx_lines CATALOGUE strict|lax [LICENSEE]..`, apart from its arguments and files, and answers its
-/// status. `words` are its arguments, or `None` where one is not UTF-8; `catalogue` is what the file of the first one
-/// holds, or `None` where it cannot be read.
+/// Serves a program `spdx_lines CATALOGUE strict|lax|strict-all|lax-all|normal [LICENSEE]..`, apart from its arguments and
+/// files, and answers its status. `words` are its arguments, or `None` where one is not UTF-8; `catalogue` is what the
+/// file of the first one holds, or `None` where it cannot be read.
 ///
-/// `run` answers the input under the catalogue, the mode and the licensees: 0 if no line is refused, else 1, and
-/// nothing is written to `faults`. 2 if the words, the catalogue or a licensee are refused, in this order; nothing is
-/// read or written then. 3 if the input or the output has failed, or memory was refused. With 2 and 3 a line in
-/// `faults` says why; a failure there changes nothing else.
+/// `run`, or `run_all` for the words that end in `-all`, answers the input under the catalogue, the mode and the
+/// licensees: 0 if no line is refused, else 1, and nothing is written to `faults`. 2 if the words, the catalogue or a
+/// licensee are refused, in this order; nothing is read or written then. 3 if the input or the output has failed, or
+/// memory was refused. With 2 and 3 a line in `faults` says why; a failure there changes nothing else.
 pub fn serve<I: Source, O: Sink, F: Write>(
     alloc: Global,
     words: Option<&[&str]>,
@@ -203,11 +250,13 @@ pub fn serve<I: Source, O: Sink, F: Write>(
 ) -> u8
     ensures ends { (ending : Ending) × (result ≡ status_of ending)
         × Ends (plan_of words.entry catalogue.entry)
-        (record { coming = I.coming input.old; coming' = I.coming input.new; input_failed = I.has_failed input.new; taken = O.taken output.old; taken' = O.taken output.new; output_failed = O.has_failed output.new }) ending
-        × (⟦<Output<F> as Sink>⟧.has_failed faults.new ≡ false → Appends (⟦<Output<F> as Sink>⟧.taken faults.old) (⟦<Output<F> as Sink>⟧.taken faults.new) (ending_line ending)) }
+        (devices (I.told input.old) (I.told input.new) (O.told output.old) (O.told output.new))
+        ending
+        × Tells (⟦<Output<F> as Sink>⟧.told faults.old) (⟦<Output<F> as Sink>⟧.told faults.new)
+        (ending_line ending) }
     ensures catalogues { (bytes : List ℕ) → IsTheCatalogue bytes (catalogue_of bytes) }
     ensures licensees { (c : Rows) (text : List ℕ) → IsTheLicensee c text (licensee_of c text) }
-    ensures verdicts { (c : Rows) (mode : LineMode) (accepted : List Requirement) (line : List ℕ) → IsTheVerdict c mode accepted line (verdict c mode accepted line) }
+    ensures verdicts { (c : Rows) (mode : LineMode) → HaveVerdicts c mode }
 {
     let stop = match run_by(alloc, words, catalogue, input, output) {
         Ok(summary) => return u8::from(summary.refused != 0),

@@ -9,7 +9,7 @@ use std::alloc::Global;
 use std::io::{self, ErrorKind, Read, Write};
 use std::test::Fail;
 
-const K1: &[u8] = b"{\"version\":\"K1\",\"licenses\":[\
+pub(crate) const K1: &[u8] = b"{\"version\":\"K1\",\"licenses\":[\
     {\"name\":\"Aladdin\",\"full_name\":\"Aladdin\",\"flags\":0},\
     {\"name\":\"Apache-2.0\",\"full_name\":\"Apache-2.0\",\"flags\":3},\
     {\"name\":\"BSD-2-Clause\",\"full_name\":\"BSD-2-Clause\",\"flags\":3},\
@@ -135,8 +135,35 @@ fn the_program_answers_each_line(rt: HostRuntime) -> Result<(), Fail> {
 }
 
 #[test]
+fn the_program_reads_its_mode(rt: HostRuntime) -> Result<(), Fail> {
+    let input = "MIT OR Apache-2.0\nnope\nApache-2.0/Zlib\n";
+    let slash = "refused 10..15 invalid character(s)\n";
+    let rows: [(&str, &str, &str, &str); 3] = [
+        (
+            "lax-all",
+            "MIT OR Apache-2.0\n",
+            "accepted\tApache-2.0 OR Zlib\n",
+            "all\tApache-2.0\n",
+        ),
+        ("strict-all", "MIT OR Apache-2.0\n", slash, "all\tMIT\n"),
+        ("normal", "MIT OR Apache-2.0\tMIT\n", slash, ""),
+    ];
+    for (word, first, last, all) in rows {
+        let words = ["k1.json", word, "MIT", "Apache-2.0", "Zlib"];
+        let served = serve_from(rt.alloc(), Some(&words), Some(K1), input.as_bytes());
+        let wanted = format!(in rt.alloc();
+            "accepted\t{first}refused 0..4 unknown term\n{last}{all}"
+        )?;
+        assert_eq!(rt; served.0, 1, "{word}");
+        assert_eq!(rt; served.1.as_slice(), wanted.as_bytes(), "{word}");
+        assert!(rt; served.2.is_empty(), "{word}");
+    }
+    Ok(())
+}
+
+#[test]
 fn the_program_says_why_there_is_no_run(rt: HostRuntime) -> Result<(), Fail> {
-    let usage = "usage: spdx_lines CATALOGUE strict|lax [LICENSEE]..\n";
+    let usage = "usage: spdx_lines CATALOGUE strict|lax|strict-all|lax-all|normal [LICENSEE]..\n";
     let two: &[&str] = &["k1.json", "strict"];
     let bad: &[&str] = &["k1.json", "strict", "MIT", "NOPE"];
     let rows: [(Option<&[&str]>, Option<&[u8]>, &str); 12] = [

@@ -1,6 +1,6 @@
 // The texts of verdicts.
 
-ghost use Rattle.std.specs.Prelude.{◌≡◌, ℕ, ◌++◌, ◌∷◌, [], List, Ok, OnOk, codes, map};
+ghost use Rattle.std.specs.Prelude.{◌≡◌, ℕ, ◌++◌, List, Ok, OnOk, codes, map};
 ghost use Rattle.std.specs.List.{flat_map, join_by};
 ghost use Rattle.std.specs.Fmt.{decimal};
 ghost use Rattle.spdx_catalogue.specs.Items.{requirement_of};
@@ -8,17 +8,21 @@ ghost use Rattle.spdx_catalogue.specs.Texts.{requirement_text};
 ghost use Rattle.spdx_lexer.specs.Code.{span_of};
 ghost use Rattle.spdx_lexer.specs.Faults.{fault_of};
 ghost use Rattle.spdx_canonical.specs.Canonical.{canonical_of};
+ghost use Rattle.spdx_parser.specs.Tree.{Tree};
 ghost use Rattle.spdx.specs.Choice.{choice_of};
-ghost use Rattle.spdx_lines.specs.Verdict.{Accepted, Refused, choice_text, refusal_text, verdict_text};
+ghost use Rattle.spdx.specs.Judged.{trees_of};
+ghost use Rattle.spdx_lines.specs.Verdict.{Refused, IsColumn, choice_text, refusal_text, verdict_text};
 
-use spdx::expression::MinimizeError;
+use crate::lines::LineMode;
+use spdx::expression::{MinimizeError, minimized_for_all};
 use spdx::{Catalogue, Expression, Failure, LicenseReq, Licensee, ParseError};
 use std::alloc::{AllocError, Global};
 use std::io::Write;
 
 /// Appends the place of a fault, and what it says.
 pub(crate) fn put_refusal(text: &mut Vec<u8>, error: &ParseError<'_>) -> Result<(), AllocError>
-    ensures { OnOk result (text.new.items ≡ text.old.items ++ refusal_text (fault_of error.now.reason) (span_of error.now.span)) }
+    ensures { OnOk result (text.new.items ≡
+        text.old.items ++ refusal_text (fault_of error.now.reason) (span_of error.now.span)) }
 {
     let (start, end, reason) = (error.span.start, error.span.end, error.reason);
     match write!(text, "{start}..{end} {reason}") {
@@ -29,7 +33,8 @@ pub(crate) fn put_refusal(text: &mut Vec<u8>, error: &ParseError<'_>) -> Result<
 
 /// Appends the line of a text that is refused.
 pub(crate) fn put_refused(text: &mut Vec<u8>, error: &ParseError<'_>) -> Result<(), AllocError>
-    ensures { OnOk result (text.new.items ≡ text.old.items ++ verdict_text (Refused (fault_of error.now.reason) (span_of error.now.span))) }
+    ensures { OnOk result ((behind : Tree → List ℕ) → text.new.items ≡ text.old.items ++
+        verdict_text behind (Refused (fault_of error.now.reason) (span_of error.now.span))) }
 {
     text.extend_from_slice(b"refused ")?;
     put_refusal(text, error)?;
@@ -37,25 +42,27 @@ pub(crate) fn put_refused(text: &mut Vec<u8>, error: &ParseError<'_>) -> Result<
     Ok(())
 }
 
-/// Appends the line of a text that is accepted. Every accepted text has a canonical text.
-pub(crate) fn put_accepted<'c>(
+/// Appends the second column of an accepted line: its canonical text, or by `Normal` the normal text of its tree. Every
+/// accepted line has a canonical text.
+pub(crate) fn put_column(
     alloc: Global,
     text: &mut Vec<u8>,
-    cat: &'c Catalogue,
+    cat: &Catalogue,
+    mode: LineMode,
     line: &str,
-    expression: &Expression<'c>,
-    accepted: &[Licensee<'c>],
+    expression: &Expression<'_>,
 ) -> Result<(), AllocError>
     requires { (canonical : List ℕ) × (canonical_of cat.now line.now ≡ Ok canonical) }
-    ensures { OnOk result ((canonical : List ℕ) → canonical_of cat.now line.now ≡ Ok canonical →
-        text.new.items ≡ text.old.items ++ verdict_text (Accepted canonical (choice_of (expression.now.tree ∷ []) accepted.now))) }
+    ensures { OnOk result ((column : List ℕ) → IsColumn cat.now mode line.now expression.now.tree column →
+        text.new.items ≡ text.old.items ++ column) }
 {
-    text.extend_from_slice(b"accepted\t")?;
-    put_canonical(alloc, text, cat, line)?;
-    text.push(b'\t')?;
-    put_choice(alloc, text, expression, accepted)?;
-    text.push(b'\n')?;
-    Ok(())
+    match mode {
+        LineMode::Strict | LineMode::Lax => put_canonical(alloc, text, cat, line),
+        LineMode::Normal => {
+            let normal = expression.normal_text(alloc)?;
+            text.extend_from_slice(normal.as_bytes())
+        }
+    }
 }
 
 // The canonical text, which is the line where there is no other.
@@ -66,7 +73,8 @@ fn put_canonical(
     line: &str,
 ) -> Result<(), AllocError>
     requires { (canonical : List ℕ) × (canonical_of cat.now line.now ≡ Ok canonical) }
-    ensures { OnOk result ((canonical : List ℕ) → canonical_of cat.now line.now ≡ Ok canonical → text.new.items ≡ text.old.items ++ canonical) }
+    ensures { OnOk result ((canonical : List ℕ) →
+        canonical_of cat.now line.now ≡ Ok canonical → text.new.items ≡ text.old.items ++ canonical) }
 {
     match Expression::canonicalize(alloc, cat, line) {
         Ok(None) => text.extend_from_slice(line.as_bytes()),
@@ -76,16 +84,17 @@ fn put_canonical(
     }
 }
 
-// The least choice among the accepted licensees, or why there is none.
-fn put_choice<'c>(
+/// Appends the least choice among the accepted licensees for all of the expressions, or why there is none.
+pub(crate) fn put_choice<'c>(
     alloc: Global,
     text: &mut Vec<u8>,
-    expression: &Expression<'c>,
+    expressions: &[&Expression<'c>],
     accepted: &[Licensee<'c>],
 ) -> Result<(), AllocError>
-    ensures { OnOk result (text.new.items ≡ text.old.items ++ choice_text (choice_of (expression.now.tree ∷ []) accepted.now)) }
+    ensures { OnOk result (text.new.items ≡
+        text.old.items ++ choice_text (choice_of (trees_of expressions.now) accepted.now)) }
 {
-    match expression.minimized_requirements(alloc, accepted) {
+    match minimized_for_all(alloc, expressions, accepted) {
         Ok(requirements) => put_requirements(text, &requirements),
         Err(Failure::Refused(MinimizeError::TooManyRequirements(count))) => put_count(text, count),
         Err(Failure::Refused(MinimizeError::RequirementsUnmet)) => text.extend_from_slice(b"unmet"),
@@ -94,7 +103,8 @@ fn put_choice<'c>(
 }
 
 fn put_count(text: &mut Vec<u8>, count: usize) -> Result<(), AllocError>
-    ensures { OnOk result (text.new.items ≡ text.old.items ++ (codes "too-many " ++ decimal count)) }
+    ensures { OnOk result (
+        text.new.items ≡ text.old.items ++ (codes "too-many " ++ decimal count)) }
 {
     match write!(text, "too-many {count}") {
         Ok(()) => Ok(()),
@@ -104,7 +114,8 @@ fn put_count(text: &mut Vec<u8>, count: usize) -> Result<(), AllocError>
 
 // The requirements, with commas between them.
 fn put_requirements(text: &mut Vec<u8>, requirements: &[LicenseReq<'_>]) -> Result<(), AllocError>
-    ensures { OnOk result (text.new.items ≡ text.old.items ++ join_by requirement_text (codes ", ") (map requirement_of requirements.now)) }
+    ensures { OnOk result (text.new.items ≡ text.old.items ++
+        join_by requirement_text (codes ", ") (map requirement_of requirements.now)) }
 {
     let Some((first, others)) = requirements.split_first() else {
         return Ok(());
@@ -114,7 +125,8 @@ fn put_requirements(text: &mut Vec<u8>, requirements: &[LicenseReq<'_>]) -> Resu
 }
 
 fn put_others(text: &mut Vec<u8>, requirements: &[LicenseReq<'_>]) -> Result<(), AllocError>
-    ensures { OnOk result (text.new.items ≡ text.old.items ++ flat_map (λ r. codes ", " ++ requirement_text r) (map requirement_of requirements.now)) }
+    ensures { OnOk result (text.new.items ≡ text.old.items ++
+        flat_map (λ r. codes ", " ++ requirement_text r) (map requirement_of requirements.now)) }
 {
     for requirement in requirements {
         text.extend_from_slice(b", ")?;
@@ -124,7 +136,8 @@ fn put_others(text: &mut Vec<u8>, requirements: &[LicenseReq<'_>]) -> Result<(),
 }
 
 fn put_requirement(text: &mut Vec<u8>, requirement: &LicenseReq<'_>) -> Result<(), AllocError>
-    ensures { OnOk result (text.new.items ≡ text.old.items ++ requirement_text (requirement_of requirement.now)) }
+    ensures { OnOk result (
+        text.new.items ≡ text.old.items ++ requirement_text (requirement_of requirement.now)) }
 {
     match write!(text, "{requirement}") {
         Ok(()) => Ok(()),

@@ -2,6 +2,7 @@
 
 ghost use Rattle.spdx_parser.specs.Tree.{Tree};
 ghost use Rattle.spdx.specs.Growing.{TruthGrows};
+ghost use Rattle.spdx.specs.Doubles.{DoublesChangeNoChoice};
 ghost use Rattle.spdx.specs.Laws.{IsFirstLeast};
 
 /// Answers that turn from false to true turn no tree from true to false. Does nothing.
@@ -13,4 +14,10 @@ pub fn truth_grows()
 /// the last member on which they differ. Does nothing.
 pub fn first_is_least()
     ensures { IsFirstLeast }
+{}
+
+/// Two lists of expressions with the same members have the same least choice, however often each
+/// stands in them and in whatever order. Does nothing.
+pub fn doubles_change_no_choice()
+    ensures { DoublesChangeNoChoice }
 {}

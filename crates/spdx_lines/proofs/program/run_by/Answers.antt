@@ -1,33 +1,27 @@
 use Rattle.std.proofs.Common.{Ok, Err, ap, subst, sym, ◌∙◌}
+use Rattle.line_engine.specs.Device.{devices}
 use Rattle.spdx_lines.specs.Program.{with_licensees, licensees_from, plan_of}
-use Rattle.spdx_lines.specs.Ending.{Devices, Ends, ending_of}
+use Rattle.spdx_lines.specs.Ending.{Ends, ending_of}
 use Rattle.spdx_lines.proofs.Catalogue.{the_catalogue}
-use Rattle.spdx_lines.proofs.Ends.{keeps_all, memory_wanted, plan_is, words_behind}
+use Rattle.spdx_lines.proofs.Ends.{still_moved, memory_wanted, plan_is, words_behind}
 use Rattle.spdx_lines.proofs.program.run_by.Goals as goal
 
 pub returns-in-Ok : goal.returns-in-Ok
 returns-in-Ok g c =
     let rows = c.in-Ok.catalogue in
-    let mode = c.in-Some-mode_of.mode in
+    let task = c.in-Some-task_of.task in
     let read = (the_catalogue c.in-Some-catalogue.bytes.now).only_rows rows c.in-Ok.ensures.ok in
-    let plan = plan_is c.args.words c.args.catalogue c.in-Some.words mode c.in-Some-catalogue.bytes (Ok rows) c.in-Some.is (sym c.mode_of.ensures ∙ c.in-Some-mode_of.is) c.in-Some-catalogue.is read in
-    let devices : Devices = record {
-      coming = g.I.Source.coming c.args.input.now;
-      coming' = g.I.Source.coming c.run_with.new.input;
-      input_failed = g.I.Source.has_failed c.run_with.new.input;
-      taken = g.O.Sink.taken c.args.output.now;
-      taken' = g.O.Sink.taken c.run_with.new.output;
-      output_failed = g.O.Sink.has_failed c.run_with.new.output;
-    } in
-    subst (λ p. Ends p devices (ending_of c.run_with.result)) (sym (plan ∙ ap (λ texts. with_licensees rows mode (licensees_from rows 1 texts)) (words_behind c.in-Some.words.now))) c.run_with.ensures
+    let plan = plan_is c.args.words c.args.catalogue c.in-Some.words task c.in-Some-catalogue.bytes (Ok rows) c.in-Some.is (sym c.task_of.ensures ∙ c.in-Some-task_of.is) c.in-Some-catalogue.is read in
+    let d = devices (g.I.Source.told c.args.input.now) (g.I.Source.told c.run_with.new.input) (g.O.Sink.told c.args.output.now) (g.O.Sink.told c.run_with.new.output) in
+    subst (λ p. Ends p d (ending_of c.run_with.result)) (sym (plan ∙ ap (λ texts. with_licensees rows task (licensees_from rows 1 texts)) (words_behind c.in-Some.words.now))) c.run_with.ensures
 
 pub returns-in-Err-Refused : goal.returns-in-Err-Refused
 returns-in-Err-Refused g c =
     let h = rw c.in-Err-Refused.field-0-is at c.in-Err-Refused.ensures.err in
     let read = (the_catalogue c.in-Some-catalogue.bytes.now).only_fault c.in-Err-Refused.fault h in
     rw c.in-Err-Refused.field-0-is
-    (plan_is c.args.words c.args.catalogue c.in-Some.words c.in-Some-mode_of.mode c.in-Some-catalogue.bytes (Err c.in-Err-Refused.fault) c.in-Some.is (sym c.mode_of.ensures ∙ c.in-Some-mode_of.is) c.in-Some-catalogue.is read, (keeps_all _, keeps_all _))
+    (plan_is c.args.words c.args.catalogue c.in-Some.words c.in-Some-task_of.task c.in-Some-catalogue.bytes (Err c.in-Err-Refused.fault) c.in-Some.is (sym c.task_of.ensures ∙ c.in-Some-task_of.is) c.in-Some-catalogue.is read, still_moved (g.I.Source.told c.args.input.now) (g.O.Sink.told c.args.output.now))
 
 pub returns-in-Err-Memory : goal.returns-in-Err-Memory
 returns-in-Err-Memory g c =
-    memory_wanted (plan_of c.args.words c.args.catalogue) (g.I.Source.coming c.args.input.now) (g.I.Source.has_failed c.args.input.now) (g.O.Sink.taken c.args.output.now) (g.O.Sink.has_failed c.args.output.now) c.from.result c.from.ensures
+    memory_wanted (plan_of c.args.words c.args.catalogue) (g.I.Source.told c.args.input.now) (g.O.Sink.told c.args.output.now) c.from.result c.from.ensures

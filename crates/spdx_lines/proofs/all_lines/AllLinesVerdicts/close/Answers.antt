@@ -1,0 +1,14 @@
+use Rattle.std.proofs.Common.{ap, ◌∙◌}
+use Rattle.spdx.specs.Choice.{choice_of}
+use Rattle.spdx.specs.Judged.{trees_of}
+use Rattle.spdx_lines.specs.Kept.{trees_in}
+use Rattle.spdx_lines.proofs.Keeping.{choice_kept, all_written}
+use Rattle.spdx_lines.proofs.all_lines.AllLinesVerdicts.close.Goals as goal
+
+pub returns-clause-text : goal.returns-clause-text
+returns-clause-text c lines h =
+    let all = c.args.self.now in
+    let accepted = all.accepted.now in
+    all_written c.args.text.now.items c.extend_from_slice.new.self.items c.put_choice.new.text.items c.push.new.self.items (choice_of (trees_of c.deref.result.now) accepted) _
+    c.in_ok-extend_from_slice.ensures.items c.in_ok-put_choice.ensures c.in_ok-push.ensures.items
+    (ap (λ es. choice_of (trees_of es) accepted) c.deref.ensures.value ∙ ap (λ ts. choice_of ts accepted) c.in_ok-kept.ensures ∙ choice_kept all.cat.now all.mode accepted (trees_in all.kept) lines h)

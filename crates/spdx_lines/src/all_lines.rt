@@ -1,0 +1,54 @@
+// Answers to lines of which one choice is for all.
+
+ghost use Rattle.spdx_lines.specs.Answer.{AreKept};
+ghost use Rattle.spdx_lines.specs.Kept.{trees_in};
+ghost use Rattle.spdx_lines.specs.Lines.{rule_of_all};
+ghost use Rattle.spdx_lines.specs.Verdict.{accepted_trees};
+
+use crate::answer::begin_answer;
+use crate::kept::Kept;
+use crate::lines::LineMode;
+use crate::text::put_choice;
+use line_engine::verdicts::Verdicts;
+use spdx::{Catalogue, Licensee};
+use std::alloc::{AllocError, Global};
+
+/// Answers each line without a choice, and at the end gives one for all accepted lines.
+#[derive(Drop)]
+pub(crate) struct AllLines<'r, 'c> {
+    pub(crate) cat: &'c Catalogue,
+    pub(crate) mode: LineMode,
+    pub(crate) accepted: &'r [Licensee<'c>],
+    pub(crate) kept: Kept<'c>,
+}
+
+impl Verdicts for AllLines<'_, '_> {
+    ghost rule = { λ all. rule_of_all all.cat.now all.mode all.accepted.now };
+
+    ghost HasAnswered = { λ all lines.
+        AreKept all.cat.now (trees_in all.kept) (accepted_trees all.cat.now all.mode lines) };
+
+    fn answer(
+        &mut self,
+        alloc: Global,
+        line: &[u8],
+        text: &mut Vec<u8>,
+    ) -> Result<bool, AllocError> {
+        match begin_answer(alloc, self.cat, self.mode, line, text)? {
+            None => Ok(true),
+            Some(expression) => {
+                text.push(b'\n')?;
+                self.kept.keep(alloc, expression)?;
+                Ok(false)
+            }
+        }
+    }
+
+    fn close(&mut self, alloc: Global, text: &mut Vec<u8>) -> Result<(), AllocError> {
+        let kept = self.kept.all(alloc)?;
+        text.extend_from_slice(b"all\t")?;
+        put_choice(alloc, text, &kept, self.accepted)?;
+        text.push(b'\n')?;
+        Ok(())
+    }
+}
