@@ -28,7 +28,7 @@ onto-behind x (line ∷ lines) rest c e = refl
 before-behind : (x : ℕ) (d c : Cut) → (before_cut x d).rest ≡ [] → before_cut x (behind d.whole c) ≡ behind (before_cut x d).whole c
 before-behind x d c =
     elim (nat_eq x 10) as (λ t. (cond t (record { whole = [] ∷ d.whole; rest = d.rest }) (onto_first x d.whole d.rest)).rest ≡ [] →
-        cond t (record { whole = [] ∷ (d.whole ++ c.whole); rest = c.rest }) (onto_first x (d.whole ++ c.whole) c.rest) ≡ behind (cond t (record { whole = [] ∷ d.whole; rest = d.rest }) (onto_first x d.whole d.rest)).whole c)
+    cond t (record { whole = [] ∷ (d.whole ++ c.whole); rest = c.rest }) (onto_first x (d.whole ++ c.whole) c.rest) ≡ behind (cond t (record { whole = [] ∷ d.whole; rest = d.rest }) (onto_first x d.whole d.rest)).whole c)
     [ true ↦ λ e. refl | false ↦ onto-behind x d.whole d.rest c ]
 
 cut-behind : (a b : List ℕ) → (cut a).rest ≡ [] → cut (a ++ b) ≡ behind (cut a).whole (cut b)
