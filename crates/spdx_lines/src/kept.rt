@@ -52,7 +52,8 @@ impl<'c> Kept<'c> {
     // Whether an equal expression stands where the hints lead.
     fn has(&self, text: &str, expression: &Expression<'c>) -> bool
         ensures { IsTrue result → (c : Rows) (trees : List Tree) →
-            AreKept c (trees_in self.now) trees → IsOfRows c expression.now.tree → Contains (trees_in self.now) expression.now.tree }
+            AreKept c (trees_in self.now) trees → IsOfRows c expression.now.tree →
+            Contains (trees_in self.now) expression.now.tree }
     {
         let Some(places) = self.places.get(text) else {
             return false;
