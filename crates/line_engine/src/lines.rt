@@ -75,7 +75,8 @@ struct Kept {
 
 /// Writes all of the bytes, in as many writes as it takes. After `Err` a beginning of them was written.
 pub fn write_all<O: Sink>(output: &mut O, bytes: &[u8]) -> Result<(), Failed>
-    ensures all { OnOk result (Appends (O.told output.old).bytes (O.told output.new).bytes bytes.now) }
+    ensures all { OnOk result (
+        Appends (O.told output.old).bytes (O.told output.new).bytes bytes.now) }
     ensures begun { OnErr result (
         AppendsBeginning (O.told output.old).bytes (O.told output.new).bytes bytes.now) }
     ensures failed { OnErr result ((O.told output.new).has_failed ≡ true) }

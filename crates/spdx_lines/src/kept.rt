@@ -36,8 +36,8 @@ impl<'c> Kept<'c> {
         alloc: Global,
         expression: Expression<'c>,
     ) -> Result<(), AllocError>
-        ensures { OnOk result ((c : Rows) (trees : List Tree) → AreKept c (trees_in self.old) trees →
-            IsOfRows c expression.entry.tree →
+        ensures { OnOk result ((c : Rows) (trees : List Tree) →
+            AreKept c (trees_in self.old) trees → IsOfRows c expression.entry.tree →
             AreKept c (trees_in self.new) (trees ++ expression.entry.tree ∷ [])) }
     {
         let text = expression.normal_text(alloc)?;
@@ -51,8 +51,9 @@ impl<'c> Kept<'c> {
 
     // Whether an equal expression stands where the hints lead.
     fn has(&self, text: &str, expression: &Expression<'c>) -> bool
-        ensures { IsTrue result → (c : Rows) (trees : List Tree) → AreKept c (trees_in self.now) trees →
-            IsOfRows c expression.now.tree → Contains (trees_in self.now) expression.now.tree }
+        ensures { IsTrue result → (c : Rows) (trees : List Tree) →
+            AreKept c (trees_in self.now) trees → IsOfRows c expression.now.tree →
+            Contains (trees_in self.now) expression.now.tree }
     {
         let Some(places) = self.places.get(text) else {
             return false;

@@ -53,7 +53,8 @@ pub(crate) fn put_column(
     expression: &Expression<'_>,
 ) -> Result<(), AllocError>
     requires { (canonical : List ℕ) × (canonical_of cat.now line.now ≡ Ok canonical) }
-    ensures { OnOk result ((column : List ℕ) → IsColumn cat.now mode line.now expression.now.tree column →
+    ensures { OnOk result ((column : List ℕ) →
+        IsColumn cat.now mode line.now expression.now.tree column →
         text.new.items ≡ text.old.items ++ column) }
 {
     match mode {
@@ -74,7 +75,8 @@ fn put_canonical(
 ) -> Result<(), AllocError>
     requires { (canonical : List ℕ) × (canonical_of cat.now line.now ≡ Ok canonical) }
     ensures { OnOk result ((canonical : List ℕ) →
-        canonical_of cat.now line.now ≡ Ok canonical → text.new.items ≡ text.old.items ++ canonical) }
+        canonical_of cat.now line.now ≡ Ok canonical →
+        text.new.items ≡ text.old.items ++ canonical) }
 {
     match Expression::canonicalize(alloc, cat, line) {
         Ok(None) => text.extend_from_slice(line.as_bytes()),
