@@ -12,6 +12,7 @@ mod catalogues;
 mod choice;
 mod copies;
 mod evaluation;
+mod json;
 mod lexing;
 mod licensees;
 mod parsing;

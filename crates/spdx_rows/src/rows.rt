@@ -3,7 +3,7 @@
 use crate::answer::{Answer, NoAnswer, two_parts};
 use crate::catalogues::Catalogues;
 use crate::written_out::written_out;
-use crate::{canonical, choice, copies, evaluation, lexing, licensees, parsing, printing};
+use crate::{canonical, choice, copies, evaluation, json, lexing, licensees, parsing, printing};
 use spdx::Catalogue;
 use std::alloc::{AllocError, Global};
 
@@ -108,6 +108,8 @@ fn answer_to_tree(alloc: Global, catalogue: &Catalogue, call: &str, given: &str)
         "choice for none" => choice::for_none(alloc, catalogue, given),
         "questions" => choice::questions(alloc, catalogue, given),
         "printed fault" => printing::fault(alloc, catalogue, given),
+        "JSON" => json::text(alloc, given),
+        "licences" => json::large(alloc, given),
         "reason" => printing::reason(alloc, given),
         "marked licence" => printing::marked(alloc, catalogue, given),
         "printed text" => printing::whole(alloc, catalogue, given),

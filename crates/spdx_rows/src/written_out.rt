@@ -6,13 +6,15 @@ use std::alloc::{AllocError, Global};
 /// BETWEEN between. Other braces stay.
 pub fn written_out(alloc: Global, text: &str) -> Result<String, AllocError> {
     let mut whole = String::new(alloc);
-    for piece in text.split('{') {
+    let mut pieces = text.split('{');
+    whole.push_str(pieces.next().unwrap_or(""))?;
+    for piece in pieces {
         match piece.split_once('}') {
             Some((short, rest)) => {
                 put_short(&mut whole, short)?;
                 whole.push_str(rest)?;
             }
-            None => whole.push_str(piece)?,
+            None => write!(whole, "{{{piece}")?,
         }
     }
     Ok(whole)
