@@ -1,6 +1,6 @@
 // The calls that answer lines, each over a reader and a writer in memory.
 
-ghost use Rattle.std.specs.Prelude.{◌<◌, length};
+ghost use Rattle.std.specs.Prelude.{◌<◌, ◌≤◌};
 
 use crate::devices::{Feed, Tray};
 use crate::worked::{EACH, JOINT};
@@ -37,6 +37,17 @@ impl Way {
         match self {
             Way::Run | Way::RunIn(_) => false,
             Way::RunAll | Way::RunAllIn(_) => true,
+        }
+    }
+
+    // How long its buffer is.
+    fn size(self) -> usize
+        ensures some { 0 < result }
+        ensures most { result ≤ 4096 }
+    {
+        match self {
+            Way::Run | Way::RunAll => 4096,
+            Way::RunIn(size) | Way::RunAllIn(size) => size.clamp(1, 4096),
         }
     }
 
@@ -89,81 +100,17 @@ impl Judge<'_> {
         }
     }
 
+    /// One call over these devices.
     pub fn call(&self, way: Way, input: &mut Input<Feed<'_>>, output: &mut Output<Tray>) -> Answer {
+        let (alloc, cat, accepted) = (self.alloc, self.catalogue, self.accepted.as_slice());
+        let lax = LineMode::Lax;
         let mut buffer = [0u8; 4096];
+        let room = &mut buffer[..way.size()];
         match way {
-            Way::Run => self.run(input, output),
-            Way::RunIn(size) => self.run_in(input, output, &mut buffer[..size.clamp(1, 4096)]),
-            Way::RunAll => self.run_all(input, output),
-            Way::RunAllIn(size) => self.run_all_in(
-                input,
-                output,
-                &mut buffer[..size.clamp(1, 4096)],
-            ),
+            Way::Run => run(alloc, cat, lax, accepted, input, output),
+            Way::RunIn(_) => run_in(alloc, cat, lax, accepted, input, output, room),
+            Way::RunAll => run_all(alloc, cat, lax, accepted, input, output),
+            Way::RunAllIn(_) => run_all_in(alloc, cat, lax, accepted, input, output, room),
         }
-    }
-
-    fn run(&self, input: &mut Input<Feed<'_>>, output: &mut Output<Tray>) -> Answer {
-        let mode = LineMode::Lax;
-        run(
-            self.alloc,
-            self.catalogue,
-            mode,
-            &self.accepted,
-            input,
-            output,
-        )
-    }
-
-    fn run_in(
-        &self,
-        input: &mut Input<Feed<'_>>,
-        output: &mut Output<Tray>,
-        buffer: &mut [u8],
-    ) -> Answer
-        requires { 0 < length buffer.old }
-    {
-        let mode = LineMode::Lax;
-        run_in(
-            self.alloc,
-            self.catalogue,
-            mode,
-            &self.accepted,
-            input,
-            output,
-            buffer,
-        )
-    }
-
-    fn run_all(&self, input: &mut Input<Feed<'_>>, output: &mut Output<Tray>) -> Answer {
-        let mode = LineMode::Lax;
-        run_all(
-            self.alloc,
-            self.catalogue,
-            mode,
-            &self.accepted,
-            input,
-            output,
-        )
-    }
-
-    fn run_all_in(
-        &self,
-        input: &mut Input<Feed<'_>>,
-        output: &mut Output<Tray>,
-        buffer: &mut [u8],
-    ) -> Answer
-        requires { 0 < length buffer.old }
-    {
-        let mode = LineMode::Lax;
-        run_all_in(
-            self.alloc,
-            self.catalogue,
-            mode,
-            &self.accepted,
-            input,
-            output,
-            buffer,
-        )
     }
 }
