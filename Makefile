@@ -1,8 +1,11 @@
 # make run: builds the program and runs it on the real list. make test: the whole gate.
+# make program: runs the built program in hostile surroundings, and builds it first if it isn't there.
 CATALOGUE := $(CURDIR)/data/spdx-3.18.json
 LINES := $(CURDIR)/data/example.txt
 
-.PHONY: run test
+PROGRAM := $(CURDIR)/crates/spdx_lines_main/out/spdx_lines_main
+
+.PHONY: run test program
 
 # The program ends with status 1 where some line was refused, which the example has.
 run:
@@ -10,3 +13,9 @@ run:
 
 test:
 	@rt ci
+
+program: $(PROGRAM)
+	@tools/program $(PROGRAM)
+
+$(PROGRAM):
+	@cd crates/spdx_lines_main && rt run -- $(CATALOGUE) lax < /dev/null
