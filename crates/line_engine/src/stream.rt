@@ -6,6 +6,9 @@ ghost use Rattle.line_engine.specs.Device.{told};
 use crate::device::{Failed, Sink, Source};
 use std::io::{Read, Write};
 
+#[cfg(test)]
+mod tests;
+
 /// A reader, which gives `u64::MAX` bytes at most. It fails where the reader answers an error, and where more bytes are
 /// asked for than that. Once it has failed, the reader isn't asked again.
 #[derive(Drop)]

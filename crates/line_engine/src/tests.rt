@@ -54,15 +54,15 @@ impl Verdicts for Beginnings {
 
 // Gives the bytes in steps, fails once so many are given, and counts how often it is asked.
 #[derive(Drop)]
-struct Feed<'a> {
-    rest: &'a [u8],
+pub(crate) struct Feed<'a> {
+    pub(crate) rest: &'a [u8],
     step: usize,
     until_failure: usize,
-    asked: u32,
+    pub(crate) asked: u32,
 }
 
 impl<'a> Feed<'a> {
-    fn new(rest: &'a [u8]) -> Feed<'a> {
+    pub(crate) fn new(rest: &'a [u8]) -> Feed<'a> {
         Feed {
             rest,
             step: usize::MAX,
@@ -90,8 +90,8 @@ impl<'a> Read for Feed<'a> {
 
 // Takes bytes in steps, fails once so many are taken, and notes how many were taken at each flush.
 #[derive(Drop)]
-struct Tray {
-    taken: Vec<u8>,
+pub(crate) struct Tray {
+    pub(crate) taken: Vec<u8>,
     step: usize,
     until_failure: usize,
     can_flush: bool,
@@ -99,7 +99,7 @@ struct Tray {
 }
 
 impl Tray {
-    fn new(alloc: Global) -> Tray {
+    pub(crate) fn new(alloc: Global) -> Tray {
         Tray {
             taken: Vec::new(alloc),
             step: 3,
@@ -130,7 +130,7 @@ impl Write for Tray {
     }
 }
 
-const INPUT: &[u8] = b"abc\n\nde\r\nf";
+pub(crate) const INPUT: &[u8] = b"abc\n\nde\r\nf";
 
 const OUTPUT: &[u8] = b"ok abc\nrefused\nok de\r\nok f\n=adf\n";
 
@@ -139,17 +139,27 @@ const COUNTS: Summary = Summary {
     refused: 1,
 };
 
-type Played = (Result<Summary, RunFault>, Tray);
+pub(crate) type Played = (Result<Summary, RunFault>, Tray);
 
 fn play(alloc: Global, feed: Feed, tray: Tray, buffer: &mut [u8]) -> Played
+    requires { 0 < length buffer.old }
+{
+    play_over(alloc, &mut Input::new(feed), tray, buffer)
+}
+
+pub(crate) fn play_over(
+    alloc: Global,
+    input: &mut Input<Feed>,
+    tray: Tray,
+    buffer: &mut [u8],
+) -> Played
     requires { 0 < length buffer.old }
 {
     let mut beginnings = Beginnings {
         firsts: Vec::new(alloc),
     };
-    let mut input = Input::new(feed);
     let mut output = Output::new(tray);
-    let result = run_in(alloc, &mut beginnings, &mut input, &mut output, buffer);
+    let result = run_in(alloc, &mut beginnings, input, &mut output, buffer);
     (result, output.into_inner())
 }
 

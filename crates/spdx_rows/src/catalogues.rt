@@ -1,10 +1,10 @@
 // The catalogues of the rows.
 
+use crate::answer::NoAnswer;
 use spdx::{Catalogue, ParseMode};
 use std::alloc::Global;
-use std::test::Fail;
 
-// The test catalogue K1, as in data/k1.json.
+// The test catalogue K1, of the collected rows.
 const K1: &str = "{\"version\":\"K1\",\"licenses\":[\
     {\"name\":\"Aladdin\",\"full_name\":\"Aladdin\",\"flags\":0},\
     {\"name\":\"Apache-2.0\",\"full_name\":\"Apache-2.0\",\"flags\":3},\
@@ -68,44 +68,60 @@ const TWO_CASES: &str = "{\"version\":\"\",\"licenses\":[\
     {\"name\":\"mit\",\"full_name\":\"\",\"flags\":0}],\
     \"exceptions\":[],\"imprecise\":[]}";
 
-pub fn k1(alloc: Global) -> Result<Catalogue, Fail> {
-    Ok(Catalogue::from_json(alloc, K1.as_bytes())?)
+/// The catalogues that rows name.
+#[derive(Drop)]
+pub struct Catalogues {
+    k1: Catalogue,
+    k2: Catalogue,
+    k3: Catalogue,
+    reference_name: Catalogue,
+    two_cases: Catalogue,
+    long_versions: Catalogue,
 }
 
-pub fn k2(alloc: Global) -> Result<Catalogue, Fail> {
-    Ok(Catalogue::from_json(alloc, K2.as_bytes())?)
+impl Catalogues {
+    pub fn new(alloc: Global) -> Result<Catalogues, NoAnswer> {
+        Ok(Catalogues {
+            k1: read(alloc, K1)?,
+            k2: read(alloc, K2)?,
+            k3: read(alloc, K3)?,
+            reference_name: read(alloc, REFERENCE_NAME)?,
+            two_cases: read(alloc, TWO_CASES)?,
+            long_versions: long_versions(alloc)?,
+        })
+    }
+
+    /// The catalogue of that name; K1 for any other name.
+    pub fn named(&self, name: &str) -> &Catalogue {
+        match name {
+            "k2" => &self.k2,
+            "k3" => &self.k3,
+            "reference-name" => &self.reference_name,
+            "two-cases" => &self.two_cases,
+            "long-versions" => &self.long_versions,
+            _ => &self.k1,
+        }
+    }
 }
 
-pub fn k3(alloc: Global) -> Result<Catalogue, Fail> {
-    Ok(Catalogue::from_json(alloc, K3.as_bytes())?)
-}
-
-pub fn reference_name(alloc: Global) -> Result<Catalogue, Fail> {
-    Ok(Catalogue::from_json(alloc, REFERENCE_NAME.as_bytes())?)
-}
-
-pub fn two_cases(alloc: Global) -> Result<Catalogue, Fail> {
-    Ok(Catalogue::from_json(alloc, TWO_CASES.as_bytes())?)
-}
-
-// Three licences with these names, which stand in order.
-pub fn three_names(
-    alloc: Global,
-    first: &str,
-    second: &str,
-    third: &str,
-) -> Result<Catalogue, Fail> {
-    let json = format!(in alloc;
-        "{{\"version\":\"\",\"licenses\":[\
-        {{\"name\":\"{first}\",\"full_name\":\"\",\"flags\":0}},\
-        {{\"name\":\"{second}\",\"full_name\":\"\",\"flags\":0}},\
-        {{\"name\":\"{third}\",\"full_name\":\"\",\"flags\":0}}],\
-        \"exceptions\":[],\"imprecise\":[]}}"
-    )?;
+fn read(alloc: Global, json: &str) -> Result<Catalogue, NoAnswer> {
     Ok(Catalogue::from_json(alloc, json.as_bytes())?)
 }
 
-// The mode of that name: `strict`, `lax`, or the permissions that it has alone.
+// Three versions, of 100, 100 and 99 digits: ten, a power of ten, and the number before it.
+fn long_versions(alloc: Global) -> Result<Catalogue, NoAnswer> {
+    let json = format!(in alloc;
+        "{{\"version\":\"\",\"licenses\":[\
+        {{\"name\":\"A-{:0>100}\",\"full_name\":\"\",\"flags\":0}},\
+        {{\"name\":\"A-{:0<100}\",\"full_name\":\"\",\"flags\":0}},\
+        {{\"name\":\"A-{:9<99}\",\"full_name\":\"\",\"flags\":0}}],\
+        \"exceptions\":[],\"imprecise\":[]}}",
+        10, 1, 9
+    )?;
+    read(alloc, json.as_str())
+}
+
+/// The mode of that name: `strict`, `lax`, or the permissions that it has alone.
 pub fn mode_named(name: &str) -> ParseMode {
     let mut mode = ParseMode::default();
     match name {

@@ -1,105 +1,77 @@
 // Truth over the answers of a closure, and the requirements that it refused.
 
-use crate::catalogues::k1;
-use spdx::{Expression, Failure, LicenseReq};
-use std::test::Fail;
+use crate::answer::{Answer, NoAnswer, fields};
+use crate::parsing::put_placed;
+use spdx::expression::ExpressionReq;
+use spdx::{Catalogue, Expression, Failure, LicenseReq};
+use std::alloc::{AllocError, Global};
 
-#[test]
-fn by_osi_approval(rt: HostRuntime) -> Result<(), Fail> {
-    let catalogue = k1(rt.alloc())?;
-    let expression = Expression::parse(rt.alloc(), &catalogue, "MIT OR Apache-2.0")?;
+// Answers from left to right, each `t` a true one, and how many were asked for.
+#[derive(Drop)]
+struct Answers {
+    letters: String,
+    calls: usize,
+}
+
+impl Answers {
+    fn new(alloc: Global, letters: &str) -> Result<Answers, AllocError> {
+        Ok(Answers {
+            letters: letters.to_string(alloc)?,
+            calls: 0,
+        })
+    }
+
+    fn next(&mut self) -> bool {
+        let answer = matches!(self.letters.as_bytes().get(self.calls), Some(b't'));
+        self.calls = self.calls.saturating_add(1);
+        answer
+    }
+}
+
+/// The truth over these answers, and how many were asked for.
+pub fn truth(alloc: Global, catalogue: &Catalogue, given: &str) -> Answer {
+    let (text, letters) = fields(given)?;
+    let expression = Expression::parse(alloc, catalogue, text)?;
+    let mut answers = Answers::new(alloc, letters)?;
+    let mut next = |_: &LicenseReq| answers.next();
+    let truth = expression.evaluate(alloc, &mut next)?;
+    Ok(format!(in alloc; "{truth}, {} calls", answers.calls)?)
+}
+
+/// `true`, or the requirements that were refused, each with its place, and how many answers were asked for.
+pub fn failures(alloc: Global, catalogue: &Catalogue, given: &str) -> Answer {
+    let (text, letters) = fields(given)?;
+    let expression = Expression::parse(alloc, catalogue, text)?;
+    let mut answers = Answers::new(alloc, letters)?;
+    let mut next = |_: &LicenseReq| answers.next();
+    let shown = match expression.evaluate_with_failures(alloc, &mut next) {
+        Ok(()) => "true".to_string(alloc)?,
+        Err(Failure::Memory(_)) => return Err(NoAnswer::Memory),
+        Err(Failure::Refused(refused)) => listed(alloc, refused)?,
+    };
+    Ok(format!(in alloc; "{} calls, {shown}", answers.calls)?)
+}
+
+fn listed(alloc: Global, refused: Vec<&ExpressionReq<'_>>) -> Answer {
+    let mut shown = String::new(alloc);
+    for requirement in refused {
+        put_placed(&mut shown, requirement)?;
+    }
+    Ok(shown)
+}
+
+/// The truth where OSI has approved, and where it has not.
+pub fn osi_approved(alloc: Global, catalogue: &Catalogue, text: &str) -> Answer {
+    let expression = Expression::parse(alloc, catalogue, text)?;
     let mut approved = |req: &LicenseReq| match req.license.id() {
         Some(id) => id.is_osi_approved(),
         None => false,
     };
-    assert!(rt; expression.evaluate(rt.alloc(), &mut approved)?);
+    let truth = expression.evaluate(alloc, &mut approved)?;
     let mut opposite = |req: &LicenseReq| match req.license.id() {
         Some(id) => !id.is_osi_approved(),
         None => true,
     };
-    assert!(rt; !expression.evaluate(rt.alloc(), &mut opposite)?);
-    Ok(())
-}
-
-#[test]
-fn every_refused_requirement(rt: HostRuntime) -> Result<(), Fail> {
-    let catalogue = k1(rt.alloc())?;
-    let text = "(MIT OR Zlib) AND Apache-2.0";
-    let expression = Expression::parse(rt.alloc(), &catalogue, text)?;
-    let mut calls = 0u32;
-    let mut first_alone = |_: &LicenseReq| {
-        calls = calls.saturating_add(1);
-        calls == 1
-    };
-    match expression.evaluate_with_failures(rt.alloc(), &mut first_alone) {
-        Err(Failure::Refused(failures)) => {
-            assert_eq!(rt; failures.len(), 2);
-            let first = format!(in rt.alloc(); "{}", failures[0].req)?;
-            let second = format!(in rt.alloc(); "{}", failures[1].req)?;
-            assert_eq!(rt; first.as_str(), "Zlib");
-            assert_eq!(rt; second.as_str(), "Apache-2.0");
-        }
-        _ => assert!(rt; false),
-    }
-    Ok(())
-}
-
-// A closure that answers false and then true.
-#[test]
-fn answers_that_change(rt: HostRuntime) -> Result<(), Fail> {
-    let catalogue = k1(rt.alloc())?;
-    let either = Expression::parse(rt.alloc(), &catalogue, "MIT OR MIT")?;
-    let mut calls = 0u32;
-    let mut second_alone = |_: &LicenseReq| {
-        calls = calls.saturating_add(1);
-        calls == 2
-    };
-    assert!(rt; either.evaluate(rt.alloc(), &mut second_alone)?);
-    assert_eq!(rt; calls, 2);
-    let both = Expression::parse(rt.alloc(), &catalogue, "MIT AND MIT")?;
-    let mut again = 0u32;
-    let mut second_again = |_: &LicenseReq| {
-        again = again.saturating_add(1);
-        again == 2
-    };
-    match both.evaluate_with_failures(rt.alloc(), &mut second_again) {
-        Err(Failure::Refused(failures)) => {
-            assert_eq!(rt; failures.len(), 1);
-            assert_eq!(rt; failures[0].span.start, 0);
-        }
-        _ => assert!(rt; false),
-    }
-    assert_eq!(rt; again, 2);
-    Ok(())
-}
-
-// More requirements than two words of packed truths hold.
-#[test]
-fn many_requirements(rt: HostRuntime) -> Result<(), Fail> {
-    let catalogue = k1(rt.alloc())?;
-    let mut text = "MIT".to_string(rt.alloc())?;
-    for _ in 0..129u32 {
-        text.push_str(" AND MIT")?;
-    }
-    let expression = Expression::parse(rt.alloc(), &catalogue, text.as_str())?;
-    let mut calls = 0u32;
-    let mut all_but_last = |_: &LicenseReq| {
-        calls = calls.saturating_add(1);
-        calls != 130
-    };
-    assert!(rt; !expression.evaluate(rt.alloc(), &mut all_but_last)?);
-    assert_eq!(rt; calls, 130);
-    let mut again = 0u32;
-    let mut all_but_last_again = |_: &LicenseReq| {
-        again = again.saturating_add(1);
-        again != 130
-    };
-    match expression.evaluate_with_failures(rt.alloc(), &mut all_but_last_again) {
-        Err(Failure::Refused(failures)) => {
-            assert_eq!(rt; failures.len(), 1);
-            assert_eq!(rt; failures[0].span.start, 1032);
-        }
-        _ => assert!(rt; false),
-    }
-    Ok(())
+    let other = expression.evaluate(alloc, &mut opposite)?;
+    Ok(format!(in alloc; "{truth}, opposite {other}")?)
 }

@@ -1,0 +1,116 @@
+// The calls that answer lines, each over a reader and a writer in memory.
+
+ghost use Rattle.std.specs.Prelude.{◌<◌, ◌≤◌};
+
+use crate::devices::{Feed, Tray};
+use crate::worked::{EACH, JOINT};
+use spdx::{Catalogue, Licensee};
+use spdx_lines::{Input, LineMode, Output, RunFault, Summary, run, run_all, run_all_in, run_in};
+use std::alloc::Global;
+use std::fmt;
+
+/// A call, and how long its buffer is where it is handed one.
+#[derive(Clone, Copy)]
+pub enum Way {
+    Run,
+    RunIn(usize),
+    RunAll,
+    RunAllIn(usize),
+}
+
+pub const WAYS: [Way; 10] = [
+    Way::Run,
+    Way::RunIn(1),
+    Way::RunIn(2),
+    Way::RunIn(7),
+    Way::RunIn(4096),
+    Way::RunAll,
+    Way::RunAllIn(1),
+    Way::RunAllIn(2),
+    Way::RunAllIn(7),
+    Way::RunAllIn(4096),
+];
+
+impl Way {
+    /// Whether one choice is for all lines.
+    pub fn is_joint(self) -> bool {
+        match self {
+            Way::Run | Way::RunIn(_) => false,
+            Way::RunAll | Way::RunAllIn(_) => true,
+        }
+    }
+
+    // How long its buffer is.
+    fn size(self) -> usize
+        ensures some { 0 < result }
+        ensures most { result ≤ 4096 }
+    {
+        match self {
+            Way::Run | Way::RunAll => 4096,
+            Way::RunIn(size) | Way::RunAllIn(size) => size.clamp(1, 4096),
+        }
+    }
+
+    /// What is written for the worked lines.
+    pub fn output(self) -> &'static str {
+        if self.is_joint() { JOINT } else { EACH }
+    }
+}
+
+impl fmt::Display for Way {
+    fn fmt<W: fmt::Write>(&self, f: &mut fmt::Formatter<W>) -> fmt::Result {
+        match self {
+            Way::Run => write!(f, "run"),
+            Way::RunIn(size) => write!(f, "run_in {size}"),
+            Way::RunAll => write!(f, "run_all"),
+            Way::RunAllIn(size) => write!(f, "run_all_in {size}"),
+        }
+    }
+}
+
+/// What a call answered.
+pub type Answer = Result<Summary, RunFault>;
+
+/// What a call answered, and what it left of its devices.
+#[derive(Drop)]
+pub struct Played<'a> {
+    pub answer: Answer,
+    pub feed: Feed<'a>,
+    pub tray: Tray,
+}
+
+/// What lines are judged by.
+#[derive(Drop)]
+pub struct Judge<'c> {
+    pub alloc: Global,
+    pub catalogue: &'c Catalogue,
+    pub accepted: Vec<Licensee<'c>>,
+}
+
+impl Judge<'_> {
+    /// One call over fresh devices.
+    pub fn play<'a>(&self, way: Way, feed: Feed<'a>, tray: Tray) -> Played<'a> {
+        let mut input = Input::new(feed);
+        let mut output = Output::new(tray);
+        let answer = self.call(way, &mut input, &mut output);
+        Played {
+            answer,
+            feed: input.into_inner(),
+            tray: output.into_inner(),
+        }
+    }
+
+    /// One call over these devices.
+    pub fn call(&self, way: Way, input: &mut Input<Feed<'_>>, output: &mut Output<Tray>) -> Answer {
+        let (alloc, cat, accepted) = (self.alloc, self.catalogue, self.accepted.as_slice());
+        let lax = LineMode::Lax;
+        let mut buffer = [0u8; 4096];
+        let room = &mut buffer[..way.size()];
+        match way {
+            Way::Run => run(alloc, cat, lax, accepted, input, output),
+            Way::RunIn(_) => run_in(alloc, cat, lax, accepted, input, output, room),
+            Way::RunAll => run_all(alloc, cat, lax, accepted, input, output),
+            Way::RunAllIn(_) => run_all_in(alloc, cat, lax, accepted, input, output, room),
+        }
+    }
+}

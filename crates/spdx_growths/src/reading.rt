@@ -1,0 +1,61 @@
+// Catalogues, expressions and licensees that are read.
+
+use crate::end::{Answer, End, end_if};
+use spdx::{Catalogue, Expression, Failure, Licensee, ParseMode};
+use std::alloc::Global;
+
+/// References on both sides, with a document each.
+pub const REFERENCES: &str = "DocumentRef-d:LicenseRef-x WITH DocumentRef-e:AdditionRef-y";
+
+/// A text that isn't its own canonical text.
+pub const LAX: &str = "apache with LLVM-exception/gpl-3.0+ and gplv2";
+
+/// Reads the catalogue.
+pub fn from_json(alloc: Global, json: &[u8]) -> Answer {
+    match Catalogue::from_json(alloc, json) {
+        Ok(catalogue) => Ok(catalogue.license_version().to_string(alloc)?),
+        Err(Failure::Memory(_)) => Err(End::InTheCall),
+        Err(Failure::Refused(_)) => Err(End::Otherwise("refused")),
+    }
+}
+
+/// Reads the references.
+pub fn parse_mode(alloc: Global, catalogue: &Catalogue, text: &str) -> Answer {
+    match Expression::parse_mode(alloc, catalogue, text, ParseMode::STRICT) {
+        Ok(expression) => Ok(format!(in alloc; "{expression:?}")?),
+        Err(Failure::Memory(_)) => Err(End::InTheCall),
+        Err(Failure::Refused(_)) => Err(End::Otherwise("refused")),
+    }
+}
+
+/// Copies the expression of the references.
+pub fn try_clone(alloc: Global, catalogue: &Catalogue) -> Answer {
+    let expression = Expression::parse(alloc, catalogue, REFERENCES)?;
+    let before = Expression::parse(alloc, catalogue, REFERENCES)?;
+    match expression.try_clone(alloc) {
+        Ok(copy) => Ok(format!(in alloc; "{copy:?}")?),
+        Err(_) => Err(end_if(expression == before && expression.text() == REFERENCES)),
+    }
+}
+
+/// Writes a canonical text that isn't the text.
+pub fn canonicalize(alloc: Global, catalogue: &Catalogue, text: &str) -> Answer {
+    match Expression::canonicalize(alloc, catalogue, text) {
+        Ok(Some(canonical)) => Ok(canonical),
+        Ok(None) => Err(End::Otherwise("the text stays")),
+        Err(Failure::Memory(_)) => Err(End::InTheCall),
+        Err(Failure::Refused(_)) => Err(End::Otherwise("refused")),
+    }
+}
+
+/// Reads a licensee that is a reference.
+pub fn licensee(alloc: Global, catalogue: &Catalogue, text: &str) -> Answer {
+    match Licensee::parse(alloc, catalogue, text) {
+        Ok(licensee) => {
+            let requirement = licensee.into_req();
+            Ok(format!(in alloc; "{requirement}")?)
+        }
+        Err(Failure::Memory(_)) => Err(End::InTheCall),
+        Err(Failure::Refused(_)) => Err(End::Otherwise("refused")),
+    }
+}

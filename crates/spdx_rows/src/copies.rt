@@ -1,0 +1,45 @@
+// Copies, which are equal in every part.
+
+use crate::answer::{Answer, NoAnswer, said};
+use spdx::{Catalogue, Expression, Licensee};
+use std::alloc::Global;
+
+/// Whether the copy of an expression equals it, its text too, and each copied node the node.
+pub fn expression(alloc: Global, catalogue: &Catalogue, text: &str) -> Answer {
+    let expression = Expression::parse(alloc, catalogue, text)?;
+    let copy = expression.try_clone(alloc)?;
+    let is_same = copy == expression && copy.text() == text;
+    let are_nodes_same = are_copied(alloc, &expression)?;
+    said(
+        alloc,
+        is_same && are_nodes_same && are_requirements_copied(alloc, &copy)?,
+    )
+}
+
+fn are_copied(alloc: Global, expression: &Expression<'_>) -> Result<bool, NoAnswer> {
+    let mut are_same = true;
+    for node in expression.iter() {
+        are_same &= node.try_clone(alloc)? == *node;
+    }
+    Ok(are_same)
+}
+
+fn are_requirements_copied(alloc: Global, expression: &Expression<'_>) -> Result<bool, NoAnswer> {
+    let mut are_same = true;
+    for requirement in expression.requirements() {
+        are_same &= requirement.try_clone(alloc)? == *requirement;
+        are_same &= requirement.req.try_clone(alloc)? == requirement.req;
+    }
+    Ok(are_same)
+}
+
+/// Whether the copy of a licensee equals it, its requirement too, and another licensee doesn't.
+pub fn licensee(alloc: Global, catalogue: &Catalogue, text: &str) -> Answer {
+    let licensee = Licensee::parse(alloc, catalogue, text)?;
+    let copy = licensee.try_clone(alloc)?;
+    let other = Licensee::parse(alloc, catalogue, "LicenseRef-another")?;
+    said(
+        alloc,
+        copy == licensee && copy.req() == licensee.req() && other != licensee,
+    )
+}

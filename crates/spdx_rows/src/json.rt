@@ -1,0 +1,48 @@
+// Catalogues that are read from JSON.
+
+use crate::answer::{Answer, NoAnswer};
+use crate::written_out::number;
+use spdx::{Catalogue, Failure};
+use std::alloc::{AllocError, Global};
+
+/// The version of the catalogue that the text is, or its fault.
+pub fn text(alloc: Global, json: &str) -> Answer {
+    match Catalogue::from_json(alloc, json.as_bytes()) {
+        Ok(catalogue) => Ok(catalogue.license_version().to_string(alloc)?),
+        Err(Failure::Refused(fault)) => Ok(format!(in alloc; "{fault:?}")?),
+        Err(Failure::Memory(_)) => Err(NoAnswer::Memory),
+    }
+}
+
+// A catalogue of so many licences, `L-100000` and the numbers behind it.
+fn numbered(alloc: Global, count: u32) -> Result<String, AllocError> {
+    let mut json = "{\"version\":\"\",\"licenses\":[".to_string(alloc)?;
+    for i in 0..count {
+        let between = if i == 0 { "" } else { "," };
+        let name = i.saturating_add(100_000);
+        write!(
+            json,
+            "{between}{{\"name\":\"L-{name}\",\"full_name\":\"licence {name}\",\"flags\":3}}"
+        )?;
+    }
+    json.push_str("],\"exceptions\":[],\"imprecise\":[]}")?;
+    Ok(json)
+}
+
+/// How many bytes the text of a catalogue of so many licences has at least, in millions, and the indices of its first
+/// and its last.
+pub fn large(alloc: Global, count: &str) -> Answer {
+    let count = number(count);
+    let json = numbered(alloc, count)?;
+    let catalogue = Catalogue::from_json(alloc, json.as_str().as_bytes())?;
+    let last = format!(in alloc; "L-{}", count.saturating_add(99_999))?;
+    let (Some(one), Some(other)) = (
+        catalogue.license_id("L-100000"),
+        catalogue.license_id(last.as_str()),
+    ) else {
+        return Err(NoAnswer::Row);
+    };
+    let (first, last) = (one.license().index, other.license().index);
+    let millions = json.len() / 1_000_000;
+    Ok(format!(in alloc; "{millions} million bytes, {first} to {last}")?)
+}

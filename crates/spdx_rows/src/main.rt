@@ -1,0 +1,54 @@
+//! The worked rows of the public calls of `spdx`: what each call makes of texts.
+//!
+//! Standard input has the rows. A line `= CALL CATALOGUE` says which call, over which catalogue, the rows behind it
+//! are of; a row is `GIVEN => WANTED`, its fields parted by `|`; a line that begins with `#` says something to readers.
+//! Each row that doesn't hold is printed with what was answered, and at last how many hold. No wanted value was taken
+//! from the library's own output.
+#![tactic(auto)]
+
+mod answer;
+mod canonical;
+mod catalogues;
+mod choice;
+mod copies;
+mod evaluation;
+mod json;
+mod lexing;
+mod licensees;
+mod parsing;
+mod printing;
+mod rows;
+mod written_out;
+
+use crate::catalogues::Catalogues;
+use crate::rows::Tally;
+use std::io;
+use std::process::ExitCode;
+
+// Tries each line, and says how many rows hold.
+fn try_rows(rt: &HostRuntime, text: &str) -> io::Result<u8> {
+    let Ok(catalogues) = Catalogues::new(rt.alloc()) else {
+        println!(rt; "no catalogues")?;
+        return Ok(2);
+    };
+    let mut tally = Tally::new(&catalogues);
+    for line in text.lines() {
+        let shown = tally.take(rt.alloc(), line)?;
+        rt.print(shown.as_str())?;
+    }
+    let (held, others) = (tally.held, tally.others);
+    println!(rt; "{held} rows hold, {others} don't")?;
+    Ok(u8::from(others > 0))
+}
+
+fn start(rt: &HostRuntime) -> io::Result<u8> {
+    let text = io::read_to_string(rt.alloc(), rt.reader())?;
+    try_rows(rt, text.as_str())
+}
+
+fn main(rt: HostRuntime) -> ExitCode {
+    match start(&rt) {
+        Ok(status) => ExitCode::from(status),
+        Err(_) => ExitCode::from(3),
+    }
+}
