@@ -1,12 +1,17 @@
-# make run: builds the program and runs it on the real list. make test: the whole gate.
-CATALOGUE := $(CURDIR)/data/spdx-3.18.json
-LINES := $(CURDIR)/data/example.txt
+# make run: the first verdicts, over the real list. make build: the proved program. make install: puts it in place.
+# make test: the whole gate.
+PREFIX ?= /usr/local
 
-.PHONY: run test
+.PHONY: run build install test
 
-# The program ends with status 1 where some line was refused, which the example has.
 run:
-	@cd crates/spdx_lines_main && rt run -- $(CATALOGUE) lax MIT Apache-2.0 BSD-3-Clause ISC GPL-2.0-only < $(LINES) || [ $$? -eq 1 ]
+	@tools/run
+
+build:
+	@tools/build
+
+install:
+	@tools/install "$(DESTDIR)$(PREFIX)"
 
 test:
 	@rt ci
