@@ -1,30 +1,42 @@
--- What an expression is over a closure of which it is known what it answers to each requirement.
-use Rattle.std.proofs.Common.{◌≡◌, Bool, true, false, List, [], ◌∷◌, map, refl, sym, ◌∙◌, ap}
+-- What evaluation gives over a closure that answers by the requirement alone.
+use Rattle.std.proofs.Common.{◌≡◌, Bool, true, false, cond, List, [], ◌∷◌, map, refl, sym, ◌∙◌, ap, subst}
 use Rattle.std.specs.Prelude.{not}
 use Rattle.std.specs.List.{filter, zip}
 use Rattle.spdx_catalogue.specs.declared.requirement.LicenseReq.{LicenseReq}
 use Rattle.spdx_catalogue.specs.Items.{Requirement, requirement_of}
+use Rattle.spdx_lexer.specs.Words.{Span}
 use Rattle.spdx_parser.specs.Tree.{Tree, leaves}
-use Rattle.spdx.specs.Calls.{CallsGive, AsksFor, Evaluates}
+use Rattle.spdx.specs.ByRequirement.{AnswersBy, FailsBy}
+use Rattle.spdx.specs.Calls.{CallsGive, AsksFor, refused, Evaluates, EvaluatesToFalse}
 use Rattle.spdx.specs.Choice.{holds}
 use Rattle.spdx.specs.Truth.{truth_of}
+use Rattle.spdx.specs.Written.{Written, Placed, placed}
 
--- a call in a state that I holds of answers what h says of the requirement, and leaves such a state
-abbrev pub AnswersBy : {F : Type 0} → (F → LicenseReq → Bool → F → Type 0) → (F → Type 0) → (Requirement → Bool) → Type 0
-AnswersBy {F} S I h = (f : F) (x : LicenseReq) (b : Bool) (g : F) → I f → S f x b g → (b ≡ h (requirement_of x)) × I g
+-- a requirement is kept exactly if its answer is false
+keeps : (b : Bool) (x : Placed) (xs : List Placed) (bs : List Bool) (kept : List Placed) → refused xs bs ≡ kept → refused (x ∷ xs) (b ∷ bs) ≡ cond (not b) (x ∷ kept) kept
+keeps true x xs bs kept e = e
+keeps false x xs bs kept e = ap (λ (z : List Placed). x ∷ z) e
 
-pub answers_by : {F : Type 0} (S : F → LicenseReq → Bool → F → Type 0) (I : F → Type 0) (h : Requirement → Bool) → AnswersBy S I h →
-    (f : F) (rs : List Requirement) (bs : List Bool) (g : F) → I f → CallsGive (AsksFor S) f rs bs g → bs ≡ map h rs
-answers_by S I h by f [] [] g i e = refl
-answers_by S I h by f (r ∷ rs) (b ∷ bs) g i (k, (x, is, one), more) =
-    let now = by f x b k i one in
-    let first : b ≡ h r = now.0 ∙ ap h is in
-    let others : bs ≡ map h rs = answers_by S I h by k rs bs g now.1 more in
-    ap (λ (z : Bool). z ∷ bs) first ∙ ap (λ (zs : List Bool). h r ∷ zs) others
-answers_by S I h by f [] (b ∷ bs) g i e = absurd e
-answers_by S I h by f (r ∷ rs) [] g i e = absurd e
+refused_are : (h : Requirement → Bool) (rs : List Requirement) (spans : List Span) → refused (zip rs spans) (map h rs) ≡ filter (λ p. not (h p.0)) (zip rs spans)
+refused_are h [] spans = refl
+refused_are h (r ∷ rs) [] = refl
+refused_are h (r ∷ rs) (s ∷ spans) = keeps (h r) (r, s) (zip rs spans) (map h rs) _ (refused_are h rs spans)
 
--- its truth is that of the tree where each requirement has the answer of h
-pub holds_by : {F : Type 0} (S : F → LicenseReq → Bool → F → Type 0) (I : F → Type 0) (h : Requirement → Bool) → AnswersBy S I h →
-    (f : F) (t : Tree) (truth : Bool) (g : F) → I f → Evaluates S f t truth g → truth ≡ holds h t
-holds_by S I h by f t truth g i (answers, calls, is) = is ∙ ap (truth_of t) (answers_by S I h by f (leaves t) answers g i calls)
+module _ {F : Type 0} (S : F → LicenseReq → Bool → F → Type 0) (f : F) (h : Requirement → Bool) (by : AnswersBy S f h) where
+  answers_are : (s : F) → s ≡ f → (rs : List Requirement) (bs : List Bool) (g : F) → CallsGive (AsksFor S) s rs bs g → bs ≡ map h rs
+  answers_are s i [] [] g e = refl
+  answers_are s i (r ∷ rs) (b ∷ bs) g (k, (x, is, one), more) =
+      let now = by x b k (subst (λ z. S z x b k) i one) in
+      let first : b ≡ h r = now.0 ∙ ap h is in
+      let others : bs ≡ map h rs = answers_are k now.1 rs bs g more in
+      ap (λ (z : Bool). z ∷ bs) first ∙ ap (λ (zs : List Bool). h r ∷ zs) others
+  answers_are s i [] (b ∷ bs) g e = absurd e
+  answers_are s i (r ∷ rs) [] g e = absurd e
+
+  pub holds_by : (t : Tree) (truth : Bool) (g : F) → Evaluates S f t truth g → truth ≡ holds h t
+  holds_by t truth g (answers, calls, is) = is ∙ ap (truth_of t) (answers_are f refl (leaves t) answers g calls)
+
+  pub fails_by : (w : Written) (failed : List Placed) (g : F) → EvaluatesToFalse S f w failed g → FailsBy h w failed
+  fails_by w failed g (answers, calls, is, failed_are) =
+      let known = answers_are f refl (leaves w.tree) answers g calls in
+      (sym (ap (truth_of w.tree) known) ∙ is, failed_are ∙ ap (refused (placed w)) known ∙ refused_are h (leaves w.tree) w.spans)
