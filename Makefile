@@ -1,8 +1,8 @@
 # make run: the first verdicts, over the real list. make build: the proved program. make install: puts it in place.
-# make test: the whole gate.
+# make quotes: what README.md quotes is what the files hold. make test: the whole gate.
 PREFIX ?= /usr/local
 
-.PHONY: run build install test
+.PHONY: run build install quotes test
 
 run:
 	@tools/run
@@ -12,6 +12,9 @@ build:
 
 install:
 	@tools/install "$(DESTDIR)$(PREFIX)"
+
+quotes:
+	@tools/quotes
 
 test:
 	@rt ci
