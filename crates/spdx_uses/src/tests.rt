@@ -4,8 +4,8 @@ use crate::attribution::named_licenses;
 use crate::explainer::refused_places;
 use crate::gate::may_use;
 use crate::linter::better_text;
-use spdx::{Catalogue, Error, Expression, Licensee, MinimizeError};
-use std::alloc::Global;
+use spdx::{Catalogue, CatalogueError, Error, Expression, Licensee, MinimizeError, ReadFault};
+use std::alloc::{AllocError, Global};
 use std::test::Fail;
 
 const ROWS: &[u8] = b"{\"version\":\"a\",\"licenses\":[\
@@ -76,5 +76,26 @@ fn an_explainer(rt: HostRuntime) -> Result<(), Fail> {
     assert_eq!(rt; places[0], 8..18);
     let either = Expression::parse(alloc, &catalogue, "MIT OR Apache-2.0")?;
     assert!(rt; refused_places(alloc, &accepted, &either)?.is_empty());
+    Ok(())
+}
+
+#[test]
+fn errors_print_what_they_hold(rt: HostRuntime) -> Result<(), Fail> {
+    let rows = [
+        (Error::from(ReadFault::NotJson), "not JSON"),
+        (
+            Error::from(CatalogueError::EmptyPrefix(2)),
+            "imprecise row 2: empty prefix",
+        ),
+        (
+            Error::from(MinimizeError::TooManyRequirements(1025)),
+            "the license expression required 1025 licensees which exceeds the limit of 1024",
+        ),
+        (Error::from(AllocError), "out of memory"),
+    ];
+    for (error, text) in &rows {
+        let said = format!(in rt.alloc(); "{error}")?;
+        assert_eq!(rt; said.as_str(), *text);
+    }
     Ok(())
 }
