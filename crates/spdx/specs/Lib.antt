@@ -16,7 +16,6 @@ pub mod Doubles
 pub mod Minimized
 pub mod Errors
 pub mod ByRequirement
-
 -- What contracts of this crate's calls cite of the crates below, so that callers name this crate alone. Where two
 -- modules have one name, the crate's word stands before it.
 pub use Rattle.spdx_catalogue.specs.Failures

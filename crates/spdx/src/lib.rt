@@ -17,8 +17,8 @@ pub mod lexer {
 pub use crate::error::{CatalogueError, Error, Failure, MinimizeError, ParseError, ReadFault};
 pub use crate::expression::{Expression, ExpressionJudge, minimized_for_all};
 pub use spdx_catalogue::{
-    AdditionItem, AdditionRef, Catalogue, Exception, ExceptionId, ImpreciseName, License, LicenseId,
-    LicenseItem, LicenseRef, LicenseReq, flags,
+    AdditionItem, AdditionRef, Catalogue, Exception, ExceptionId, ImpreciseName, License,
+    LicenseId, LicenseItem, LicenseRef, LicenseReq, flags,
 };
 pub use spdx_choice::{Sufficiency, least_selection};
 pub use spdx_lexer::token::ParseMode;

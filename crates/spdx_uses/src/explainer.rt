@@ -28,6 +28,7 @@ pub fn refused_places(
     }
 }
 
+// The places of these requirements.
 fn places_of(
     alloc: Global,
     refused: Vec<&ExpressionReq<'_>>,
