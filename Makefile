@@ -1,20 +1,22 @@
-# make run: builds the program and runs it on the real list. make test: the whole gate.
-# make growths: refuses each growth of memory to each call. make program: runs the built program in hostile surroundings,
-# and builds it first if it isn't there.
-CATALOGUE := $(CURDIR)/data/spdx-3.18.json
-LINES := $(CURDIR)/data/example.txt
-
+# make run: the first verdicts, over the real list. make build: the proved program. make install: puts it in place.
+# make test: the whole gate, of which make quotes, growths and program are parts: what README.md quotes is what the files
+# hold; each growth of memory refused to each call; the built program in hostile surroundings.
+PREFIX ?= /usr/local
 PROGRAM := crates/spdx_lines_main/out/spdx_lines_main
 
-.PHONY: run test growths program
+.PHONY: run build install quotes growths program test
 
-# The program ends with status 1 where some line was refused, which the example has.
 run:
-	@cd crates/spdx_lines_main && rt run -- $(CATALOGUE) lax MIT Apache-2.0 BSD-3-Clause ISC GPL-2.0-only < $(LINES) || [ $$? -eq 1 ]
+	@tools/run
 
-# The program is run as rt ci has built it.
-test:
-	@tools/gate tools/growths "tools/program $(PROGRAM)"
+build:
+	@tools/build
+
+install:
+	@tools/install "$(DESTDIR)$(PREFIX)"
+
+quotes:
+	@tools/quotes
 
 growths:
 	@tools/growths
@@ -23,4 +25,8 @@ program: $(PROGRAM)
 	@tools/program $(PROGRAM)
 
 $(PROGRAM):
-	@cd crates/spdx_lines_main && rt run -- $(CATALOGUE) lax < /dev/null
+	@tools/build
+
+# The program is run as rt ci has built it.
+test:
+	@tools/gate tools/quotes tools/growths "tools/program $(PROGRAM)"

@@ -27,7 +27,7 @@ if_refused (Ok x) h f = tt
 if_refused (Err (Refused e)) h f = f e h
 if_refused (Err (Memory m)) h f = tt
 
-said_words : (read : List Placed) → map said (map {B = Item} Ok read) ≡ map {B = Result Word Fault} Ok (words read)
+pub said_words : (read : List Placed) → map said (map {B = Item} Ok read) ≡ map {B = Result Word Fault} Ok (words read)
 said_words [] = refl
 said_words (p ∷ read) = ap (λ (xs : List (Result Word Fault)). Ok p.0 ∷ xs) (said_words read)
 

@@ -12,3 +12,4 @@ pub mod Doubles
 pub mod Told
 pub mod Telling
 pub mod PlacedNodes
+pub mod Answering

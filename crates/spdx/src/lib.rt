@@ -5,12 +5,8 @@
 //! [`Expression::parse_mode`] and [`Expression::canonicalize`].
 #![tactic(auto)]
 
+pub mod error;
 pub mod expression;
-
-/// Why a text is refused.
-pub mod error {
-    pub use spdx_lexer::error::{ParseError, Reason};
-}
 
 /// The tokens of a text.
 pub mod lexer {
@@ -18,12 +14,12 @@ pub mod lexer {
     pub use spdx_lexer::token::{LexerToken, ParseMode, Token};
 }
 
+pub use crate::error::{CatalogueError, Error, Failure, MinimizeError, ParseError, ReadFault};
 pub use crate::expression::{Expression, ExpressionJudge, minimized_for_all};
 pub use spdx_catalogue::{
-    AdditionItem, AdditionRef, Catalogue, CatalogueError, Exception, ExceptionId, Failure, Field,
-    ImpreciseName, License, LicenseId, LicenseItem, LicenseRef, LicenseReq, List, ReadFault, flags,
+    AdditionItem, AdditionRef, Catalogue, Exception, ExceptionId, ImpreciseName, License,
+    LicenseId, LicenseItem, LicenseRef, LicenseReq, flags,
 };
 pub use spdx_choice::{Sufficiency, least_selection};
-pub use spdx_lexer::error::ParseError;
 pub use spdx_lexer::token::ParseMode;
 pub use spdx_licensee::Licensee;

@@ -5,7 +5,10 @@ ghost use Rattle.std.specs.Fn.{CalledAt};
 ghost use Rattle.spdx_parser.specs.Tree.{leaves, node_of};
 ghost use Rattle.spdx.specs.Written.{IsPostfix, tree_of, placed_of, nows, kept_if_false};
 ghost use Rattle.spdx.specs.Calls.{Evaluates, EvaluatesToFalse};
-ghost use Rattle.spdx_catalogue.specs.Failures.{RefusedOr};
+ghost use Rattle.spdx.specs.ByRequirement.{AnswersBy, FailsBy};
+ghost use Rattle.spdx.specs.Choice.{holds};
+ghost use Rattle.spdx_catalogue.specs.Failures.{RefusedOr, IfRefused};
+ghost use Rattle.spdx_catalogue.specs.Items.{Requirement};
 
 use crate::expression::Expression;
 use spdx_catalogue::{Failure, LicenseReq};
@@ -18,7 +21,8 @@ impl<'c> Expression<'c> {
     ///
     /// The closure is called exactly once for each requirement, from left to right, whatever it
     /// answers. All memory is taken before the first call, so that where it is wanting the closure
-    /// was not called. Expressions of at most eight requirements take none.
+    /// was not called. Expressions of at most eight requirements take none. Of a closure that answers
+    /// by the requirement alone, `by` says the truth without its calls.
     pub fn evaluate<F: FnMut(&LicenseReq<'c>) -> bool>(
         &self,
         alloc: Global,
@@ -26,6 +30,8 @@ impl<'c> Expression<'c> {
     ) -> Result<bool, AllocError>
         requires { F.IsAlwaysCallable f.old }
         ensures ok { IfOk result (λ truth. Evaluates (CalledAt F.FnMut) f.old self.now.tree truth f.new) }
+        ensures by { IfOk result (λ truth. (h : Requirement → Bool) →
+            AnswersBy (CalledAt F.FnMut) f.old h → truth ≡ holds h self.now.tree) }
         ensures still_callable { F.IsAlwaysCallable f.new }
         ensures err { OnErr result (f.new ≡ f.old) }
         ensures no_memory { length (leaves self.now.tree) ≤ 8 → IsOk result }
@@ -38,7 +44,8 @@ impl<'c> Expression<'c> {
     /// Nothing where the expression is true over the closure's answers, else every requirement that
     /// the closure refused, from left to right.
     ///
-    /// The closure is called as by [`Expression::evaluate`], and all memory is taken before.
+    /// The closure is called as by [`Expression::evaluate`], and all memory is taken before. `ok_by`
+    /// and `err_by` are for a closure that answers by the requirement alone.
     pub fn evaluate_with_failures<F: FnMut(&LicenseReq<'c>) -> bool>(
         &self,
         alloc: Global,
@@ -46,8 +53,13 @@ impl<'c> Expression<'c> {
     ) -> Result<(), Failure<Vec<&ExpressionReq<'c>>>>
         requires { F.IsAlwaysCallable f.old }
         ensures ok { IfOk result (λ _. Evaluates (CalledAt F.FnMut) f.old self.now.tree true f.new) }
+        ensures ok_by { IfOk result (λ _. (h : Requirement → Bool) →
+            AnswersBy (CalledAt F.FnMut) f.old h → holds h self.now.tree ≡ true) }
         ensures still_callable { F.IsAlwaysCallable f.new }
         ensures err { IfErr result (RefusedOr (f.new ≡ f.old) (λ failed. EvaluatesToFalse (CalledAt F.FnMut) f.old self.now (map placed_of (nows failed.items)) f.new)) }
+        ensures err_by { IfErr result (IfRefused (λ failed. (h : Requirement → Bool) →
+            AnswersBy (CalledAt F.FnMut) f.old h →
+            FailsBy h self.now (map placed_of (nows failed.items)))) }
     {
         let nodes = self.nodes();
         let mut truths = Truths::with_room(alloc, nodes.len())?;

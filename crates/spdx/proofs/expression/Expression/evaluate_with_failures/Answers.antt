@@ -1,9 +1,11 @@
-use Rattle.std.proofs.Common.{rules, of_calls, arith, refl, sym, ◌∙◌, ap, ◌≡◌, [], map}
+use Rattle.std.proofs.Common.{rules, of_calls, arith, refl, sym, ◌∙◌, ap, ◌≡◌, [], true, map}
 use Rattle.std.proofs.lemmas.Grind.{common_steps}
 use Rattle.spdx_parser.specs.declared.node.Operator.TheVariants.{And, Or}
 use Rattle.spdx_parser.specs.declared.node.ExprNode.TheVariants.{Op}
 use Rattle.spdx_parser.specs.Tree.{node_of, postfix}
-use Rattle.spdx.specs.Written.{nows}
+use Rattle.std.specs.Fn.{CalledAt}
+use Rattle.spdx.specs.Written.{nows, placed_of}
+use Rattle.spdx.proofs.Answering.{holds_by, fails_by}
 use Rattle.spdx.proofs.Evaluating.{begins, reads_requirement, reads_operator, evaluates}
 use Rattle.spdx.proofs.Logging.{finishes_log, fails}
 use Rattle.spdx.proofs.expression.Expression.evaluate_with_failures.Goals as goal
@@ -56,3 +58,9 @@ returns-clause-err g c =
     let tree : map node_of c.nodes-nodes.result.now ≡ postfix c.args.self.now.tree = c.nodes-nodes.ensures.postfix ∙ ap postfix c.nodes-nodes.ensures.tree in
     let done = finishes_log _ _ _ _ _ _ _ _ _ c.args.self.now.tree c.loop-node.invariant.so_far (search rules) c.take.ensures.items tree in
     fails _ _ _ _ _ _ c.args.self.now tree c.nodes-nodes.ensures.placed c.if-take.false done
+
+pub returns-then-take-clause-ok_by : goal.returns-then-take-clause-ok_by
+returns-then-take-clause-ok_by g c = λ h by. sym (holds_by (CalledAt g.F.FnMut) c.args.f.now h by c.args.self.now.tree true c.loop-node.f (returns-then-take-clause-ok g c))
+
+pub returns-clause-err_by : goal.returns-clause-err_by
+returns-clause-err_by g c = λ h by. fails_by (CalledAt g.F.FnMut) c.args.f.now h by c.args.self.now (map placed_of (nows c.loop-node.failed.items)) c.loop-node.f (returns-clause-err g c)
