@@ -81,7 +81,8 @@ fn push_reference(
 ) -> Result<(), AllocError>
     ensures ok { IfOk result (λ _. draft.new
         ≡ extended draft.old (reference_text prefix.now (document_of document.entry) name.now)) }
-    ensures err { IfErr result (λ _. IsOff draft.old (reference_text prefix.now (document_of document.entry) name.now)) }
+    ensures err { IfErr result (λ _.
+        IsOff draft.old (reference_text prefix.now (document_of document.entry) name.now)) }
 {
     match document {
         None => push_both(draft, alloc, prefix, name),
@@ -149,7 +150,8 @@ fn push_next(
 ) -> Result<(), AllocError>
     ensures ok { IfOk result (λ _. draft.new
         ≡ extended draft.old (next_text (option_map id_row before.entry) (word_of token.entry))) }
-    ensures err { IfErr result (λ _. IsOff draft.old (next_text (option_map id_row before.entry) (word_of token.entry))) }
+    ensures err { IfErr result (λ _.
+        IsOff draft.old (next_text (option_map id_row before.entry) (word_of token.entry))) }
 {
     if let Some(id) = before {
         push_license(draft, alloc, id, is_plus(&token))?;

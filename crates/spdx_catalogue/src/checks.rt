@@ -19,7 +19,8 @@ fn name_fault(
     index: usize,
     row: usize,
 ) -> Option<CatalogueError>
-    ensures { result ≡ first_broken (name_rules list name.now (option_copied previous.entry) index row) }
+    ensures { result ≡ first_broken
+        (name_rules list name.now (option_copied previous.entry) index row) }
 {
     if !is_name(name) {
         return Some(CatalogueError::BadName(list, row));
@@ -51,7 +52,8 @@ fn license_row_fault(
     previous: Option<&str>,
     row: usize,
 ) -> Option<CatalogueError>
-    ensures { result ≡ first_broken (license_row_rules (option_copied previous.entry) row (row_of license.now)) }
+    ensures { result ≡ first_broken
+        (license_row_rules (option_copied previous.entry) row (row_of license.now)) }
 {
     if let Some(fault) = name_fault(
         List::Licenses,
@@ -77,7 +79,8 @@ fn license_fault(rows: &[License], row: usize) -> Option<CatalogueError>
 }
 
 fn licenses_fault(rows: &[License]) -> Option<CatalogueError>
-    ensures { result ≡ first_broken (all_below (license_rules (map row_of rows.now)) (length rows.now)) }
+    ensures { result ≡ first_broken
+        (all_below (license_rules (map row_of rows.now)) (length rows.now)) }
 {
     for row in 0..rows.len() {
         match license_fault(rows, row) {
@@ -89,7 +92,8 @@ fn licenses_fault(rows: &[License]) -> Option<CatalogueError>
 }
 
 fn exception_before(rows: &[Exception], row: usize) -> Option<&Exception>
-    ensures { option_map exception_of (option_copied result) ≡ before (map exception_of rows.now) row }
+    ensures { option_map exception_of (option_copied result)
+        ≡ before (map exception_of rows.now) row }
 {
     if row == 0 {
         None
@@ -103,7 +107,8 @@ fn exception_row_fault(
     previous: Option<&str>,
     row: usize,
 ) -> Option<CatalogueError>
-    ensures { result ≡ first_broken (exception_row_rules (option_copied previous.entry) row (exception_of exception.now)) }
+    ensures { result ≡ first_broken
+        (exception_row_rules (option_copied previous.entry) row (exception_of exception.now)) }
 {
     name_fault(
         List::Exceptions,
@@ -123,7 +128,8 @@ fn exception_fault(rows: &[Exception], row: usize) -> Option<CatalogueError>
 }
 
 fn exceptions_fault(rows: &[Exception]) -> Option<CatalogueError>
-    ensures { result ≡ first_broken (all_below (exception_rules (map exception_of rows.now)) (length rows.now)) }
+    ensures { result ≡ first_broken
+        (all_below (exception_rules (map exception_of rows.now)) (length rows.now)) }
 {
     for row in 0..rows.len() {
         match exception_fault(rows, row) {
@@ -147,7 +153,8 @@ fn imprecise_row_fault(
     row: usize,
 ) -> Option<CatalogueError>
     requires { Ascends license_name (map row_of licenses.now) }
-    ensures { result ≡ first_broken (imprecise_row_rules (map row_of licenses.now) row (imprecise_of name.now)) }
+    ensures { result ≡ first_broken
+        (imprecise_row_rules (map row_of licenses.now) row (imprecise_of name.now)) }
 {
     if name.prefix.as_str().is_empty() {
         return Some(CatalogueError::EmptyPrefix(row));
@@ -164,14 +171,17 @@ fn imprecise_fault(
     row: usize,
 ) -> Option<CatalogueError>
     requires { Ascends license_name (map row_of licenses.now) }
-    ensures { result ≡ first_broken (imprecise_rules (map row_of licenses.now) (map imprecise_of rows.now) row) }
+    ensures { result ≡ first_broken
+        (imprecise_rules (map row_of licenses.now) (map imprecise_of rows.now) row) }
 {
     imprecise_row_fault(licenses, rows.get(row)?, row)
 }
 
 fn imprecises_fault(licenses: &[License], rows: &[ImpreciseName]) -> Option<CatalogueError>
     requires { Ascends license_name (map row_of licenses.now) }
-    ensures { result ≡ first_broken (all_below (imprecise_rules (map row_of licenses.now) (map imprecise_of rows.now)) (length rows.now)) }
+    ensures { result ≡ first_broken
+        (all_below (imprecise_rules (map row_of licenses.now) (map imprecise_of rows.now))
+        (length rows.now)) }
 {
     for row in 0..rows.len() {
         match imprecise_fault(licenses, rows, row) {

@@ -16,7 +16,8 @@ pub(crate) fn license_at(rows: &[License], at: usize) -> Option<&License>
 }
 
 pub(crate) fn exception_at(rows: &[Exception], at: usize) -> Option<&Exception>
-    ensures { option_map exception_of (option_copied result) ≡ slice_get (map exception_of rows.now) at }
+    ensures { option_map exception_of (option_copied result)
+        ≡ slice_get (map exception_of rows.now) at }
 {
     rows.get(at)
 }
@@ -39,7 +40,8 @@ pub(crate) fn license_joined<'c>(
     ending: &[u8],
 ) -> Option<&'c License>
     requires { Ascends license_name (map row_of rows.now) }
-    ensures { option_map row_of (option_copied result) ≡ listed (map row_of rows.now) (front.now ++ ending.now) }
+    ensures { option_map row_of (option_copied result)
+        ≡ listed (map row_of rows.now) (front.now ++ ending.now) }
 {
     match rows.binary_search_by(|row| compare_joined(row.name.as_bytes(), front, ending)) {
         Ok(at) => license_at(rows, at),
@@ -50,7 +52,8 @@ pub(crate) fn license_joined<'c>(
 /// The exception of that name.
 pub(crate) fn exception_named<'c>(rows: &'c [Exception], name: &[u8]) -> Option<&'c Exception>
     requires { Ascends exception_name (map exception_of rows.now) }
-    ensures { option_map exception_of (option_copied result) ≡ listed_exception (map exception_of rows.now) name.now }
+    ensures { option_map exception_of (option_copied result)
+        ≡ listed_exception (map exception_of rows.now) name.now }
 {
     match rows.binary_search_by(|row| row.name.as_bytes().cmp(name)) {
         Ok(at) => exception_at(rows, at),

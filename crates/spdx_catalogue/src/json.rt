@@ -95,13 +95,15 @@ fn byte_at(value: &Value, key: &str) -> Option<u8>
 }
 
 fn items_at<'v>(value: &'v Value, key: &str) -> Option<&'v Vec<Value>>
-    ensures { option_map (λ v. items_view v.now.items) result ≡ shape.items_at key.now (view value.now) }
+    ensures { option_map (λ v. items_view v.now.items) result
+        ≡ shape.items_at key.now (view value.now) }
 {
     value.get(key)?.as_array()
 }
 
 fn licenses_at(alloc: Global, value: &Value) -> Result<Option<Vec<License>>, AllocError>
-    ensures { IfOk result (λ o. option_map (λ v. map row_of v.items) o ≡ shape.licenses_at (view value.now)) }
+    ensures { IfOk result (λ o. option_map (λ v. map row_of v.items) o
+        ≡ shape.licenses_at (view value.now)) }
 {
     match items_at(value, "licenses") {
         Some(items) => license_rows(alloc, items),
@@ -110,7 +112,8 @@ fn licenses_at(alloc: Global, value: &Value) -> Result<Option<Vec<License>>, All
 }
 
 fn exceptions_at(alloc: Global, value: &Value) -> Result<Option<Vec<Exception>>, AllocError>
-    ensures { IfOk result (λ o. option_map (λ v. map exception_of v.items) o ≡ shape.exceptions_at (view value.now)) }
+    ensures { IfOk result (λ o. option_map (λ v. map exception_of v.items) o
+        ≡ shape.exceptions_at (view value.now)) }
 {
     match items_at(value, "exceptions") {
         Some(items) => exception_rows(alloc, items),
@@ -119,7 +122,8 @@ fn exceptions_at(alloc: Global, value: &Value) -> Result<Option<Vec<Exception>>,
 }
 
 fn imprecise_at(alloc: Global, value: &Value) -> Result<Option<Vec<ImpreciseName>>, AllocError>
-    ensures { IfOk result (λ o. option_map (λ v. map imprecise_of v.items) o ≡ shape.imprecise_at (view value.now)) }
+    ensures { IfOk result (λ o. option_map (λ v. map imprecise_of v.items) o
+        ≡ shape.imprecise_at (view value.now)) }
 {
     match items_at(value, "imprecise") {
         Some(items) => imprecise_rows(alloc, items),
@@ -148,7 +152,8 @@ fn license_row(alloc: Global, value: &Value, index: usize) -> Result<Option<Lice
 }
 
 fn license_rows(alloc: Global, items: &Vec<Value>) -> Result<Option<Vec<License>>, AllocError>
-    ensures { IfOk result (λ o. option_map (λ v. map row_of v.items) o ≡ shape.license_rows 0 (items_view items.now.items)) }
+    ensures { IfOk result (λ o. option_map (λ v. map row_of v.items) o
+        ≡ shape.license_rows 0 (items_view items.now.items)) }
 {
     let mut rows = Vec::new(alloc);
     for (index, item) in items.iter().enumerate() {
@@ -165,7 +170,8 @@ fn exception_row(
     value: &Value,
     index: usize,
 ) -> Result<Option<Exception>, AllocError>
-    ensures { IfOk result (λ o. option_map exception_of o ≡ shape.exception_row index (view value.now)) }
+    ensures { IfOk result (λ o. option_map exception_of o
+        ≡ shape.exception_row index (view value.now)) }
 {
     let Some(name) = text_at(value, "name") else {
         return Ok(None);
@@ -181,7 +187,8 @@ fn exception_row(
 }
 
 fn exception_rows(alloc: Global, items: &Vec<Value>) -> Result<Option<Vec<Exception>>, AllocError>
-    ensures { IfOk result (λ o. option_map (λ v. map exception_of v.items) o ≡ shape.exception_rows 0 (items_view items.now.items)) }
+    ensures { IfOk result (λ o. option_map (λ v. map exception_of v.items) o
+        ≡ shape.exception_rows 0 (items_view items.now.items)) }
 {
     let mut rows = Vec::new(alloc);
     for (index, item) in items.iter().enumerate() {
@@ -212,7 +219,8 @@ fn imprecise_rows(
     alloc: Global,
     items: &Vec<Value>,
 ) -> Result<Option<Vec<ImpreciseName>>, AllocError>
-    ensures { IfOk result (λ o. option_map (λ v. map imprecise_of v.items) o ≡ shape.imprecise_rows (items_view items.now.items)) }
+    ensures { IfOk result (λ o. option_map (λ v. map imprecise_of v.items) o
+        ≡ shape.imprecise_rows (items_view items.now.items)) }
 {
     let mut rows = Vec::new(alloc);
     for item in items {

@@ -18,21 +18,25 @@ use crate::names::{begins_caseless, ending, has_suffix, without_plus};
 use crate::row::{Exception, ImpreciseName, License};
 
 fn license_alike<'c>(rows: &'c [License], name: &str) -> Option<&'c License>
-    ensures { option_copied result ≡ find (λ (r : License). str_eq_ignore_ascii_case (string_bytes r.name) name.now) rows.now }
+    ensures { option_copied result
+        ≡ find (λ (r : License). str_eq_ignore_ascii_case (string_bytes r.name) name.now) rows.now }
 {
     rows.iter()
         .find(|row| row.name.as_str().eq_ignore_ascii_case(name))
 }
 
 fn exception_alike<'c>(rows: &'c [Exception], name: &str) -> Option<&'c Exception>
-    ensures { option_copied result ≡ find (λ (r : Exception). str_eq_ignore_ascii_case (string_bytes r.name) name.now) rows.now }
+    ensures { option_copied result
+        ≡ find (λ (r : Exception). str_eq_ignore_ascii_case (string_bytes r.name) name.now)
+        rows.now }
 {
     rows.iter()
         .find(|row| row.name.as_str().eq_ignore_ascii_case(name))
 }
 
 fn imprecise_front<'c>(rows: &'c [ImpreciseName], text: &str) -> Option<&'c ImpreciseName>
-    ensures { option_copied result ≡ find (λ (r : ImpreciseName). begins_caseless (string_bytes r.prefix) text.now) rows.now }
+    ensures { option_copied result
+        ≡ find (λ (r : ImpreciseName). begins_caseless (string_bytes r.prefix) text.now) rows.now }
 {
     rows.iter()
         .find(|row| begins_caseless(row.prefix.as_str(), text))
@@ -46,31 +50,36 @@ impl Catalogue {
     }
 
     fn license_joined(&self, front: &[u8], ending: &[u8]) -> Option<&License>
-        ensures { option_map row_of (option_copied result) ≡ listed self.now.licenses (front.now ++ ending.now) }
+        ensures { option_map row_of (option_copied result)
+            ≡ listed self.now.licenses (front.now ++ ending.now) }
     {
         license_joined(&self.licenses, front, ending)
     }
 
     fn exception_named(&self, name: &[u8]) -> Option<&Exception>
-        ensures { option_map exception_of (option_copied result) ≡ listed_exception self.now.exceptions name.now }
+        ensures { option_map exception_of (option_copied result)
+            ≡ listed_exception self.now.exceptions name.now }
     {
         exception_named(&self.exceptions, name)
     }
 
     fn license_caseless(&self, name: &str) -> Option<&License>
-        ensures { option_map row_of (option_copied result) ≡ listed_caseless self.now.licenses name.now }
+        ensures { option_map row_of (option_copied result)
+            ≡ listed_caseless self.now.licenses name.now }
     {
         license_alike(&self.licenses, name)
     }
 
     fn exception_caseless(&self, name: &str) -> Option<&Exception>
-        ensures { option_map exception_of (option_copied result) ≡ listed_exception_caseless self.now.exceptions name.now }
+        ensures { option_map exception_of (option_copied result)
+            ≡ listed_exception_caseless self.now.exceptions name.now }
     {
         exception_alike(&self.exceptions, name)
     }
 
     fn imprecise_name(&self, text: &str) -> Option<&ImpreciseName>
-        ensures value { option_map imprecise_of (option_copied result) ≡ imprecise_row self.now.imprecise text.now }
+        ensures value { option_map imprecise_of (option_copied result)
+            ≡ imprecise_row self.now.imprecise text.now }
         ensures taken { IfSome result (λ m. 0 < length (string_bytes m.now.prefix)) }
     {
         imprecise_front(&self.imprecise, text)
@@ -110,7 +119,8 @@ impl Catalogue {
     /// ASCII letters aside, and how many bytes of the text that name takes. A walk over the
     /// imprecise names, since the first counts.
     pub fn imprecise_license_id(&self, text: &str) -> Option<(LicenseId<'_>, usize)>
-        ensures value { option_map (λ f. (id_row f.0, f.1)) result ≡ imprecise_license self.now text.now }
+        ensures value { option_map (λ f. (id_row f.0, f.1)) result
+            ≡ imprecise_license self.now text.now }
         ensures cut { IfSome result (λ f. IsCharBoundary text.now f.1) }
         ensures taken { IfSome result (λ f. 0 < f.1) }
     {
@@ -130,7 +140,8 @@ impl Catalogue {
     /// The first exception whose name it is, the case of ASCII letters aside; nothing is taken
     /// off. A walk over the exceptions.
     pub fn exception_id_caseless(&self, name: &str) -> Option<ExceptionId<'_>>
-        ensures { option_map exception_row result ≡ listed_exception_caseless self.now.exceptions name.now }
+        ensures { option_map exception_row result
+            ≡ listed_exception_caseless self.now.exceptions name.now }
     {
         self.exception_caseless(name)
             .map(|row| ExceptionId::new(row))

@@ -86,14 +86,16 @@ pub fn are_same_license(a: &LicenseItem<'_>, b: &LicenseItem<'_>) -> bool
 
 /// `==` of addition items.
 pub fn are_same_addition(a: &AdditionItem<'_>, b: &AdditionItem<'_>) -> bool
-    ensures { IsTrue result ↔ (addition_key (addition_of a.now) ≡ addition_key (addition_of b.now)) }
+    ensures { IsTrue result ↔ (addition_key (addition_of a.now)
+        ≡ addition_key (addition_of b.now)) }
 {
     AdditionItem::eq(a, b)
 }
 
 /// `==` of requirements.
 pub fn are_same_requirement(a: &LicenseReq<'_>, b: &LicenseReq<'_>) -> bool
-    ensures { IsTrue result ↔ (requirement_key (requirement_of a.now) ≡ requirement_key (requirement_of b.now)) }
+    ensures { IsTrue result ↔ (requirement_key (requirement_of a.now)
+        ≡ requirement_key (requirement_of b.now)) }
 {
     LicenseReq::eq(a, b)
 }

@@ -21,7 +21,8 @@ fn name_behind<'t>(prefix: &str, run: &'t str) -> Option<&'t str>
 // The document and the name of a reference into a document.
 fn names_behind<'t>(prefix: &str, run: &'t str) -> Option<(&'t str, &'t str)>
     ensures value { option_map pair_of result ≡ spec.names_behind prefix.now run.now }
-    ensures len { IfSome result (λ names. 13 + (length names.0.now + (length prefix.now + length names.1.now)) ≤ length run.now) }
+    ensures len { IfSome result (λ names.
+        13 + (length names.0.now + (length prefix.now + length names.1.now)) ≤ length run.now) }
 {
     let rest = strip("DocumentRef-", run)?;
     let (document, rest) = split_name(rest);

@@ -55,7 +55,8 @@ impl<'c> Licensee<'c> {
         text: &'t str,
     ) -> Result<Licensee<'c>, Failure<ParseError<'t>>>
         ensures ok { IfOk result (λ licensee. Names cat.now text.now licensee) }
-        ensures err { IfErr result (IfRefused (λ e. IsFaultOf cat.now text.now (fault_of e.reason) (span_of e.span))) }
+        ensures err { IfErr result (IfRefused (λ e.
+            IsFaultOf cat.now text.now (fault_of e.reason) (span_of e.span))) }
         ensures none { IfErr result (IfRefused (λ _. NamesNone cat.now text.now)) }
         ensures original { IfErr result (IfRefused (λ e. e.original.now ≡ text.now)) }
         ensures place { IfErr result (IfRefused (λ e. IsPlace text.now (span_of e.span))) }
@@ -112,7 +113,8 @@ impl<'c> Licensee<'c> {
 
 /// `==` of additions, or of none, as `satisfies` compares them.
 pub fn are_same_additions(one: &Option<AdditionItem<'_>>, other: &Option<AdditionItem<'_>>) -> bool
-    ensures test { result ≡ same_additions (option_map addition_of one.now) (option_map addition_of other.now) }
+    ensures test { result ≡ same_additions (option_map addition_of one.now)
+        (option_map addition_of other.now) }
     ensures same { IsTrue result
         ↔ (option_map addition_key (option_map addition_of one.now) ≡ option_map addition_key (option_map addition_of other.now)) }
 {

@@ -22,7 +22,9 @@ type Item<'c, 't> = Option<Result<LexerToken<'c, 't>, ParseError<'t>>>;
 
 // The refusal of the text for the reason, which stands at the span.
 fn refused<'t>(text: &'t str, span: Range<usize>, reason: Reason) -> Failure<ParseError<'t>>
-    ensures fault { IfRefused (λ e. (fault_of e.reason ≡ fault_of reason) × (span_of e.span ≡ span_of span) × (e.original.now ≡ text.now)) result }
+    ensures fault { IfRefused (λ e.
+        (fault_of e.reason ≡ fault_of reason) × (span_of e.span ≡ span_of span)
+        × (e.original.now ≡ text.now)) result }
     ensures refusal { IsRefusal result }
 {
     Failure::Refused(ParseError {
@@ -47,7 +49,8 @@ fn license_named<'c>(
     alloc: Global,
     token: Token<'c, '_>,
 ) -> Result<Option<LicenseItem<'c>>, AllocError>
-    ensures named { IfOk result (λ item. option_map licence_of item ≡ license_named (word_of token.entry)) }
+    ensures named { IfOk result (λ item.
+        option_map licence_of item ≡ license_named (word_of token.entry)) }
     ensures memory { is_reference (word_of token.entry) ≡ false → IsOk result }
 {
     match token {
@@ -76,7 +79,8 @@ fn addition_named<'c>(
     alloc: Global,
     token: Token<'c, '_>,
 ) -> Result<Option<AdditionItem<'c>>, AllocError>
-    ensures named { IfOk result (λ item. option_map addition_of item ≡ addition_named (word_of token.entry)) }
+    ensures named { IfOk result (λ item.
+        option_map addition_of item ≡ addition_named (word_of token.entry)) }
     ensures memory { is_reference (word_of token.entry) ≡ false → IsOk result }
 {
     match token {
@@ -108,7 +112,8 @@ fn read_license<'c, 't>(
     text: &'t str,
     item: Item<'c, 't>,
 ) -> Result<LicenseItem<'c>, Failure<ParseError<'t>>>
-    ensures { Gives licence_of text.now (starts_reference (option_map item_of item.entry)) (license_at (length text.now) (option_map item_of item.entry)) result }
+    ensures { Gives licence_of text.now (starts_reference (option_map item_of item.entry))
+        (license_at (length text.now) (option_map item_of item.entry)) result }
 {
     match item {
         None => Err(refused(text, 0..text.len(), Reason::Empty)),
@@ -145,7 +150,8 @@ fn read_addition<'c, 't>(
     text: &'t str,
     item: Item<'c, 't>,
 ) -> Result<AdditionItem<'c>, Failure<ParseError<'t>>>
-    ensures { Gives addition_of text.now (starts_reference (option_map item_of item.entry)) (addition_at (length text.now) (option_map item_of item.entry)) result }
+    ensures { Gives addition_of text.now (starts_reference (option_map item_of item.entry))
+        (addition_at (length text.now) (option_map item_of item.entry)) result }
 {
     let expected = Reason::Unexpected(&["<addition>"]);
     match item {
@@ -176,7 +182,8 @@ pub(crate) fn read_requirement<'c, 't>(
     text: &'t str,
     lexer: &mut Lexer<'c, 't>,
 ) -> Result<LicenseReq<'c>, Failure<ParseError<'t>>>
-    ensures { Gives requirement_of text.now (list_any item_is_reference (items_left lexer.old)) (licensee_at (length text.now) (items_left lexer.old)) result }
+    ensures { Gives requirement_of text.now (list_any item_is_reference (items_left lexer.old))
+        (licensee_at (length text.now) (items_left lexer.old)) result }
 {
     let license = read_license(alloc, text, lexer.next())?;
     let Some(behind) = lexer.next() else {

@@ -152,7 +152,8 @@ impl<'n> Iterator for FamilyParts<'n> {
 
 /// Whether two names have the same parts between hyphens, in order, but for their versions.
 pub(crate) fn same_family(a: &[u8], b: &[u8]) -> bool
-    ensures { result ≡ spec.same_parts (parted.without_version (parted.parts a.now)) (parted.without_version (parted.parts b.now)) }
+    ensures { result ≡ spec.same_parts (parted.without_version (parted.parts a.now))
+        (parted.without_version (parted.parts b.now)) }
 {
     let mut others = FamilyParts::of(b);
     for part in FamilyParts::of(a) {

@@ -67,8 +67,10 @@ impl<'c, 't> Parser<'c, 't> {
 
 /// One more node.
 pub fn put<'c>(nodes: &mut SmallVec<ExprNode<'c>, 5>, node: ExprNode<'c>) -> Result<(), AllocError>
-    ensures nodes { OnOk result (map node_of nodes.new.items ≡ map node_of nodes.old.items ++ node_of node.entry ∷ []) }
-    ensures spans { OnOk result (requirement_spans nodes.new.items ≡ requirement_spans nodes.old.items ++ requirement_spans (node.entry ∷ [])) }
+    ensures nodes { OnOk result (map node_of nodes.new.items ≡ map node_of nodes.old.items
+        ++ node_of node.entry ∷ []) }
+    ensures spans { OnOk result (requirement_spans nodes.new.items
+        ≡ requirement_spans nodes.old.items ++ requirement_spans (node.entry ∷ [])) }
 {
     nodes.push(node)?;
     Ok(())
@@ -80,8 +82,10 @@ pub fn put_operators(
     operator: Operator,
     count: usize,
 ) -> Result<(), AllocError>
-    ensures nodes { OnOk result (map node_of nodes.new.items ≡ map node_of nodes.old.items ++ replicate count (Op operator)) }
-    ensures spans { OnOk result (requirement_spans nodes.new.items ≡ requirement_spans nodes.old.items) }
+    ensures nodes { OnOk result (map node_of nodes.new.items ≡ map node_of nodes.old.items
+        ++ replicate count (Op operator)) }
+    ensures spans { OnOk result (requirement_spans nodes.new.items
+        ≡ requirement_spans nodes.old.items) }
 {
     for _i in 0..count {
         put(nodes, ExprNode::Op(operator))?;

@@ -61,7 +61,8 @@ fn reference<'c>(
     doc_ref: Option<&str>,
     lic_ref: &str,
 ) -> Result<LicenseItem<'c>, AllocError>
-    ensures { IfOk result (λ item. licence_of item ≡ referred (Grammar.reference (document_of doc_ref.entry) lic_ref.now)) }
+    ensures { IfOk result (λ item.
+        licence_of item ≡ referred (Grammar.reference (document_of doc_ref.entry) lic_ref.now)) }
 {
     let reference = LicenseRef {
         doc_ref: owned(alloc, doc_ref)?,
@@ -87,7 +88,8 @@ pub fn addition_item<'c>(
     doc_ref: Option<&str>,
     add_ref: &str,
 ) -> Result<AdditionItem<'c>, AllocError>
-    ensures { IfOk result (λ item. addition_of item ≡ added (Grammar.reference (document_of doc_ref.entry) add_ref.now)) }
+    ensures { IfOk result (λ item.
+        addition_of item ≡ added (Grammar.reference (document_of doc_ref.entry) add_ref.now)) }
 {
     let reference = AdditionRef {
         doc_ref: owned(alloc, doc_ref)?,
@@ -153,7 +155,8 @@ pub fn reason(
     none_open: bool,
     token: Token<'_, '_>,
 ) -> Reason
-    ensures { fault_of result ≡ fault_behind mode (last_in phase.entry) none_open (word_of token.entry) }
+    ensures { fault_of result ≡ fault_behind mode (last_in phase.entry) none_open
+        (word_of token.entry) }
 {
     match (phase, token) {
         (Phase::Due, Token::Spdx(id)) if !may_stand(mode, id) => Reason::DeprecatedLicenseId,

@@ -31,7 +31,11 @@ fn put_leaf<'c>(
     name: Name<'c, '_>,
     addition: Option<AdditionItem<'c>>,
 ) -> Result<(), AllocError>
-    ensures { OnOk result ((f : machine.Frame) (fs : List machine.Frame) (seen : Seen) → Stands f fs [] seen (span_of parser.old.place ∷ []) parser.old → Stands f fs (postfix (Leaf (record { licence = name_licence name.entry; addition = option_map addition_of addition.entry }))) seen [] parser.new) }
+    ensures { OnOk result ((f : machine.Frame) (fs : List machine.Frame) (seen : Seen) →
+        Stands f fs [] seen (span_of parser.old.place ∷ []) parser.old →
+        Stands f fs (postfix (Leaf (record
+        { licence = name_licence name.entry; addition = option_map addition_of addition.entry })))
+        seen [] parser.new) }
 {
     let license = license_item(parser.alloc, name)?;
     let req = LicenseReq { license, addition };
@@ -45,7 +49,11 @@ fn put_leaf<'c>(
 // Behind a primary.
 fn operate(parser: &mut Parser<'_, '_>, token: Token<'_, '_>) -> Result<bool, AllocError>
     requires { IsWhole parser.old }
-    ensures { IfOk result (λ taken. (t : Tree) (f : machine.Frame) (fs : List machine.Frame) (seen : Seen) (span : Span) → Stands f fs (postfix t) seen [] parser.old → Answers (machine.operate t f fs (word_of token.entry)) taken (see seen (word_of token.entry) span) parser.new) }
+    ensures { IfOk result (λ taken.
+        (t : Tree) (f : machine.Frame) (fs : List machine.Frame) (seen : Seen) (span : Span) →
+        Stands f fs (postfix t) seen [] parser.old →
+        Answers (machine.operate t f fs (word_of token.entry)) taken
+        (see seen (word_of token.entry) span) parser.new) }
 {
     // Each left side has a node, so there is room to count one more.
     let _count = parser.nodes.len();
@@ -85,7 +93,11 @@ fn after_licence<'c, 't>(
     token: Token<'_, '_>,
 ) -> Result<bool, AllocError>
     requires { IsHeld parser.old }
-    ensures { IfOk result (λ taken. (f : machine.Frame) (fs : List machine.Frame) (seen : Seen) (span : Span) → Stands f fs [] seen (span_of parser.old.place ∷ []) parser.old → Answers (machine.after_licence (name_licence name.entry) f fs (word_of token.entry)) taken (see seen (word_of token.entry) span) parser.new) }
+    ensures { IfOk result (λ taken.
+        (f : machine.Frame) (fs : List machine.Frame) (seen : Seen) (span : Span) →
+        Stands f fs [] seen (span_of parser.old.place ∷ []) parser.old →
+        Answers (machine.after_licence (name_licence name.entry) f fs (word_of token.entry)) taken
+        (see seen (word_of token.entry) span) parser.new) }
 {
     match token {
         Token::With => {
@@ -102,7 +114,10 @@ fn after_licence<'c, 't>(
 
 // The listed licence whose name has `-or-later` in place of a GNU licence's `-only`, or behind its name.
 fn later_id<'c>(catalogue: &'c Catalogue, id: LicenseId<'_>) -> Option<LicenseId<'c>>
-    ensures { IsLicenseRow catalogue.now (id_row id.entry) → Flags.is_gnu (id_row id.entry).flags ≡ true → Names.ends_or_later (id_row id.entry).name ≡ false → option_map id_row result ≡ later_row catalogue.now (id_row id.entry) }
+    ensures { IsLicenseRow catalogue.now (id_row id.entry) →
+        Flags.is_gnu (id_row id.entry).flags ≡ true →
+        Names.ends_or_later (id_row id.entry).name ≡ false →
+        option_map id_row result ≡ later_row catalogue.now (id_row id.entry) }
 {
     catalogue.is_well_formed();
     let name = id.license().name.as_str();
@@ -116,7 +131,11 @@ fn read_due<'c, 't>(
     token: Token<'c, 't>,
     span: Range<usize>,
 ) -> Result<bool, AllocError>
-    ensures { IfOk result (λ taken. (c : Rows) (f : machine.Frame) (fs : List machine.Frame) (seen : Seen) → Stands f fs [] seen [] parser.old → seen.last ≡ Last.Due → Answers (machine.act c mode machine.Due f fs (word_of token.entry)) taken (see seen (word_of token.entry) (span_of span)) parser.new) }
+    ensures { IfOk result (λ taken.
+        (c : Rows) (f : machine.Frame) (fs : List machine.Frame) (seen : Seen) →
+        Stands f fs [] seen [] parser.old → seen.last ≡ Last.Due →
+        Answers (machine.act c mode machine.Due f fs (word_of token.entry)) taken
+        (see seen (word_of token.entry) (span_of span)) parser.new) }
 {
     match token {
         Token::Spdx(id) => {
@@ -160,7 +179,12 @@ fn read_fresh<'c, 't>(
     token: Token<'c, 't>,
 ) -> Result<bool, AllocError>
     requires { IsHeld parser.old }
-    ensures { IfOk result (λ taken. IsLicenseRow catalogue.now (id_row id.entry) → (f : machine.Frame) (fs : List machine.Frame) (seen : Seen) (span : Span) → Stands f fs [] seen (span_of parser.old.place ∷ []) parser.old → Answers (machine.act catalogue.now mode (machine.Fresh (id_row id.entry)) f fs (word_of token.entry)) taken (see seen (word_of token.entry) span) parser.new) }
+    ensures { IfOk result (λ taken.
+        IsLicenseRow catalogue.now (id_row id.entry) →
+        (f : machine.Frame) (fs : List machine.Frame) (seen : Seen) (span : Span) →
+        Stands f fs [] seen (span_of parser.old.place ∷ []) parser.old →
+        Answers (machine.act catalogue.now mode (machine.Fresh (id_row id.entry)) f fs
+        (word_of token.entry)) taken (see seen (word_of token.entry) span) parser.new) }
 {
     match token {
         Token::Plus => {
@@ -199,7 +223,12 @@ fn put_addition<'c>(
     name: Name<'c, '_>,
     addition: AdditionItem<'c>,
 ) -> Result<bool, AllocError>
-    ensures { IfOk result (λ taken. (f : machine.Frame) (fs : List machine.Frame) (seen : Seen) → Stands f fs [] seen (span_of parser.old.place ∷ []) parser.old → (taken ≡ true) × Shows (machine.Whole (machine.joined_leaf (name_licence name.entry) (addition_of addition.entry))) f fs (record { last = Last.Added; spans = seen.spans; places = seen.places }) parser.new) }
+    ensures { IfOk result (λ taken.
+        (f : machine.Frame) (fs : List machine.Frame) (seen : Seen) →
+        Stands f fs [] seen (span_of parser.old.place ∷ []) parser.old →
+        (taken ≡ true) × Shows (machine.Whole
+        (machine.joined_leaf (name_licence name.entry) (addition_of addition.entry))) f fs
+        (record { last = Last.Added; spans = seen.spans; places = seen.places }) parser.new) }
 {
     put_leaf(parser, name, Some(addition))?;
     parser.phase = Phase::Added;
@@ -212,7 +241,12 @@ fn read_joined<'c, 't>(
     name: Name<'c, 't>,
     token: Token<'c, 't>,
 ) -> Result<bool, AllocError>
-    ensures { IfOk result (λ taken. (c : Rows) (m : ParseMode) (f : machine.Frame) (fs : List machine.Frame) (seen : Seen) (span : Span) → Stands f fs [] seen (span_of parser.old.place ∷ []) parser.old → seen.last ≡ Last.Joined → Answers (machine.act c m (machine.Joined (name_licence name.entry)) f fs (word_of token.entry)) taken (see seen (word_of token.entry) span) parser.new) }
+    ensures { IfOk result (λ taken.
+        (c : Rows) (m : ParseMode) (f : machine.Frame) (fs : List machine.Frame) (seen : Seen)
+        (span : Span) → Stands f fs [] seen (span_of parser.old.place ∷ []) parser.old →
+        seen.last ≡ Last.Joined → Answers
+        (machine.act c m (machine.Joined (name_licence name.entry)) f fs (word_of token.entry))
+        taken (see seen (word_of token.entry) span) parser.new) }
 {
     match token {
         Token::Exception(id) => put_addition(parser, name, AdditionItem::Spdx(id)),
@@ -237,7 +271,12 @@ pub fn read<'c, 't>(
     span: Range<usize>,
 ) -> Result<bool, AllocError>
     requires { IsShown parser.old }
-    ensures { IfOk result (λ taken. IsRowKnown catalogue.now parser.old.phase → (p : machine.Phase) (f : machine.Frame) (fs : List machine.Frame) (seen : Seen) → Shows p f fs seen parser.old → Answers (machine.act catalogue.now mode p f fs (word_of token.entry)) taken (see seen (word_of token.entry) (span_of span)) parser.new) }
+    ensures { IfOk result (λ taken.
+        IsRowKnown catalogue.now parser.old.phase →
+        (p : machine.Phase) (f : machine.Frame) (fs : List machine.Frame) (seen : Seen) →
+        Shows p f fs seen parser.old →
+        Answers (machine.act catalogue.now mode p f fs (word_of token.entry)) taken
+        (see seen (word_of token.entry) (span_of span)) parser.new) }
 {
     match parser.phase {
         Phase::Due => read_due(parser, mode, token, span),
@@ -250,7 +289,9 @@ pub fn read<'c, 't>(
 
 // Makes a requirement of a licence that was read last.
 fn put_last(parser: &mut Parser<'_, '_>) -> Result<(), AllocError>
-    ensures { OnOk result ((p : machine.Phase) (f : machine.Frame) (fs : List machine.Frame) (seen : Seen) → Shows p f fs seen parser.old → Last.is_closing (last_in parser.old.phase) ≡ true → EndsWhole p f fs seen parser.new) }
+    ensures { OnOk result ((p : machine.Phase) (f : machine.Frame) (fs : List machine.Frame)
+        (seen : Seen) → Shows p f fs seen parser.old →
+        Last.is_closing (last_in parser.old.phase) ≡ true → EndsWhole p f fs seen parser.new) }
 {
     match parser.phase {
         Phase::Fresh(id) => put_leaf(
@@ -268,7 +309,10 @@ fn put_last(parser: &mut Parser<'_, '_>) -> Result<(), AllocError>
 
 /// The nodes of the one expression that was read, where it may end and no parenthesis is open.
 pub fn finish<'c>(mut parser: Parser<'c, '_>) -> Result<SmallVec<ExprNode<'c>, 5>, AllocError>
-    ensures { IfOk result (λ nodes. (p : machine.Phase) (f : machine.Frame) (seen : Seen) → Shows p f [] seen parser.entry → Last.is_closing (last_in parser.entry.phase) ≡ true → IsBuilt (machine.finish p f []) seen nodes.items) }
+    ensures { IfOk result (λ nodes.
+        (p : machine.Phase) (f : machine.Frame) (seen : Seen) → Shows p f [] seen parser.entry →
+        Last.is_closing (last_in parser.entry.phase) ≡ true →
+        IsBuilt (machine.finish p f []) seen nodes.items) }
 {
     put_last(&mut parser)?;
     let Parser {

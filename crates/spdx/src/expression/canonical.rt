@@ -35,8 +35,12 @@ impl<'c> Expression<'c> {
         cat: &Catalogue,
         text: &'t str,
     ) -> Result<Option<String>, Failure<ParseError<'t>>>
-        ensures answer { IfOk result (λ answer. answer_to text.now (canonical_of cat.now text.now) ≡ Ok (option_map string_bytes answer)) }
-        ensures refusal { IfErr result (IfRefused (λ error. (canonical_of cat.now text.now ≡ Err (placed_fault error)) × (error.original.now ≡ text.now))) }
+        ensures answer { IfOk result (λ answer.
+            answer_to text.now (canonical_of cat.now text.now)
+            ≡ Ok (option_map string_bytes answer)) }
+        ensures refusal { IfErr result
+            (IfRefused (λ error. (canonical_of cat.now text.now ≡ Err (placed_fault error))
+            × (error.original.now ≡ text.now))) }
         ensures place { IfErr result (IfRefused (λ error. IsPlace text.now (span_of error.span))) }
         ensures itself { canonical_of cat.now text.now ≡ Ok text.now → result ≡ Ok None }
         ensures laws { CanonicalLaws cat.now text.now }

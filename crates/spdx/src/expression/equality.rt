@@ -21,7 +21,8 @@ impl<'c> PartialEq for Expression<'c> {
     fn eq(&self, other: &Self) -> bool
         ensures value { result ≡ same_tree self.now.tree other.now.tree }
         ensures by_key { IsTrue result ↔ (tree_key self.now.tree ≡ tree_key other.now.tree) }
-        ensures of_one_catalogue { (c : Rows) → IsOfRows c self.now.tree → IsOfRows c other.now.tree → (IsTrue result ↔ (self.now.tree ≡ other.now.tree)) }
+        ensures of_one_catalogue { (c : Rows) → IsOfRows c self.now.tree →
+            IsOfRows c other.now.tree → (IsTrue result ↔ (self.now.tree ≡ other.now.tree)) }
     {
         same_nodes(self.nodes(), other.nodes())
     }

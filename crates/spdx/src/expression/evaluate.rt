@@ -29,7 +29,8 @@ impl<'c> Expression<'c> {
         f: &mut F,
     ) -> Result<bool, AllocError>
         requires { F.IsAlwaysCallable f.old }
-        ensures ok { IfOk result (λ truth. Evaluates (CalledAt F.FnMut) f.old self.now.tree truth f.new) }
+        ensures ok { IfOk result (λ truth.
+            Evaluates (CalledAt F.FnMut) f.old self.now.tree truth f.new) }
         ensures by { IfOk result (λ truth. (h : Requirement → Bool) →
             AnswersBy (CalledAt F.FnMut) f.old h → truth ≡ holds h self.now.tree) }
         ensures still_callable { F.IsAlwaysCallable f.new }
@@ -52,11 +53,14 @@ impl<'c> Expression<'c> {
         f: &mut F,
     ) -> Result<(), Failure<Vec<&ExpressionReq<'c>>>>
         requires { F.IsAlwaysCallable f.old }
-        ensures ok { IfOk result (λ _. Evaluates (CalledAt F.FnMut) f.old self.now.tree true f.new) }
+        ensures ok { IfOk result (λ _.
+            Evaluates (CalledAt F.FnMut) f.old self.now.tree true f.new) }
         ensures ok_by { IfOk result (λ _. (h : Requirement → Bool) →
             AnswersBy (CalledAt F.FnMut) f.old h → holds h self.now.tree ≡ true) }
         ensures still_callable { F.IsAlwaysCallable f.new }
-        ensures err { IfErr result (RefusedOr (f.new ≡ f.old) (λ failed. EvaluatesToFalse (CalledAt F.FnMut) f.old self.now (map placed_of (nows failed.items)) f.new)) }
+        ensures err { IfErr result (RefusedOr (f.new ≡ f.old) (λ failed.
+            EvaluatesToFalse (CalledAt F.FnMut) f.old self.now
+            (map placed_of (nows failed.items)) f.new)) }
         ensures err_by { IfErr result (IfRefused (λ failed. (h : Requirement → Bool) →
             AnswersBy (CalledAt F.FnMut) f.old h →
             FailsBy h self.now (map placed_of (nows failed.items)))) }
@@ -92,7 +96,8 @@ pub(crate) fn truth_over<'c, F: FnMut(&LicenseReq<'c>) -> bool>(
     requires callable { F.IsAlwaysCallable f.old }
     requires tree { IsPostfix (map node_of nodes.now) }
     requires room { length nodes.now ≤ truths.old.room }
-    ensures truth { Evaluates (CalledAt F.FnMut) f.old (tree_of (map node_of nodes.now)) result f.new }
+    ensures truth { Evaluates (CalledAt F.FnMut) f.old
+        (tree_of (map node_of nodes.now)) result f.new }
     ensures still_callable { F.IsAlwaysCallable f.new }
     ensures room { truths.new.room ≡ truths.old.room }
 {
@@ -114,7 +119,8 @@ fn keep_if_false<'e, 'c>(
     answer: bool,
 )
     requires { vec_len failed.old < vec_capacity failed.old }
-    ensures items { nows failed.new.items ≡ kept_if_false (nows failed.old.items) requirement.now answer }
+    ensures items { nows failed.new.items
+        ≡ kept_if_false (nows failed.old.items) requirement.now answer }
     ensures len { vec_len failed.new ≤ vec_len failed.old + 1 }
     ensures capacity { vec_capacity failed.new ≡ vec_capacity failed.old }
 {

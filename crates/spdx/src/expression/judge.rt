@@ -111,7 +111,8 @@ fn questions_of<'a, 'c>(
     exprs: &[&'a Expression<'c>],
     members: &[&Licensee<'_>],
 ) -> Result<Vec<Question<'a, 'c>>, AllocError>
-    ensures trees { IfOk result (λ questions. map question_tree questions.items ≡ trees_of exprs.now) }
+    ensures trees { IfOk result (λ questions.
+        map question_tree questions.items ≡ trees_of exprs.now) }
     ensures over { IfOk result (λ questions. IsOver (nows members.now) questions.items) }
 {
     let mut questions = Vec::with_capacity(alloc, exprs.len())?;
@@ -128,7 +129,8 @@ fn question_of<'a, 'c>(
     members: &[&Licensee<'_>],
 ) -> Result<Question<'a, 'c>, AllocError>
     ensures tree { IfOk result (λ question. question_tree question ≡ expression.now.tree) }
-    ensures met_by { IfOk result (λ question. met_by question ≡ map (places (nows members.now)) (leaves expression.now.tree)) }
+    ensures met_by { IfOk result (λ question.
+        met_by question ≡ map (places (nows members.now)) (leaves expression.now.tree)) }
 {
     let met_by = members_by_node(alloc, members, expression.nodes())?;
     Ok(Question { expression, met_by })
@@ -140,7 +142,8 @@ fn members_by_node(
     members: &[&Licensee<'_>],
     nodes: &[ExprNode<'_>],
 ) -> Result<Vec<Vec<usize>>, AllocError>
-    ensures { IfOk result (λ met_by. map (λ v. v.items) met_by.items ≡ places_in (nows members.now) nodes.now) }
+    ensures { IfOk result (λ met_by.
+        map (λ v. v.items) met_by.items ≡ places_in (nows members.now) nodes.now) }
 {
     let mut met_by = Vec::new(alloc);
     for node in nodes {
@@ -157,7 +160,8 @@ fn places_of(
     members: &[&Licensee<'_>],
     requirement: &LicenseReq<'_>,
 ) -> Result<Vec<usize>, AllocError>
-    ensures { IfOk result (λ found. found.items ≡ places (nows members.now) (requirement_of requirement.now)) }
+    ensures { IfOk result (λ found.
+        found.items ≡ places (nows members.now) (requirement_of requirement.now)) }
 {
     let mut found = Vec::new(alloc);
     for place in 0..members.len() {

@@ -70,9 +70,13 @@ impl<'c> Expression<'c> {
         alloc: Global,
         accepted: &'a [Licensee<'c>],
     ) -> Result<Vec<LicenseReq<'c>>, Failure<MinimizeError>>
-        ensures ok { IfOk result (λ reqs. choice_of (self.now.tree ∷ []) accepted.now ≡ chosen (map requirement_of reqs.items)) }
-        ensures err { IfErr result (IfRefused (λ e. choice_of (self.now.tree ∷ []) accepted.now ≡ refused_choice e)) }
-        ensures least { IfOk result (λ reqs. IsLeastChoice (self.now.tree ∷ []) (useful (self.now.tree ∷ []) accepted.now) (map requirement_of reqs.items)) }
+        ensures ok { IfOk result (λ reqs.
+            choice_of (self.now.tree ∷ []) accepted.now ≡ chosen (map requirement_of reqs.items)) }
+        ensures err { IfErr result (IfRefused (λ e.
+            choice_of (self.now.tree ∷ []) accepted.now ≡ refused_choice e)) }
+        ensures least { IfOk result (λ reqs.
+            IsLeastChoice (self.now.tree ∷ []) (useful (self.now.tree ∷ []) accepted.now)
+            (map requirement_of reqs.items)) }
     {
         minimized_for_all(alloc, slice::from_ref(&self), accepted)
     }
@@ -101,9 +105,13 @@ pub fn minimized_for_all<'a, 'c: 'a>(
     exprs: &[&'a Expression<'c>],
     accepted: &'a [Licensee<'c>],
 ) -> Result<Vec<LicenseReq<'c>>, Failure<MinimizeError>>
-    ensures ok { IfOk result (λ reqs. choice_of (trees_of exprs.now) accepted.now ≡ chosen (map requirement_of reqs.items)) }
-    ensures err { IfErr result (IfRefused (λ e. choice_of (trees_of exprs.now) accepted.now ≡ refused_choice e)) }
-    ensures least { IfOk result (λ reqs. IsLeastChoice (trees_of exprs.now) (useful (trees_of exprs.now) accepted.now) (map requirement_of reqs.items)) }
+    ensures ok { IfOk result (λ reqs.
+        choice_of (trees_of exprs.now) accepted.now ≡ chosen (map requirement_of reqs.items)) }
+    ensures err { IfErr result (IfRefused (λ e.
+        choice_of (trees_of exprs.now) accepted.now ≡ refused_choice e)) }
+    ensures least { IfOk result (λ reqs.
+        IsLeastChoice (trees_of exprs.now) (useful (trees_of exprs.now) accepted.now)
+        (map requirement_of reqs.items)) }
 {
     let members = useful_members(alloc, exprs, accepted)?;
     let count = members.len();
@@ -125,7 +133,8 @@ fn useful_members<'a, 'c>(
     exprs: &[&Expression<'_>],
     accepted: &'a [Licensee<'c>],
 ) -> Result<Vec<&'a Licensee<'c>>, AllocError>
-    ensures { IfOk result (λ members. nows members.items ≡ useful (trees_of exprs.now) accepted.now) }
+    ensures { IfOk result (λ members.
+        nows members.items ≡ useful (trees_of exprs.now) accepted.now) }
 {
     let mut seen: BTreeSet<&'a LicenseReq<'c>> = BTreeSet::new(alloc);
     let mut members = Vec::new(alloc);
@@ -171,7 +180,8 @@ fn chosen_requirements<'c>(
     selection: &[bool],
 ) -> Result<Vec<LicenseReq<'c>>, AllocError>
     requires { length selection.now ≡ length members.now }
-    ensures { IfOk result (λ reqs. map requirement_of reqs.items ≡ chosen_of (nows members.now) selection.now) }
+    ensures { IfOk result (λ reqs.
+        map requirement_of reqs.items ≡ chosen_of (nows members.now) selection.now) }
 {
     let mut requirements = Vec::new(alloc);
     for place in 0..members.len() {
