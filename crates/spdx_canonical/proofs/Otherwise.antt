@@ -15,7 +15,8 @@ use Rattle.spdx_lexer.specs.Words.{Word, Spdx, LicenseRef, Exception, AdditionRe
 use Rattle.spdx_lexer.specs.Text.{is_run_byte, name_at, strip}
 use Rattle.spdx_lexer.specs.Lexeme.{Found, first_of, reference_text, name_behind, names_behind, reference, license_reference, addition_reference, lexeme}
 use Rattle.spdx_parser.specs.Tree.{Tree}
-use Rattle.spdx_parser.specs.Grammar.{may_stand, LicenceOf, plain, marked, named}
+use Rattle.spdx_parser.specs.Grammar.{may_stand}
+use Rattle.spdx_parser.proofs.Threaded.{LicenceOf, plain, marked, named}
 use Rattle.spdx_canonical.proofs.Lexed.{lexeme_none}
 use Rattle.spdx_canonical.specs.Canonical.{is_spdx, written_name, plus_follows, text_behind, canonical_text, words_by}
 use Rattle.spdx_canonical.specs.Law.{EachName, is_good, IsReferenceName, tree_by, Accepts, IsAccepted}

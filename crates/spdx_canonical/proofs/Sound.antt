@@ -13,7 +13,8 @@ use Rattle.spdx_lexer.specs.Modes.{strict, lax}
 use Rattle.spdx_lexer.specs.Words.{Word, Spdx, LicenseRef, Exception, AdditionRef, Unknown, Plus, OpenParen, CloseParen, With, And, Or, Fault, Item}
 use Rattle.spdx_lexer.specs.Reading.{said, reading, Spells}
 use Rattle.spdx_parser.specs.Tree.{Tree}
-use Rattle.spdx_parser.specs.Grammar.{may_stand, later_row, LicenceOf, plain, marked}
+use Rattle.spdx_parser.specs.Grammar.{may_stand, later_row}
+use Rattle.spdx_parser.proofs.Threaded.{LicenceOf, plain, marked}
 use Rattle.spdx_parser.proofs.Complete.{the_only}
 use Rattle.spdx_canonical.specs.Canonical.{is_spdx, is_misplaced, expected_license, first_fault, words_of, unless, canonical_of, gnu_name, written_name, plus_follows, canonical_text, only_row, canonical_row, canonical_words}
 use Rattle.spdx_canonical.specs.Law.{EachName, is_good, AreGood, only_licence, only_tree, Accepts, IsSound, IsFaithful}

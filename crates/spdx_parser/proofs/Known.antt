@@ -18,7 +18,8 @@ use Rattle.spdx_parser.specs.Tree.{Tree, Leaf}
 use Rattle.spdx_parser.specs.Last.{Last, Listed, Joined, next_last, last_behind}
 use Rattle.spdx_parser.specs.Spans.{Placed, words}
 use Rattle.spdx_parser.specs.Parsed.{IsLicenseRow, IsExceptionRow, IsOfRows, IsLicenceOf, IsAdditionOf}
-use Rattle.spdx_parser.specs.Grammar as G
+use Rattle.spdx_parser.specs.Grammar.{Derives}
+use Rattle.spdx_parser.proofs.Threaded as Threaded
 
 module _ (c : Rows) where
   -- the row of a word stands in the catalogue
@@ -163,35 +164,35 @@ module _ (c : Rows) where
     words_known m text read more e = front_known read more (subst ItemsKnown e (reading_known m 0 text))
 
     -- ---- of a tree
-    licence_rows : {m : ParseMode} {ws rest : List Word} {l : Licence} → G.LicenceOf c m ws l rest → AllKnown ws → IsLicenceOf c l × AllKnown rest
-    licence_rows (G.plain may) h = h
-    licence_rows (G.marked may other) h = (h.0, h.1.1)
-    licence_rows (G.later {r = r} {next = next} may gnu allowed bare is) h = (listed_is_license c well (without_only r.name ++ or_later) next is, h.1.1)
-    licence_rows G.named h = h
-    licence_rows G.unknown h = h
+    licence_rows : {m : ParseMode} {ws rest : List Word} {l : Licence} → Threaded.LicenceOf c m ws l rest → AllKnown ws → IsLicenceOf c l × AllKnown rest
+    licence_rows (Threaded.plain may) h = h
+    licence_rows (Threaded.marked may other) h = (h.0, h.1.1)
+    licence_rows (Threaded.later {r = r} {next = next} may gnu allowed bare is) h = (listed_is_license c well (without_only r.name ++ or_later) next is, h.1.1)
+    licence_rows Threaded.named h = h
+    licence_rows Threaded.unknown h = h
 
-    addition_rows : {ws rest : List Word} {a : Addition} → G.AdditionOf ws a rest → AllKnown ws → IsAdditionOf c (Some a) × AllKnown rest
-    addition_rows G.exception h = h
-    addition_rows G.named_addition h = h
-    addition_rows G.unknown_addition h = h
+    addition_rows : {ws rest : List Word} {a : Addition} → Threaded.AdditionOf ws a rest → AllKnown ws → IsAdditionOf c (Some a) × AllKnown rest
+    addition_rows Threaded.exception h = h
+    addition_rows Threaded.named_addition h = h
+    addition_rows Threaded.unknown_addition h = h
 
-    leaf_rows : {m : ParseMode} {ws rest : List Word} {r : Requirement} → G.LeafOf c m ws r rest → AllKnown ws → IsOfRows c (Leaf r) × AllKnown rest
-    leaf_rows (G.alone d) h = let a = licence_rows d h in ((a.0, tt), a.1)
-    leaf_rows (G.joined d e) h = let a = licence_rows d h in let b = addition_rows e a.1.1 in ((a.0, b.0), b.1)
+    leaf_rows : {m : ParseMode} {ws rest : List Word} {r : Requirement} → Threaded.LeafOf c m ws r rest → AllKnown ws → IsOfRows c (Leaf r) × AllKnown rest
+    leaf_rows (Threaded.alone d) h = let a = licence_rows d h in ((a.0, tt), a.1)
+    leaf_rows (Threaded.joined d e) h = let a = licence_rows d h in let b = addition_rows e a.1.1 in ((a.0, b.0), b.1)
 
     mutual
-      primary_rows : {m : ParseMode} {ws rest : List Word} {t : Tree} → G.PrimaryOf c m ws t rest → AllKnown ws → IsOfRows c t × AllKnown rest
-      primary_rows (G.leaf d) h = leaf_rows d h
-      primary_rows (G.group d) h = let a = or_rows d h.1 in (a.0, a.1.1)
+      primary_rows : {m : ParseMode} {ws rest : List Word} {t : Tree} → Threaded.PrimaryOf c m ws t rest → AllKnown ws → IsOfRows c t × AllKnown rest
+      primary_rows (Threaded.leaf d) h = leaf_rows d h
+      primary_rows (Threaded.group d) h = let a = or_rows d h.1 in (a.0, a.1.1)
 
-      and_rows : {m : ParseMode} {ws rest : List Word} {t : Tree} → G.AndOf c m ws t rest → AllKnown ws → IsOfRows c t × AllKnown rest
-      and_rows (G.one_primary d) h = primary_rows d h
-      and_rows (G.and_more d e) h = let a = primary_rows d h in let b = and_rows e a.1.1 in ((a.0, b.0), b.1)
+      and_rows : {m : ParseMode} {ws rest : List Word} {t : Tree} → Threaded.AndOf c m ws t rest → AllKnown ws → IsOfRows c t × AllKnown rest
+      and_rows (Threaded.one_primary d) h = primary_rows d h
+      and_rows (Threaded.and_more d e) h = let a = primary_rows d h in let b = and_rows e a.1.1 in ((a.0, b.0), b.1)
 
-      or_rows : {m : ParseMode} {ws rest : List Word} {t : Tree} → G.OrOf c m ws t rest → AllKnown ws → IsOfRows c t × AllKnown rest
-      or_rows (G.one_and d) h = and_rows d h
-      or_rows (G.or_more d e) h = let a = and_rows d h in let b = or_rows e a.1.1 in ((a.0, b.0), b.1)
+      or_rows : {m : ParseMode} {ws rest : List Word} {t : Tree} → Threaded.OrOf c m ws t rest → AllKnown ws → IsOfRows c t × AllKnown rest
+      or_rows (Threaded.one_and d) h = and_rows d h
+      or_rows (Threaded.or_more d e) h = let a = and_rows d h in let b = or_rows e a.1.1 in ((a.0, b.0), b.1)
 
     -- every row of a tree that known words mean
-    pub tree_known : (m : ParseMode) (ws : List Word) (t : Tree) → AllKnown ws → G.Derives c m ws t → IsOfRows c t
-    tree_known m ws t h d = (or_rows d h).0
+    pub tree_known : (m : ParseMode) (ws : List Word) (t : Tree) → AllKnown ws → Derives c m ws t → IsOfRows c t
+    tree_known m ws t h d = (or_rows (Threaded.threaded c m d) h).0
