@@ -13,7 +13,7 @@ use Rattle.spdx_catalogue.specs.Names.{is_name_byte}
 use Rattle.spdx_catalogue.specs.LookUps.{listed, listed_exception, listed_caseless, listed_exception_caseless, imprecise_row, imprecise_license}
 use Rattle.spdx_lexer.specs.Words.{Word, Spdx, LicenseRef, Exception, AdditionRef, Unknown, Plus, OpenParen, CloseParen, With, And, Or, Fault, SeparatedPlus, span}
 use Rattle.spdx_lexer.specs.Lexeme.{Found, first_of, if_allowed, sign, whole, operator, reference_text, name_behind, names_behind, reference, document_reference, license_reference, addition_reference, exact, referred, rules, lexeme, caseless, by_run, imprecise, unknown}
-use Rattle.spdx_lexer.specs.Reading.{then, behind, reading, said}
+use Rattle.spdx_lexer.specs.Reading.{reading, said}
 use Rattle.spdx_canonical.specs.Canonical.{is_spdx}
 use Rattle.spdx_canonical.proofs.Neighbours.{ends_term, takes_license, is_with, AreApart, IsReference, IsRead, AreRead}
 use Rattle.spdx_canonical.proofs.Known.{license_named, exception_named, license_itself, license_caseless, exception_itself, exception_caseless}
@@ -21,7 +21,7 @@ use Rattle.spdx_lexer.proofs.Found.{first_all, allowed, lexeme_all}
 use Rattle.spdx_canonical.proofs.Lexed.{and_both}
 use Rattle.spdx_catalogue.proofs.Caseless.{find_passes}
 use Rattle.spdx_lexer.proofs.White.{white_none}
-use Rattle.spdx_lexer.proofs.Unfold.{reading_is}
+use Rattle.spdx_lexer.proofs.Unfold.{then, behind, reading_is}
 use Rattle.spdx_canonical.proofs.Terms.{Stops}
 use Rattle.spdx_canonical.proofs.Cuts.{front_split, front_all, all_after, Cut, cut_name, cut_names}
 

@@ -1,5 +1,5 @@
 -- A text that reads strictly without a fault reads loosely as the same words, so an accepted line has a canonical text.
-use Rattle.std.proofs.Common.{◌≡◌, ℕ, zero, suc, ◌+◌, ◌&&◌, ◌==◌, Bool, true, false, cond, List, [], ◌∷◌, map, length, drop, Option, Some, None, Result, Ok, Err, refl, sym, ◌∙◌, ap, subst, arith, nat_lt}
+use Rattle.std.proofs.Common.{◌≡◌, ℕ, ◌+◌, ◌&&◌, ◌==◌, Bool, true, false, cond, List, [], ◌∷◌, map, length, drop, Option, Some, None, Result, Ok, Err, refl, sym, ◌∙◌, ap, subst, arith, nat_lt}
 use Rattle.std.specs.Prelude.{option_map, ok_or}
 use Rattle.std.proofs.lemmas.Bool.Decides.{nat_tests}
 use Rattle.spdx_catalogue.specs.Rows.{Rows}
@@ -7,7 +7,7 @@ use Rattle.spdx_lexer.specs.Modes.{strict, lax}
 use Rattle.spdx_lexer.specs.Words.{Word, Plus, OpenParen, CloseParen, Or, Fault, UnknownTerm, Span, span, Item}
 use Rattle.spdx_lexer.specs.Text.{run_at, white}
 use Rattle.spdx_lexer.specs.Lexeme.{Found, first_of, exact, referred, caseless, imprecise, unknown, rules, word_of_run, lexeme_of, lexeme}
-use Rattle.spdx_lexer.specs.Reading.{then, behind, items, reading, said, Spells}
+use Rattle.spdx_lexer.specs.Reading.{go_on, behind, items, reading, said, Spells}
 use Rattle.spdx_parser.specs.Tree.{Tree}
 use Rattle.spdx_parser.specs.Grammar.{Derives}
 use Rattle.spdx_parser.specs.Spans.{Placed, words}
@@ -78,24 +78,26 @@ no_fault : (fault : Fault × Span) (rest ys : List Item) → Same (Err fault ∷
 no_fault fault rest ys [] e = absurd cc
 no_fault fault rest ys (p ∷ read) e = absurd cc
 
-then_same : (more more' : ℕ → List ℕ → List Item) → ((at : ℕ) (text : List ℕ) → Same (more at text) (more' at text)) → (at : ℕ) (text : List ℕ) (r r' : Result (Word × ℕ) (Fault × ℕ)) → ((found : Word × ℕ) → r ≡ Ok found → r' ≡ Ok found) → Same (then more at text r) (then more' at text r')
-then_same more more' h at text (Err fault) r' k = no_fault _ _ _
-then_same more more' h at text (Ok found) r' k =
-    subst (λ (x : Result (Word × ℕ) (Fault × ℕ)). Same (then more at text (Ok found)) (then more' at text x)) (sym (k found refl))
-    (one_same (Ok (found.0, span at found.1)) _ _ (h (at + found.1) (drop found.1 text)))
+go_on_same : (more more' : ℕ → List Item) → ((next : ℕ) → Same (more next) (more' next)) → (at : ℕ) (r r' : Result (Word × ℕ) (Fault × ℕ)) → ((found : Word × ℕ) → r ≡ Ok found → r' ≡ Ok found) → Same (go_on more at r) (go_on more' at r')
+go_on_same more more' h at (Err fault) r' k = no_fault _ _ _
+go_on_same more more' h at (Ok found) r' k =
+    subst (λ (x : Result (Word × ℕ) (Fault × ℕ)). Same (go_on more at (Ok found)) (go_on more' at x)) (sym (k found refl))
+    (one_same (Ok (found.0, span at found.1)) _ _ (h (at + found.1)))
 
-behind_same : (c : Rows) (more more' : ℕ → List ℕ → List Item) → ((at : ℕ) (text : List ℕ) → Same (more at text) (more' at text)) → (at gap : ℕ) (text : List ℕ) → Same (behind c strict more at gap text) (behind c lax more' at gap text)
+behind_same : (c : Rows) (more more' : ℕ → List Item) → ((next : ℕ) → Same (more next) (more' next)) → (at gap : ℕ) (text : List ℕ) → Same (behind c strict more at gap text) (behind c lax more' at gap text)
 behind_same c more more' h at gap [] = λ read e. e
 behind_same c more more' h at gap (b ∷ text) =
-    cond_same (nat_lt 0 gap && b == 43) _ _ _ _ (λ read e. e) (then_same more more' h (at + gap) (b ∷ text) (lexeme c strict (b ∷ text)) (lexeme c lax (b ∷ text)) (lexeme_same c b text))
+    cond_same (nat_lt 0 gap && b == 43) _ _ _ _ (λ read e. e) (go_on_same more more' h (at + gap) (lexeme c strict (b ∷ text)) (lexeme c lax (b ∷ text)) (lexeme_same c b text))
 
-items_same : (c : Rows) (count at : ℕ) (text : List ℕ) → Same (items c strict count at text) (items c lax count at text)
-items_same c zero at text = λ read e. e
-items_same c (suc count) at text = behind_same c (items c strict count) (items c lax count) (items_same c count) at (white text) (drop (white text) text)
+items_same : (c : Rows) (from at : ℕ) (text : List ℕ) → Same (items c strict from at text) (items c lax from at text)
+items_same c from at [] = λ read e. e
+items_same c from at (b ∷ text) =
+    cond_same (nat_lt at from) _ _ _ _ (items_same c from (at + 1) text)
+    (behind_same c (λ next. items c strict next (at + 1) text) (λ next. items c lax next (at + 1) text) (λ next. items_same c next (at + 1) text) at (white (b ∷ text)) (drop (white (b ∷ text)) (b ∷ text)))
 
 reads_same : (c : Rows) (text : List ℕ) → Same (reading c strict 0 text) (reading c lax 0 text)
 unfolding reading
-reads_same c text = items_same c (length text) 0 text
+reads_same c text = items_same c 0 0 text
 
 reads_loosely : (c : Rows) (mode : LineMode) (text : List ℕ) → Same (reading c (parse_mode mode) 0 text) (reading c lax 0 text)
 reads_loosely c Strict text = reads_same c text

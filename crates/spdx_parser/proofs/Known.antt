@@ -1,5 +1,5 @@
 -- Every row that is read stands in the catalogue, and so does every row of a tree.
-use Rattle.std.proofs.Common.{◌≡◌, ℕ, zero, suc, ◌+◌, Bool, true, false, cond, ◌&&◌, ◌==◌, nat_lt, List, [], ◌∷◌, ◌++◌, length, drop, map, Option, Some, None, Result, Ok, Err, refl, subst, IfSome, IfOk, option_map}
+use Rattle.std.proofs.Common.{◌≡◌, ℕ, ◌+◌, Bool, true, false, cond, ◌&&◌, ◌==◌, nat_lt, List, [], ◌∷◌, ◌++◌, length, drop, map, Option, Some, None, Result, Ok, Err, refl, subst, IfSome, IfOk, option_map}
 use Rattle.std.specs.Prelude.{codes, bytes_eq, ◌||◌, if◌then◌else◌}
 use Rattle.spdx_catalogue.specs.Rows.{Rows, LicenseRow, ExceptionRow}
 use Rattle.spdx_catalogue.specs.WellFormed.{is_well_formed}
@@ -11,8 +11,7 @@ use Rattle.spdx_lexer.specs.declared.token.ParseMode.{ParseMode}
 use Rattle.spdx_lexer.specs.Words.{Word, Spdx, LicenseRef, Exception, AdditionRef, Unknown, Plus, OpenParen, CloseParen, With, And, Or, Fault, Item}
 use Rattle.spdx_lexer.specs.Text.{white}
 use Rattle.spdx_lexer.specs.Lexeme.{sign_of, sign, whole, operator, name_behind, names_behind, reference as lexeme_reference, document_reference, license_reference, addition_reference, exact, referred as referred_run, caseless, by_run, unknown, imprecise, lexeme}
-use Rattle.spdx_lexer.specs.Reading.{behind, items, reading}
-use Rattle.spdx_lexer.specs.Reading as Reading
+use Rattle.spdx_lexer.specs.Reading.{go_on, behind, items, reading}
 use Rattle.spdx_lexer.proofs.Found.{first_all, mapped, allowed, lexeme_all}
 use Rattle.spdx_parser.specs.Tree.{Tree, Leaf}
 use Rattle.spdx_parser.specs.Last.{Last, Listed, Joined, next_last, last_behind}
@@ -139,25 +138,27 @@ module _ (c : Rows) where
           (imprecise_known m text, (allowed FoundKnown m.allow_unknown _ tt, tt)),
         ))
 
-    then_known : (more : ℕ → List ℕ → List Item) → ((at : ℕ) (text : List ℕ) → ItemsKnown (more at text)) → (at : ℕ) (text : List ℕ) (r : Result (Word × ℕ) (Fault × ℕ)) → IfOk r FoundKnown → ItemsKnown (Reading.then more at text r)
-    then_known more h at text (Ok found) k = (k, h (at + found.1) (drop found.1 text))
-    then_known more h at text (Err fault) k = (tt, tt)
+    go_on_known : (more : ℕ → List Item) → ((next : ℕ) → ItemsKnown (more next)) → (at : ℕ) (r : Result (Word × ℕ) (Fault × ℕ)) → IfOk r FoundKnown → ItemsKnown (go_on more at r)
+    go_on_known more h at (Ok found) k = (k, h (at + found.1))
+    go_on_known more h at (Err fault) k = (tt, tt)
 
     cond_known : (b : Bool) (xs ys : List Item) → ItemsKnown xs → ItemsKnown ys → ItemsKnown (cond b xs ys)
     cond_known true xs ys h k = h
     cond_known false xs ys h k = k
 
-    behind_known : (m : ParseMode) (more : ℕ → List ℕ → List Item) → ((at : ℕ) (text : List ℕ) → ItemsKnown (more at text)) → (at gap : ℕ) (text : List ℕ) → ItemsKnown (behind c m more at gap text)
+    behind_known : (m : ParseMode) (more : ℕ → List Item) → ((next : ℕ) → ItemsKnown (more next)) → (at gap : ℕ) (text : List ℕ) → ItemsKnown (behind c m more at gap text)
     behind_known m more h at gap [] = tt
-    behind_known m more h at gap (b ∷ text) = cond_known (nat_lt 0 gap && b == 43) _ _ (tt, tt) (then_known more h (at + gap) (b ∷ text) (lexeme c m (b ∷ text)) (lexeme_known m (b ∷ text)))
+    behind_known m more h at gap (b ∷ text) = cond_known (nat_lt 0 gap && b == 43) _ _ (tt, tt) (go_on_known more h (at + gap) (lexeme c m (b ∷ text)) (lexeme_known m (b ∷ text)))
 
-    items_known : (m : ParseMode) (n at : ℕ) (text : List ℕ) → ItemsKnown (items c m n at text)
-    items_known m zero at text = tt
-    items_known m (suc n) at text = behind_known m (items c m n) (items_known m n) at (white text) (drop (white text) text)
+    items_known : (m : ParseMode) (from at : ℕ) (text : List ℕ) → ItemsKnown (items c m from at text)
+    items_known m from at [] = tt
+    items_known m from at (b ∷ text) =
+        cond_known (nat_lt at from) _ _ (items_known m from (at + 1) text)
+        (behind_known m (λ next. items c m next (at + 1) text) (λ next. items_known m next (at + 1) text) at (white (b ∷ text)) (drop (white (b ∷ text)) (b ∷ text)))
 
     pub reading_known : (m : ParseMode) (at : ℕ) (text : List ℕ) → ItemsKnown (reading c m at text)
     unfolding reading
-    reading_known m at text = items_known m (length text) at text
+    reading_known m at text = items_known m at at text
 
     -- the words in front of a reading are known
     pub words_known : (m : ParseMode) (text : List ℕ) (read : List Placed) (more : List Item) → reading c m 0 text ≡ map Ok read ++ more → AllKnown (words read)
