@@ -2,7 +2,7 @@
 CATALOGUE := $(CURDIR)/data/spdx-3.18.json
 LINES := $(CURDIR)/data/example.txt
 
-.PHONY: run test
+.PHONY: run test theorem
 
 # The program ends with status 1 where some line was refused, which the example has.
 run:
@@ -10,3 +10,7 @@ run:
 
 test:
 	@rt ci
+
+# Whether docs/THEOREM.md is what the sources say; tools/theorem writes it.
+theorem:
+	@tools/theorem --check

@@ -22,6 +22,7 @@ gnu_name false name = if has_suffix name then name else name ++ only
 abbrev pub written_name : Bool → LicenseRow → List ℕ
 written_name plus r = if is_gnu r.flags then gnu_name plus r.name else r.name
 
+-- the next word is `+`
 abbrev pub plus_follows : List Word → Bool
 plus_follows (Plus ∷ ws) = true
 plus_follows _ = false
@@ -47,6 +48,7 @@ text_behind joined (Spdx r ∷ ws) = written_name (plus_follows ws) r ++ text_be
 text_behind true (Plus ∷ ws) = text_behind false ws
 text_behind joined (w ∷ ws) = word_text w ++ text_behind false ws
 
+-- the text of all words
 abbrev pub canonical_text : List Word → List ℕ
 canonical_text ws = text_behind false ws
 
@@ -69,11 +71,13 @@ words_by word joined (Spdx r ∷ ws) = word (plus_follows ws) r ∷ words_by wor
 words_by word true (Plus ∷ ws) = words_by word false ws
 words_by word joined (w ∷ ws) = w ∷ words_by word false ws
 
+-- the words that a strict reader finds in the canonical text
 abbrev pub canonical_words : Rows → List Word → List Word
 canonical_words c ws = words_by (λ plus r. Spdx (canonical_row c plus r)) false ws
 
 -- ---- where there is a canonical text
 
+-- a listed licence
 abbrev pub is_spdx : Word → Bool
 is_spdx (Spdx r) = true
 is_spdx _ = false
@@ -100,6 +104,7 @@ words_of [] = []
 words_of (Err fault ∷ items) = words_of items
 words_of (Ok found ∷ items) = found.0 ∷ words_of items
 
+-- the text, unless there is a fault
 abbrev pub unless : Option (Fault × Span) → List ℕ → Result (List ℕ) (Fault × Span)
 unless None text = Ok text
 unless (Some fault) text = Err fault

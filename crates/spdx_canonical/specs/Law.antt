@@ -32,6 +32,7 @@ pub record IsReferenceName (c : Rows) (name : List ℕ) : Type 0 where
   pub no_exception : LookUps.listed_exception c.exceptions name ≡ None
   pub prefix : IsTrue (starts_with nat_eq name (codes "LicenseRef-"))
 
+-- each name that is written is that of a listed licence, which is not deprecated
 abbrev pub AreGood : Rows → List Word → Type 0
 AreGood c ws = EachName (λ name. IsTrue (is_good c name)) ws
 
@@ -42,6 +43,7 @@ abbrev pub tree_by : (Licence → Licence) → Tree → Tree
 tree_by f (Leaf r) = Leaf (record { licence = f r.licence; addition = r.addition })
 tree_by f (Join o l r) = Join o (tree_by f l) (tree_by f r)
 
+-- a listed licence whose row `only_row` says; a reference stays
 abbrev pub only_licence : Rows → Licence → Licence
 only_licence c (listed r marked) = listed (only_row c r) marked
 only_licence c (referred r) = referred r
@@ -57,6 +59,7 @@ pub record Accepts (c : Rows) (m : ParseMode) (text : List ℕ) (ws : List Word)
   pub read : Spells c m text ws
   pub meant : Derives c m ws t
 
+-- a reader in this mode accepts the text
 abbrev pub IsAccepted : Rows → ParseMode → List ℕ → Type 0
 IsAccepted c m text = (ws : List Word) × (t : Tree) × Accepts c m text ws t
 
@@ -73,6 +76,7 @@ pub record IsFaithful (c : Rows) (ws : List Word) (t : Tree) : Type 0 where
   pub again : canonical_of c (canonical_text ws) ≡ Ok (canonical_text ws)
   pub written : canonical_text (canonical_words c ws) ≡ canonical_text ws
 
+-- what is said of each text that a lax reader accepts
 pub record CanonicalLaws (c : Rows) (text : List ℕ) : Type 0 where
   -- each text that a lax reader accepts has a canonical text
   pub defined : (ws : List Word) (t : Tree) → Accepts c lax text ws t → canonical_of c text ≡ Ok (canonical_text ws)

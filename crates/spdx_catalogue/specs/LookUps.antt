@@ -8,6 +8,7 @@ use Rattle.spdx_catalogue.specs.Rows.{Rows, LicenseRow, ExceptionRow, ImpreciseR
 abbrev pub listed : List LicenseRow → List ℕ → Option LicenseRow
 listed rows name = find (λ (r : LicenseRow). bytes_eq (license_name r) name) rows
 
+-- the exception of that name
 abbrev pub listed_exception : List ExceptionRow → List ℕ → Option ExceptionRow
 listed_exception rows name = find (λ (r : ExceptionRow). bytes_eq (exception_name r) name) rows
 
@@ -15,6 +16,7 @@ listed_exception rows name = find (λ (r : ExceptionRow). bytes_eq (exception_na
 abbrev pub listed_caseless : List LicenseRow → List ℕ → Option LicenseRow
 listed_caseless rows name = find (λ (r : LicenseRow). str_eq_ignore_ascii_case (r.name) name) rows
 
+-- the first exception whose name it is, the case of ASCII letters aside
 abbrev pub listed_exception_caseless : List ExceptionRow → List ℕ → Option ExceptionRow
 listed_exception_caseless rows name = find (λ (r : ExceptionRow). str_eq_ignore_ascii_case (r.name) name) rows
 

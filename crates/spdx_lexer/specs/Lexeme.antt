@@ -16,6 +16,7 @@ first_of [] = None
 first_of (None ∷ rules) = first_of rules
 first_of (Some found ∷ rules) = Some found
 
+-- what is found, where the mode allows it
 abbrev pub if_allowed : Bool → Found → Found
 if_allowed true found = found
 if_allowed false found = None
@@ -30,6 +31,7 @@ sign_of m b =
     if b == 41 then Some CloseParen else
     if b == 47 && m.allow_slash_as_or_operator then Some Or else None
 
+-- the sign that the text begins with, of one byte
 abbrev pub sign : ParseMode → List ℕ → Found
 sign m [] = None
 sign m (b ∷ text) = option_map (λ w. (w, 1)) (sign_of m b)
@@ -74,12 +76,15 @@ names_behind prefix run =
 abbrev pub reference : List ℕ → (Option (List ℕ) → List ℕ → Word) → List ℕ → Found
 reference prefix word run = option_map (λ y. (word None y, length (reference_text prefix None y))) (name_behind prefix run)
 
+-- the same with a document
 abbrev pub document_reference : List ℕ → (Option (List ℕ) → List ℕ → Word) → List ℕ → Found
 document_reference prefix word run = option_map (λ (n : List ℕ × List ℕ). (word (Some n.0) n.1, length (reference_text prefix (Some n.0) n.1))) (names_behind prefix run)
 
+-- a reference to a licence, with a document or without
 abbrev pub license_reference : List ℕ → Found
 license_reference run = first_of (document_reference (codes "LicenseRef-") LicenseRef run ∷ reference (codes "LicenseRef-") LicenseRef run ∷ [])
 
+-- a reference to an addition, with a document or without
 abbrev pub addition_reference : List ℕ → Found
 addition_reference run = first_of (document_reference (codes "AdditionRef-") AdditionRef run ∷ reference (codes "AdditionRef-") AdditionRef run ∷ [])
 
@@ -110,6 +115,7 @@ imprecise c m text = if_allowed m.allow_imprecise_license_names (option_map (λ 
 
 -- ---- the rules together
 
+-- by the run, else by an imprecise spelling, else as an unknown word
 abbrev pub rules : Rows → ParseMode → List ℕ → List ℕ → Found
 rules c m text run = first_of (by_run c m run ∷ imprecise c m text ∷ unknown m run ∷ [])
 
@@ -118,6 +124,7 @@ abbrev pub word_of_run : Rows → ParseMode → List ℕ → List ℕ → Result
 word_of_run c m text [] = Err (InvalidCharacters, length text)
 word_of_run c m text (b ∷ run) = ok_or (rules c m text (b ∷ run)) (UnknownTerm, length (b ∷ run))
 
+-- a sign, else by the run at the front of the text
 abbrev pub lexeme_of : Rows → ParseMode → List ℕ → Found → Result (Word × ℕ) (Fault × ℕ)
 lexeme_of c m text (Some found) = Ok found
 lexeme_of c m text None = word_of_run c m text (run_at text)

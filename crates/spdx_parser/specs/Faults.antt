@@ -11,11 +11,13 @@ use Rattle.spdx_parser.specs.Tree.{Tree}
 use Rattle.spdx_parser.specs.Grammar.{may_stand, Derives, IsViable}
 use Rattle.spdx_parser.specs.Spans.{Placed, words}
 
+-- how many `(` there are
 abbrev pub opens : List Word → ℕ
 opens [] = 0
 opens (OpenParen ∷ ws) = opens ws + 1
 opens (w ∷ ws) = opens ws
 
+-- how many `)` there are
 abbrev pub closes : List Word → ℕ
 closes [] = 0
 closes (CloseParen ∷ ws) = closes ws + 1

@@ -23,6 +23,7 @@ may_stand m r = not (is_deprecated r.flags) || m.allow_deprecated
 abbrev pub later_row : Rows → LicenseRow → Option LicenseRow
 later_row c r = LookUps.listed c.licenses (without_only r.name ++ or_later)
 
+-- the reference of these two texts
 abbrev pub reference : Option (List ℕ) → List ℕ → Reference
 reference document name = record { document = document; name = name }
 

@@ -17,13 +17,16 @@ use Rattle.spdx_parser.specs.Faults.{IsFaultOf, HasNoTree}
 abbrev pub IsLicenseRow : Rows → LicenseRow → Type 0
 IsLicenseRow c r = slice_get c.licenses r.index ≡ Some r
 
+-- the same of an exception
 abbrev pub IsExceptionRow : Rows → ExceptionRow → Type 0
 IsExceptionRow c r = slice_get c.exceptions r.index ≡ Some r
 
+-- the row of a listed licence stands in the catalogue
 abbrev pub IsLicenceOf : Rows → Licence → Type 0
 IsLicenceOf c (listed r mark) = IsLicenseRow c r
 IsLicenceOf c (referred r) = Unit {0}
 
+-- the row of an exception stands in the catalogue
 abbrev pub IsAdditionOf : Rows → Option Addition → Type 0
 IsAdditionOf c None = Unit {0}
 IsAdditionOf c (Some (excepted r)) = IsExceptionRow c r

@@ -9,6 +9,7 @@ use Rattle.spdx_parser.specs.Last.{Last, Due, next_last, is_license}
 abbrev pub Placed : Type 0
 Placed = Word × Span
 
+-- the words without their places
 abbrev pub words : List Placed → List Word
 words read = map (λ (p : Placed). p.0) read
 
