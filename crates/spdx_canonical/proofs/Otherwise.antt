@@ -13,7 +13,8 @@ use Rattle.spdx_catalogue.specs.WellFormed.{is_well_formed}
 use Rattle.spdx_lexer.specs.Modes.{strict, lax}
 use Rattle.spdx_lexer.specs.Words.{Word, Spdx, LicenseRef, Exception, AdditionRef, Unknown, Plus, OpenParen, CloseParen, With, And, Or, Fault, UnknownTerm}
 use Rattle.spdx_lexer.specs.Text.{is_run_byte, name_at, strip}
-use Rattle.spdx_lexer.specs.Lexeme.{Found, first_of, reference_text, name_behind, names_behind, reference, license_reference, addition_reference, lexeme}
+use Rattle.spdx_lexer.specs.Lexeme.{Found, first_of, reference_text, name_behind, names_behind, reference, lexeme}
+use Rattle.spdx_lexer.specs.Groups.{license_reference, addition_reference}
 use Rattle.spdx_parser.specs.Tree.{Tree}
 use Rattle.spdx_parser.specs.Grammar.{may_stand}
 use Rattle.spdx_parser.proofs.Threaded.{LicenceOf, plain, marked, named}

@@ -14,7 +14,8 @@ use Rattle.spdx_catalogue.proofs.Listed.{find_place, listed_is_license, listed_n
 use Rattle.spdx_lexer.specs.declared.token.ParseMode.{ParseMode}
 use Rattle.spdx_lexer.specs.Words.{Word, Spdx, Plus, OpenParen, CloseParen, Or, Fault, SeparatedPlus, UnknownTerm, Span, span, Item}
 use Rattle.spdx_lexer.specs.Text.{white, run_at, is_run_byte}
-use Rattle.spdx_lexer.specs.Lexeme.{Found, sign, by_run, imprecise, unknown, rules, word_of_run, lexeme_of, lexeme}
+use Rattle.spdx_lexer.specs.Lexeme.{Found, sign, rules, lexeme_of, lexeme}
+use Rattle.spdx_lexer.specs.Groups.{by_run, imprecise, unknown}
 use Rattle.spdx_lexer.specs.Reading.{reading}
 use Rattle.spdx_lexer.specs.Laid.{IsSpelt, IsWhite, between, IsPlace, IsGap, IsLexical, AreLaid, ended, stopped, goes_on, place_of}
 use Rattle.spdx_lexer.proofs.Unfold.{then, behind, reading_is}
@@ -104,12 +105,12 @@ module _ (c : Rows) (well : is_well_formed c ≡ true) (texts : HasTextPrefixes 
       of_rules b run e None = (inr (inr refl), run_cut text (length (b ∷ run)) u (omega (arith, ap length e)))
       of_rules b run e (Some f) = tt
 
-      of_front : (run : List ℕ) → run_at text ≡ run → IfErr (word_of_run c m text run) (Stops text)
-      of_front [] e = (inl refl, IsCharBoundary-end text)
-      of_front (b ∷ run) e = of_rules b run e (rules c m text (b ∷ run))
+      of_front : (run : List ℕ) (o : Found) → run_at text ≡ run → IfErr (lexeme_of text run None o) (Stops text)
+      of_front [] o e = (inl refl, IsCharBoundary-end text)
+      of_front (b ∷ run) o e = of_rules b run e o
 
-      of_sign : (o : Found) → IfErr (lexeme_of c m text o) (Stops text)
-      of_sign None = of_front (run_at text) refl
+      of_sign : (s : Found) → IfErr (lexeme_of text (run_at text) s (rules c m text (run_at text))) (Stops text)
+      of_sign None = of_front (run_at text) _ refl
       of_sign (Some f) = tt
 
   -- ---- all of them

@@ -6,7 +6,9 @@ use Rattle.spdx_catalogue.specs.Rows.{Rows}
 use Rattle.spdx_lexer.specs.Modes.{strict, lax}
 use Rattle.spdx_lexer.specs.Words.{Word, Plus, OpenParen, CloseParen, Or, Fault, UnknownTerm, Span, span, Item}
 use Rattle.spdx_lexer.specs.Text.{run_at, white}
-use Rattle.spdx_lexer.specs.Lexeme.{Found, first_of, exact, referred, caseless, imprecise, unknown, rules, word_of_run, lexeme_of, lexeme}
+use Rattle.spdx_lexer.specs.Lexeme.{Found, first_of, rules, lexeme_of, lexeme}
+use Rattle.spdx_lexer.specs.Groups.{exact, referred, caseless, imprecise, unknown}
+use Rattle.spdx_lexer.proofs.Table.{rules_grouped}
 use Rattle.spdx_lexer.specs.Reading.{go_on, behind, items, reading, said, Spells}
 use Rattle.spdx_parser.specs.Tree.{Tree}
 use Rattle.spdx_parser.specs.Grammar.{Derives}
@@ -30,28 +32,32 @@ ok_some : {A B : Type 0} (o : Option A) (other : B) (x : A) → ok_or o other �
 ok_some (Some y) other x e = cc
 ok_some None other x e = absurd cc
 
-run_same : (c : Rows) (text run : List ℕ) (found : Word × ℕ) → word_of_run c strict text run ≡ Ok found → word_of_run c lax text run ≡ Ok found
+run_same : (c : Rows) (text run : List ℕ) (found : Word × ℕ) → lexeme_of text run None (rules c strict text run) ≡ Ok found → lexeme_of text run None (rules c lax text run) ≡ Ok found
 run_same c text [] found e = absurd cc
 run_same c text (b ∷ run) found e =
     let k = ok_some (rules c strict text (b ∷ run)) (UnknownTerm, length (b ∷ run)) found e in
     ap (λ (o : Found). ok_or o (UnknownTerm, length (b ∷ run)))
-    (more_rules (exact c (b ∷ run)) (referred (b ∷ run)) (caseless c lax (b ∷ run)) (imprecise c lax text) (unknown lax (b ∷ run)) found k)
+    (rules_grouped c lax text (b ∷ run)
+    ∙ more_rules (exact c (b ∷ run)) (referred (b ∷ run)) (caseless c lax (b ∷ run)) (imprecise c lax text) (unknown lax (b ∷ run)) found (sym (rules_grouped c strict text (b ∷ run)) ∙ k))
 
 slash_begins_no_run : (b : ℕ) (text : List ℕ) → b ≡ 47 → run_at (b ∷ text) ≡ []
 slash_begins_no_run b text e = ap (λ (x : ℕ). run_at (x ∷ text)) e
+
+nothing_found : (text run : List ℕ) (o : Found) (found : Word × ℕ) → run ≡ [] → lexeme_of text run None o ≡ Ok found → ⊥
+nothing_found text [] o found r e = cc
+nothing_found text (b ∷ run) o found r e = cc
 
 -- a sign by four tests of a byte, the last one for `/`
 abbrev sign_by : Bool → Bool → Bool → Bool → Found
 sign_by plus left right slash = option_map (λ w. (w, 1)) (cond plus (Some Plus) (cond left (Some OpenParen) (cond right (Some CloseParen) (cond slash (Some Or) None))))
 
-sign_same : (c : Rows) (b : ℕ) (text : List ℕ) (plus left right slash : Bool) → (b == 47) ≡ slash → (found : Word × ℕ) → lexeme_of c strict (b ∷ text) (sign_by plus left right (slash && false)) ≡ Ok found → lexeme_of c lax (b ∷ text) (sign_by plus left right (slash && true)) ≡ Ok found
+sign_same : (c : Rows) (b : ℕ) (text : List ℕ) (plus left right slash : Bool) → (b == 47) ≡ slash → (found : Word × ℕ) → lexeme_of (b ∷ text) (run_at (b ∷ text)) (sign_by plus left right (slash && false)) (rules c strict (b ∷ text) (run_at (b ∷ text))) ≡ Ok found → lexeme_of (b ∷ text) (run_at (b ∷ text)) (sign_by plus left right (slash && true)) (rules c lax (b ∷ text) (run_at (b ∷ text))) ≡ Ok found
 sign_same c b text true left right slash s found e = e
 sign_same c b text false true right slash s found e = e
 sign_same c b text false false true slash s found e = e
 sign_same c b text false false false true s found e =
     let is : b ≡ 47 = grind (arith, nat_tests, s) in
-    let none = subst (λ (run : List ℕ). word_of_run c strict (b ∷ text) run ≡ Ok found) (slash_begins_no_run b text is) e in
-    absurd cc
+    absurd (nothing_found (b ∷ text) (run_at (b ∷ text)) (rules c strict (b ∷ text) (run_at (b ∷ text))) found (slash_begins_no_run b text is) e)
 sign_same c b text false false false false s found e = run_same c (b ∷ text) (run_at (b ∷ text)) found e
 
 lexeme_same : (c : Rows) (b : ℕ) (text : List ℕ) (found : Word × ℕ) → lexeme c strict (b ∷ text) ≡ Ok found → lexeme c lax (b ∷ text) ≡ Ok found
