@@ -87,16 +87,12 @@ abbrev pub is_misplaced : Bool → Word → Bool
 is_misplaced behind_spdx Plus = not behind_spdx
 is_misplaced behind_spdx _ = false
 
--- where it stands a licence was expected
-abbrev pub expected_license : Fault
-expected_license = Unexpected (codes "<license>" ∷ [])
-
--- the first thing in the text that has no canonical text: a fault of the lexer, or a misplaced `+`
+-- the first thing in the text that has no canonical text: a fault of the lexer, or a misplaced `+`, where a licence was expected
 abbrev pub first_fault : Bool → List Item → Option (Fault × Span)
 first_fault behind_spdx [] = None
 first_fault behind_spdx (Err fault ∷ items) = Some fault
 first_fault behind_spdx (Ok found ∷ items) =
-    if is_misplaced behind_spdx found.0 then Some (expected_license, found.1) else first_fault (is_spdx found.0) items
+    if is_misplaced behind_spdx found.0 then Some (Unexpected (codes "<license>" ∷ []), found.1) else first_fault (is_spdx found.0) items
 
 -- the words that were found
 abbrev pub words_of : List Item → List Word

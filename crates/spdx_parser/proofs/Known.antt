@@ -1,6 +1,6 @@
 -- Every row that is read stands in the catalogue, and so does every row of a tree.
 use Rattle.std.proofs.Common.{◌≡◌, ℕ, ◌+◌, Bool, true, false, cond, ◌&&◌, ◌==◌, nat_lt, List, [], ◌∷◌, ◌++◌, length, drop, map, Option, Some, None, Result, Ok, Err, refl, subst, IfSome, IfOk, option_map}
-use Rattle.std.specs.Prelude.{codes, bytes_eq, ◌||◌, if◌then◌else◌}
+use Rattle.std.specs.Prelude.{codes, bytes_eq, ◌||◌, if◌then◌else◌, slice_get}
 use Rattle.spdx_catalogue.specs.Rows.{Rows, LicenseRow, ExceptionRow}
 use Rattle.spdx_catalogue.specs.WellFormed.{is_well_formed}
 use Rattle.spdx_catalogue.specs.LookUps as LookUps
@@ -17,15 +17,19 @@ use Rattle.spdx_lexer.proofs.Found.{first_all, mapped, allowed, lexeme_all}
 use Rattle.spdx_parser.specs.Tree.{Tree, Leaf}
 use Rattle.spdx_parser.specs.Last.{Last, Listed, Joined, next_last, last_behind}
 use Rattle.spdx_parser.specs.Spans.{Placed, words}
-use Rattle.spdx_parser.specs.Parsed.{IsLicenseRow, IsExceptionRow, IsOfRows, IsLicenceOf, IsAdditionOf}
+use Rattle.spdx_parser.specs.Parsed.{IsOfRows, IsLicenceOf, IsAdditionOf}
+use Rattle.spdx_parser.specs.Code.{IsLicenseRow}
 use Rattle.spdx_parser.specs.Grammar.{Derives}
 use Rattle.spdx_parser.proofs.Threaded as Threaded
 
 module _ (c : Rows) where
+  abbrev IsExceptionRow : ExceptionRow → Type 0
+  IsExceptionRow r = slice_get c.exceptions r.index ≡ Some r
+
   -- the row of a word stands in the catalogue
   abbrev pub WordKnown : Word → Type 0
   WordKnown (Spdx r) = IsLicenseRow c r
-  WordKnown (Exception r) = IsExceptionRow c r
+  WordKnown (Exception r) = IsExceptionRow r
   WordKnown _ = Unit {0}
 
   abbrev pub AllKnown : List Word → Type 0
@@ -91,7 +95,7 @@ module _ (c : Rows) where
     license_known None h = tt
     license_known (Some r) h = h r refl
 
-    exception_known : (o : Option ExceptionRow) → ((r : ExceptionRow) → o ≡ Some r → IsExceptionRow c r) → IfSome (option_map Exception o) WordKnown
+    exception_known : (o : Option ExceptionRow) → ((r : ExceptionRow) → o ≡ Some r → IsExceptionRow r) → IfSome (option_map Exception o) WordKnown
     exception_known None h = tt
     exception_known (Some r) h = h r refl
 

@@ -75,7 +75,7 @@ module _ (c : Rows) (m : ParseMode) where
     and_to (Grammar.one_primary d) rest = one_primary (primary_to d rest)
     and_to (Grammar.and_more {xs = xs} {ys = ys} {t = t} {u = u} d e) rest = subst (λ ws. AndOf c m ws (Join Operator.And t u) rest) (sym (append_assoc xs (And ∷ ys) rest)) (and_more (primary_to d (And ∷ (ys ++ rest))) (and_to e rest))
 
-    or_to : {xs : List Word} {t : Tree} → Grammar.OrIs c m xs t → (rest : List Word) → OrOf c m (xs ++ rest) t rest
+    or_to : {xs : List Word} {t : Tree} → Grammar.Derives c m xs t → (rest : List Word) → OrOf c m (xs ++ rest) t rest
     or_to (Grammar.one_and d) rest = one_and (and_to d rest)
     or_to (Grammar.or_more {xs = xs} {ys = ys} {t = t} {u = u} d e) rest = subst (λ ws. OrOf c m ws (Join Operator.Or t u) rest) (sym (append_assoc xs (Or ∷ ys) rest)) (or_more (and_to d (Or ∷ (ys ++ rest))) (or_to e rest))
 
@@ -118,7 +118,7 @@ module _ (c : Rows) (m : ParseMode) where
         let g = and_back e in
         record { xs = f.xs ++ And ∷ g.xs; cut = f.cut ∙ ap (λ ws. f.xs ++ And ∷ ws) g.cut ∙ sym (append_assoc f.xs (And ∷ g.xs) rest); says = Grammar.and_more f.says g.says }
 
-    or_back : {ws rest : List Word} {t : Tree} → OrOf c m ws t rest → Front (λ xs. Grammar.OrIs c m xs t) ws rest
+    or_back : {ws rest : List Word} {t : Tree} → OrOf c m ws t rest → Front (λ xs. Grammar.Derives c m xs t) ws rest
     or_back (one_and d) = let f = and_back d in record { xs = f.xs; cut = f.cut; says = Grammar.one_and f.says }
     or_back (or_more {rest = rest} d e) =
         let f = and_back d in
@@ -130,4 +130,4 @@ module _ (c : Rows) (m : ParseMode) where
   threaded {ws = ws} {t = t} d = subst (λ xs. OrOf c m xs t []) (append-nil ws) (or_to d [])
 
   pub derives : {ws : List Word} {t : Tree} → OrOf c m ws t [] → Grammar.Derives c m ws t
-  derives {t = t} d = let f = or_back d in subst (λ xs. Grammar.OrIs c m xs t) (sym (f.cut ∙ append-nil f.xs)) f.says
+  derives {t = t} d = let f = or_back d in subst (λ xs. Grammar.Derives c m xs t) (sym (f.cut ∙ append-nil f.xs)) f.says

@@ -52,21 +52,17 @@ mutual
   -- a leaf, or an expression in parentheses
   pub data PrimaryIs (c : Rows) (m : ParseMode) : List Word → Tree → Type 0 where
     leaf : {xs : List Word} {r : Requirement} → LeafIs c m xs r → PrimaryIs c m xs (Leaf r)
-    group : {xs : List Word} {t : Tree} → OrIs c m xs t → PrimaryIs c m (OpenParen ∷ (xs ++ CloseParen ∷ [])) t
+    group : {xs : List Word} {t : Tree} → Derives c m xs t → PrimaryIs c m (OpenParen ∷ (xs ++ CloseParen ∷ [])) t
 
   -- a chain of AND
   pub data AndIs (c : Rows) (m : ParseMode) : List Word → Tree → Type 0 where
     one_primary : {xs : List Word} {t : Tree} → PrimaryIs c m xs t → AndIs c m xs t
     and_more : {xs ys : List Word} {t u : Tree} → PrimaryIs c m xs t → AndIs c m ys u → AndIs c m (xs ++ And ∷ ys) (Join Operator.And t u)
 
-  -- a chain of OR
-  pub data OrIs (c : Rows) (m : ParseMode) : List Word → Tree → Type 0 where
-    one_and : {xs : List Word} {t : Tree} → AndIs c m xs t → OrIs c m xs t
-    or_more : {xs ys : List Word} {t u : Tree} → AndIs c m xs t → OrIs c m ys u → OrIs c m (xs ++ Or ∷ ys) (Join Operator.Or t u)
-
--- the words, all of them, are an expression that means t
-abbrev pub Derives : Rows → ParseMode → List Word → Tree → Type 0
-Derives c m ws t = OrIs c m ws t
+  -- a chain of OR: so the words, all of them, are an expression that means the tree
+  pub data Derives (c : Rows) (m : ParseMode) : List Word → Tree → Type 0 where
+    one_and : {xs : List Word} {t : Tree} → AndIs c m xs t → Derives c m xs t
+    or_more : {xs ys : List Word} {t u : Tree} → AndIs c m xs t → Derives c m ys u → Derives c m (xs ++ Or ∷ ys) (Join Operator.Or t u)
 
 -- the words are a beginning of some expression
 abbrev pub IsViable : Rows → ParseMode → List Word → Type 0
