@@ -105,10 +105,6 @@ abbrev pub unless : Option (Fault × Span) → List ℕ → Result (List ℕ) (F
 unless None text = Ok text
 unless (Some fault) text = Err fault
 
--- the canonical text of these items
-abbrev pub text_of_items : List Item → Result (List ℕ) (Fault × Span)
-text_of_items items = unless (first_fault false items) (canonical_text (words_of items))
-
 -- the answer to a text: no other text where the canonical one is the text itself
 abbrev pub answer_to : List ℕ → Result (List ℕ) (Fault × Span) → Result (Option (List ℕ)) (Fault × Span)
 answer_to text (Ok canonical) = Ok (if bytes_eq canonical text then None else Some canonical)
@@ -116,4 +112,4 @@ answer_to text (Err fault) = Err fault
 
 -- The canonical text of a text, as a lax reader finds it, or the fault for which it has none.
 abbrev pub canonical_of : Rows → List ℕ → Result (List ℕ) (Fault × Span)
-canonical_of c text = text_of_items (reading c lax 0 text)
+canonical_of c text = let items : List Item = reading c lax 0 text in unless (first_fault false items) (canonical_text (words_of items))

@@ -1,6 +1,6 @@
 -- What a text means, and the nodes that say so.
 use Rattle.std.specs.Prelude.{◌≡◌, ℕ, List, Option, Some, None, Ok, map, slice_get}
-use Rattle.spdx_catalogue.specs.Rows.{Rows, LicenseRow, ExceptionRow}
+use Rattle.spdx_catalogue.specs.Rows.{Rows}
 use Rattle.spdx_catalogue.specs.Items.{Licence, listed, referred, Addition, excepted, added}
 use Rattle.spdx_lexer.specs.declared.token.ParseMode.{ParseMode}
 use Rattle.spdx_lexer.specs.declared.error.ParseError.{ParseError}

@@ -3,7 +3,7 @@ use Rattle.std.specs.Prelude.{List, [], ◌∷◌, Option, Some, None, map, if�
 use Rattle.spdx_lexer.specs.Code.{span_of}
 use Rattle.spdx_lexer.specs.Words.{Word, Span}
 use Rattle.spdx_parser.specs.declared.node.ExprNode.{ExprNode}
-use Rattle.spdx_parser.specs.Last.{Last, Due, next_last, is_license}
+use Rattle.spdx_parser.specs.Last.{Last, next_last, is_license}
 
 -- a word and where it stands
 abbrev pub Placed : Type 0
