@@ -1,10 +1,11 @@
 # make run: the first verdicts, over the real list. make build: the proved program. make install: puts it in place.
-# make test: the whole gate, of which make quotes, growths and program are parts: what README.md quotes is what the files
-# hold; each growth of memory refused to each call; the built program in hostile surroundings.
+# make test: the whole gate, of which make quotes, theorem, growths and program are parts: what README.md and
+# docs/THEOREM.md quote is what the files hold; each growth of memory refused to each call; the built program in hostile
+# surroundings.
 PREFIX ?= /usr/local
 PROGRAM := crates/spdx_lines_main/out/spdx_lines_main
 
-.PHONY: run build install quotes growths program test
+.PHONY: run build install quotes theorem growths program test
 
 run:
 	@tools/run
@@ -18,6 +19,10 @@ install:
 quotes:
 	@tools/quotes
 
+# Whether docs/THEOREM.md is what the sources say; tools/theorem writes it.
+theorem:
+	@tools/theorem --check
+
 growths:
 	@tools/growths
 
@@ -29,4 +34,4 @@ $(PROGRAM):
 
 # The program is run as rt ci has built it.
 test:
-	@tools/gate tools/quotes tools/growths "tools/program $(PROGRAM)"
+	@tools/gate tools/quotes "tools/theorem --check" tools/growths "tools/program $(PROGRAM)"

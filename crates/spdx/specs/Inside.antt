@@ -5,6 +5,7 @@ use Rattle.spdx_parser.specs.Spans.{requirement_spans}
 use Rattle.spdx.specs.Written.{Written, tree_of, IsPostfix}
 use Rattle.spdx.specs.declared.expression.Expression.TheInside.{Inside}
 
+-- an expression shows its text, the tree of its nodes, and their spans
 abbrev pub written : Inside → Written
 written e = record { text = string_bytes e.original; tree = tree_of (map node_of e.nodes.items); spans = requirement_spans e.nodes.items }
 

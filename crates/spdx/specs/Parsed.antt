@@ -7,6 +7,7 @@ use Rattle.spdx_lexer.specs.declared.token.ParseMode.{ParseMode}
 use Rattle.spdx_lexer.specs.Reading.{reading}
 use Rattle.spdx_parser.specs.Tree.{Leaf}
 use Rattle.spdx_parser.specs.Grammar.{IsTheTree}
+use Rattle.spdx_parser.specs.Last.{Due}
 use Rattle.spdx_parser.specs.Spans.{Placed, words, license_spans}
 use Rattle.spdx_parser.specs.Parsed.{IsOfRows}
 use Rattle.spdx_normal.specs.Law.{ReadsAs}
@@ -18,7 +19,7 @@ pub record IsReadFrom (c : Rows) (m : ParseMode) (text : List ℕ) (e : Written)
   pub read : List Placed
   pub reads : reading c m 0 text ≡ map Ok read
   pub meant : IsTheTree c m (words read) e.tree
-  pub spans_are : e.spans ≡ license_spans read
+  pub spans_are : e.spans ≡ license_spans Due read
   pub rows_are : IsOfRows c e.tree
   pub text_is : e.text ≡ text
 

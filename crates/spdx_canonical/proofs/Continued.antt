@@ -5,8 +5,8 @@ use Rattle.std.specs.List.{All}
 use Rattle.spdx_lexer.specs.Laid.{IsPlace, place_of}
 use Rattle.spdx_catalogue.specs.Rows.{LicenseRow}
 use Rattle.spdx_catalogue.specs.Flags.{is_gnu}
-use Rattle.spdx_lexer.specs.Words.{Word, Spdx, Plus, Fault, Span, Item}
-use Rattle.spdx_canonical.specs.Canonical.{gnu_name, written_name, word_text, text_behind, is_spdx, is_misplaced, expected_license, first_fault, words_of, unless}
+use Rattle.spdx_lexer.specs.Words.{Word, Spdx, Plus, Fault, Span, Item, Unexpected}
+use Rattle.spdx_canonical.specs.Canonical.{gnu_name, written_name, word_text, text_behind, is_spdx, is_misplaced, first_fault, words_of, unless}
 use Rattle.spdx_canonical.specs.Drafted.{Drafted, extended, IsOff}
 use Rattle.spdx_canonical.proofs.Drafts.{not_off_text}
 use Rattle.spdx_canonical.specs.Pending.{marked_name, license_text, is_plus, decided_text, own_text, next_text, waiting}
@@ -49,13 +49,13 @@ step d before w s items h =
     let more = text_behind false (waiting_words (waiting w) (words_of items)) in
     let bytes : d.bytes ++ text_behind false (waiting_words before (w ∷ words_of items)) ≡ (d.bytes ++ (decided_text before (is_plus w) ++ own_text w)) ++ more =
     ap (λ (t : List ℕ). d.bytes ++ t) (adds before w (words_of items) h) ∙ sym (append_assoc d.bytes (decided_text before (is_plus w) ++ own_text w) more) in
-    ap (λ b. unless (cond b (Some (expected_license, s)) (first_fault (is_spdx w) items)) (d.bytes ++ text_behind false (waiting_words before (w ∷ words_of items)))) h
+    ap (λ b. unless (cond b (Some (Unexpected (codes "<license>" ∷ []), s)) (first_fault (is_spdx w) items)) (d.bytes ++ text_behind false (waiting_words before (w ∷ words_of items)))) h
     ∙ ap (λ b. unless (first_fault b items) (d.bytes ++ text_behind false (waiting_words before (w ∷ words_of items)))) (spdx_waits w)
     ∙ ap (unless (first_fault (is_some (waiting w)) items)) bytes
 
 -- a plus that is misplaced
-pub refused : (d : Drafted) (before : Option LicenseRow) (w : Word) (s : Span) (items : List Item) → is_misplaced (is_some before) w ≡ true → continued d before (Ok (w, s) ∷ items) ≡ Err (expected_license, s)
-refused d before w s items h = ap (λ b. unless (cond b (Some (expected_license, s)) (first_fault (is_spdx w) items)) (d.bytes ++ text_behind false (waiting_words before (w ∷ words_of items)))) h
+pub refused : (d : Drafted) (before : Option LicenseRow) (w : Word) (s : Span) (items : List Item) → is_misplaced (is_some before) w ≡ true → continued d before (Ok (w, s) ∷ items) ≡ Err (Unexpected (codes "<license>" ∷ []), s)
+refused d before w s items h = ap (λ b. unless (cond b (Some (Unexpected (codes "<license>" ∷ []), s)) (first_fault (is_spdx w) items)) (d.bytes ++ text_behind false (waiting_words before (w ∷ words_of items)))) h
 
 -- the end
 pub ended : (d : Drafted) (before : Option LicenseRow) → continued d before [] ≡ Ok (d.bytes ++ decided_text before false)

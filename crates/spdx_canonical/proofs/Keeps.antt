@@ -6,7 +6,8 @@ use Rattle.spdx_catalogue.specs.Items.{Reference, Licence, listed, referred, Add
 use Rattle.spdx_lexer.specs.declared.token.ParseMode.{ParseMode}
 use Rattle.spdx_lexer.specs.Words.{Word, Spdx, LicenseRef, Unknown, Plus}
 use Rattle.spdx_parser.specs.Tree.{Tree}
-use Rattle.spdx_parser.specs.Grammar.{later_row, LicenceOf, plain, marked, later, named, unknown, AdditionOf, exception, named_addition, unknown_addition, LeafOf, alone, joined, PrimaryOf, leaf, group, AndOf, one_primary, and_more, OrOf, one_and, or_more, Derives}
+use Rattle.spdx_parser.specs.Grammar.{later_row, Derives}
+use Rattle.spdx_parser.proofs.Threaded.{LicenceOf, plain, marked, later, named, unknown, AdditionOf, exception, named_addition, unknown_addition, LeafOf, alone, joined, PrimaryOf, leaf, group, AndOf, one_primary, and_more, OrOf, one_and, or_more, threaded, derives}
 use Rattle.spdx_canonical.specs.Canonical.{plus_follows, words_by}
 use Rattle.spdx_canonical.specs.Law.{tree_by}
 
@@ -79,4 +80,4 @@ module _ (c : Rows) (m s : ParseMode) (word : Bool → LicenseRow → Word) (f :
         (or_more k.0 l.0, l.1)
 
   pub keeps : (ws : List Word) (t : Tree) → Derives c m ws t → EachKept ws → Derives c s (words_by word false ws) (tree_by f t)
-  keeps ws t d a = (or_keeps d refl a).0
+  keeps ws t d a = derives c s (or_keeps (threaded c m d) refl a).0

@@ -5,19 +5,25 @@ use Rattle.spdx_catalogue.specs.Rows.{Rows}
 use Rattle.spdx_lexer.specs.declared.token.ParseMode.{ParseMode}
 use Rattle.spdx_lexer.specs.Words.{Word, Fault, UnknownTerm}
 use Rattle.spdx_lexer.specs.Text.{run_at}
-use Rattle.spdx_lexer.specs.Lexeme.{Found, first_of, sign, exact, referred, caseless, imprecise, unknown, rules, word_of_run, lexeme_of, lexeme}
+use Rattle.spdx_lexer.specs.Lexeme.{Found, first_of, sign, lexeme_of, lexeme}
+use Rattle.spdx_lexer.specs.Groups.{exact, referred, caseless, imprecise, unknown, grouped}
+use Rattle.spdx_lexer.proofs.Table.{lexeme_grouped}
 
 pub and_both : (a b : Bool) → a && b ≡ true → (a ≡ true) × (b ≡ true)
 and_both true b h = (refl, h)
 and_both false b h = absurd cc
 
 module _ (c : Rows) (m : ParseMode) (text : List ℕ) where
-  word_is : (run : List ℕ) → 0 < length run → word_of_run c m text run ≡ ok_or (rules c m text run) (UnknownTerm, length run)
-  word_is [] l = absurd (omega arith)
-  word_is (b ∷ run) l = refl
+  word_is : (run : List ℕ) (o : Found) → 0 < length run → lexeme_of text run None o ≡ ok_or o (UnknownTerm, length run)
+  word_is [] o l = absurd (omega arith)
+  word_is (b ∷ run) o l = refl
 
-  pub lexeme_word : sign m text ≡ None → (run : List ℕ) → run_at text ≡ run → 0 < length run → lexeme c m text ≡ ok_or (rules c m text run) (UnknownTerm, length run)
-  lexeme_word s run r l = ap (lexeme_of c m text) s ∙ ap (word_of_run c m text) r ∙ word_is run l
+  pub lexeme_word : sign m text ≡ None → (run : List ℕ) → run_at text ≡ run → 0 < length run → lexeme c m text ≡ ok_or (grouped c m text run) (UnknownTerm, length run)
+  lexeme_word s run r l =
+      lexeme_grouped c m text
+      ∙ ap (λ (f : Found). lexeme_of text (run_at text) f (grouped c m text (run_at text))) s
+      ∙ ap (λ (x : List ℕ). lexeme_of text x None (grouped c m text x)) r
+      ∙ word_is run (grouped c m text run) l
 
   -- what the rules give, where the exact one gives e and that of references f
   abbrev ruled : List ℕ → Found → Found → Result (Word × ℕ) (Fault × ℕ)

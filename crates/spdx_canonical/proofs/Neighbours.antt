@@ -11,7 +11,8 @@ use Rattle.spdx_lexer.specs.declared.token.ParseMode.{ParseMode}
 use Rattle.spdx_lexer.specs.Words.{Word, Spdx, LicenseRef, Exception, AdditionRef, Unknown, Plus, OpenParen, CloseParen, With, And, Or}
 use Rattle.spdx_lexer.specs.Lexeme.{reference_text}
 use Rattle.spdx_parser.specs.Tree.{Tree}
-use Rattle.spdx_parser.specs.Grammar.{may_stand, LicenceOf, plain, marked, later, named, unknown, AdditionOf, exception, named_addition, unknown_addition, LeafOf, alone, joined, PrimaryOf, leaf, group, AndOf, one_primary, and_more, OrOf, one_and, or_more}
+use Rattle.spdx_parser.specs.Grammar.{may_stand, Derives}
+use Rattle.spdx_parser.proofs.Threaded.{LicenceOf, plain, marked, later, named, unknown, AdditionOf, exception, named_addition, unknown_addition, LeafOf, alone, joined, PrimaryOf, leaf, group, AndOf, one_primary, and_more, OrOf, one_and, or_more, threaded}
 use Rattle.spdx_canonical.specs.Canonical.{is_spdx}
 
 -- whether a name may not stand next
@@ -135,8 +136,8 @@ module _ (c : Rows) (m : ParseMode) where
     or_apart (one_and d) f last n = and_apart d f last n
     or_apart (or_more {mid = mid} d e) f last n = and_apart d (operator_follows Or mid (λ _. refl) (or_apart e f Or refl)) last n
 
-  pub apart : (ws : List Word) (t : Tree) → OrOf c m ws t [] → AreApart OpenParen ws
-  apart ws t d = or_apart d (λ _ _. tt) OpenParen refl
+  pub apart : (ws : List Word) (t : Tree) → Derives c m ws t → AreApart OpenParen ws
+  apart ws t d = or_apart (threaded c m d) (λ _ _. tt) OpenParen refl
 
   -- ---- and each of its licences may stand
 
@@ -169,5 +170,5 @@ module _ (c : Rows) (m : ParseMode) where
     or_stands (one_and d) f = and_stands d f
     or_stands (or_more d e) f = and_stands d (or_stands e f)
 
-  pub stand : (ws : List Word) (t : Tree) → OrOf c m ws t [] → MayStand m ws
-  stand ws t d = or_stands d tt
+  pub stand : (ws : List Word) (t : Tree) → Derives c m ws t → MayStand m ws
+  stand ws t d = or_stands (threaded c m d) tt

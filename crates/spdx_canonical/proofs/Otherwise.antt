@@ -13,12 +13,14 @@ use Rattle.spdx_catalogue.specs.WellFormed.{is_well_formed}
 use Rattle.spdx_lexer.specs.Modes.{strict, lax}
 use Rattle.spdx_lexer.specs.Words.{Word, Spdx, LicenseRef, Exception, AdditionRef, Unknown, Plus, OpenParen, CloseParen, With, And, Or, Fault, UnknownTerm}
 use Rattle.spdx_lexer.specs.Text.{is_run_byte, name_at, strip}
-use Rattle.spdx_lexer.specs.Lexeme.{Found, first_of, reference_text, name_behind, names_behind, reference, license_reference, addition_reference, lexeme}
+use Rattle.spdx_lexer.specs.Lexeme.{Found, first_of, reference_text, name_behind, names_behind, reference, lexeme}
+use Rattle.spdx_lexer.specs.Groups.{license_reference, addition_reference}
 use Rattle.spdx_parser.specs.Tree.{Tree}
-use Rattle.spdx_parser.specs.Grammar.{may_stand, LicenceOf, plain, marked, named}
+use Rattle.spdx_parser.specs.Grammar.{may_stand}
+use Rattle.spdx_parser.proofs.Threaded.{LicenceOf, plain, marked, named}
 use Rattle.spdx_canonical.proofs.Lexed.{lexeme_none}
 use Rattle.spdx_canonical.specs.Canonical.{is_spdx, written_name, plus_follows, text_behind, canonical_text, words_by}
-use Rattle.spdx_canonical.specs.Law.{EachName, is_good, IsReferenceName, tree_by, Accepts, IsAccepted}
+use Rattle.spdx_canonical.specs.Law.{EachName, is_good, IsReferenceName, tree_by, Accepts}
 use Rattle.spdx_canonical.proofs.Known.{license_named, license_itself}
 use Rattle.spdx_canonical.proofs.Neighbours.{takes_license, is_with, AreApart, IsReference, AreRead, is_gnu_word, MayStand, apart, stand}
 use Rattle.spdx_canonical.proofs.Terms.{Stops, front_whole, all_run, first_of_name, bytes_of_name, some_length, says, reads, reads_spaced, skips, IsTerm, term_says, term_faults, no_sign, no_operator, no_row, license_term, exception_term, license_ref_term, addition_ref_term}
@@ -330,7 +332,7 @@ module _ (c : Rows) (well : IsTrue (is_well_formed c)) where
 
   -- ---- the law
 
-  pub otherwise : (text : List ℕ) (ws : List Word) (t : Tree) → Accepts c lax text ws t → IsAccepted c strict (canonical_text ws) ↔ EachName Fits ws
+  pub otherwise : (text : List ℕ) (ws : List Word) (t : Tree) → Accepts c lax text ws t → ((vs : List Word) × (u : Tree) × Accepts c strict (canonical_text ws) vs u) ↔ EachName Fits ws
   otherwise text ws t s =
       let a = apart c lax ws t s.meant in
       let known = are_read c well lax refl OpenParen ws a 0 text s.read in (

@@ -12,8 +12,9 @@ use Rattle.spdx_lexer.specs.Text.{white, is_run_byte, run_at}
 use Rattle.spdx_catalogue.specs.Names.{is_name_byte}
 use Rattle.spdx_catalogue.specs.LookUps.{listed, listed_exception, listed_caseless, listed_exception_caseless, imprecise_row, imprecise_license}
 use Rattle.spdx_lexer.specs.Words.{Word, Spdx, LicenseRef, Exception, AdditionRef, Unknown, Plus, OpenParen, CloseParen, With, And, Or, Fault, SeparatedPlus, span}
-use Rattle.spdx_lexer.specs.Lexeme.{Found, first_of, if_allowed, sign, whole, operator, reference_text, name_behind, names_behind, reference, document_reference, license_reference, addition_reference, exact, referred, rules, lexeme, caseless, by_run, imprecise, unknown}
-use Rattle.spdx_lexer.specs.Reading.{then, behind, reading, said}
+use Rattle.spdx_lexer.specs.Lexeme.{Found, first_of, if_allowed, sign, whole, operator, reference_text, name_behind, names_behind, reference, document_reference, lexeme}
+use Rattle.spdx_lexer.specs.Groups.{license_reference, addition_reference, exact, referred, caseless, by_run, imprecise, unknown, grouped}
+use Rattle.spdx_lexer.specs.Reading.{reading, said}
 use Rattle.spdx_canonical.specs.Canonical.{is_spdx}
 use Rattle.spdx_canonical.proofs.Neighbours.{ends_term, takes_license, is_with, AreApart, IsReference, IsRead, AreRead}
 use Rattle.spdx_canonical.proofs.Known.{license_named, exception_named, license_itself, license_caseless, exception_itself, exception_caseless}
@@ -21,7 +22,7 @@ use Rattle.spdx_lexer.proofs.Found.{first_all, allowed, lexeme_all}
 use Rattle.spdx_canonical.proofs.Lexed.{and_both}
 use Rattle.spdx_catalogue.proofs.Caseless.{find_passes}
 use Rattle.spdx_lexer.proofs.White.{white_none}
-use Rattle.spdx_lexer.proofs.Unfold.{reading_is}
+use Rattle.spdx_lexer.proofs.Unfold.{then, behind, reading_is}
 use Rattle.spdx_canonical.proofs.Terms.{Stops}
 use Rattle.spdx_canonical.proofs.Cuts.{front_split, front_all, all_after, Cut, cut_name, cut_names}
 
@@ -194,7 +195,7 @@ module _ (c : Rows) (well : IsTrue (is_well_formed c)) where
     not_allowed true f e = absurd cc
     not_allowed false f e = tt
 
-    rules_at : (m : ParseMode) → m.allow_unknown ≡ false → run_at text ≡ run → IfSome (rules c m text run) (IsAt text)
+    rules_at : (m : ParseMode) → m.allow_unknown ≡ false → run_at text ≡ run → IfSome (grouped c m text run) (IsAt text)
     rules_at m u r =
         found_then (IsAt text) (by_run c m run) (imprecise c m text ∷ unknown m run ∷ [])
         (found_then (IsAt text) (exact c run) (referred run ∷ caseless c m run ∷ []) exact_at (λ e.
@@ -219,7 +220,7 @@ module _ (c : Rows) (well : IsTrue (is_well_formed c)) where
   imprecise_term None = tt
   imprecise_term (Some f) = refl
 
-  colon_rules : (m : ParseMode) (text r : List ℕ) → IfSome (rules c m text (58 ∷ r)) Term
+  colon_rules : (m : ParseMode) (text r : List ℕ) → IfSome (grouped c m text (58 ∷ r)) Term
   colon_rules m text r =
       let run = 58 ∷ r in
       let l = codes "LicenseRef-" in
@@ -238,7 +239,7 @@ module _ (c : Rows) (well : IsTrue (is_well_formed c)) where
   colon_lexeme : (m : ParseMode) (rest : List ℕ) → IfOk (lexeme c m (58 ∷ rest)) Term
   colon_lexeme m rest = lexeme_all Term c m (58 ∷ rest) tt (λ b r e.
       let head : 58 ≡ b = let f = sym (take_while-cons is_run_byte 58 rest) ∙ e in cc in
-      subst (λ x. IfSome (rules c m (58 ∷ rest) (x ∷ r)) Term) head (colon_rules m (58 ∷ rest) r))
+      subst (λ x. IfSome (grouped c m (58 ∷ rest) (x ∷ r)) Term) head (colon_rules m (58 ∷ rest) r))
 
   module _ (m : ParseMode) where
     abbrev pub says : ℕ → List ℕ → List (Result Word Fault)

@@ -1,5 +1,6 @@
 -- The laws of a canonical text of which each name is good.
 use Rattle.std.proofs.Common.{◌≡◌, ◌↔◌, ℕ, Bool, true, false, cond, not, ◌&&◌, ◌||◌, List, [], ◌∷◌, ◌++◌, map, Option, Some, None, Result, Ok, Err, refl, sym, ◌∙◌, ap, subst, IsTrue, IsSome}
+use Rattle.std.specs.Prelude.{codes}
 use Rattle.std.specs.Prelude.{unwrap_or}
 use Rattle.std.specs.Option.{option_map_or}
 use Rattle.spdx_catalogue.specs.Rows.{LicenseRow, Rows}
@@ -10,13 +11,14 @@ use Rattle.spdx_catalogue.specs.Items.{listed}
 use Rattle.spdx_catalogue.specs.WellFormed.{is_well_formed}
 use Rattle.spdx_lexer.specs.declared.token.ParseMode.{ParseMode}
 use Rattle.spdx_lexer.specs.Modes.{strict, lax}
-use Rattle.spdx_lexer.specs.Words.{Word, Spdx, LicenseRef, Exception, AdditionRef, Unknown, Plus, OpenParen, CloseParen, With, And, Or, Fault, Item}
+use Rattle.spdx_lexer.specs.Words.{Word, Spdx, LicenseRef, Exception, AdditionRef, Unknown, Plus, OpenParen, CloseParen, With, And, Or, Fault, Item, Unexpected}
 use Rattle.spdx_lexer.specs.Reading.{said, reading, Spells}
 use Rattle.spdx_parser.specs.Tree.{Tree}
-use Rattle.spdx_parser.specs.Grammar.{may_stand, later_row, LicenceOf, plain, marked}
+use Rattle.spdx_parser.specs.Grammar.{may_stand, later_row}
+use Rattle.spdx_parser.proofs.Threaded.{LicenceOf, plain, marked}
 use Rattle.spdx_parser.proofs.Complete.{the_only}
-use Rattle.spdx_canonical.specs.Canonical.{is_spdx, is_misplaced, expected_license, first_fault, words_of, unless, canonical_of, gnu_name, written_name, plus_follows, canonical_text, only_row, canonical_row, canonical_words}
-use Rattle.spdx_canonical.specs.Law.{EachName, is_good, AreGood, only_licence, only_tree, Accepts, IsSound, IsFaithful}
+use Rattle.spdx_canonical.specs.Canonical.{is_spdx, is_misplaced, first_fault, words_of, unless, canonical_of, gnu_name, written_name, plus_follows, canonical_text, only_row, canonical_row, canonical_words}
+use Rattle.spdx_canonical.specs.Law.{EachName, is_good, only_licence, only_tree, Accepts, IsSound, IsFaithful}
 use Rattle.spdx_canonical.proofs.Known.{license_named}
 use Rattle.spdx_canonical.proofs.Neighbours.{may_follow, AreApart, AreRead, apart}
 use Rattle.spdx_canonical.proofs.Terms.{license_term}
@@ -47,7 +49,7 @@ whole last (Ok x ∷ items) (w ∷ ws) e a =
     let more : map said items ≡ map Ok ws = cc in
     let rest = whole w items ws more a.1 in
     record {
-      no_fault = ap (λ (v : Word). cond (is_misplaced (is_spdx last) v) (Some (expected_license, x.1)) (first_fault (is_spdx v) items)) same ∙ ap (λ b. cond b (Some (expected_license, x.1)) (first_fault (is_spdx w) items)) (placed last w a.0) ∙ rest.no_fault;
+      no_fault = ap (λ (v : Word). cond (is_misplaced (is_spdx last) v) (Some (Unexpected (codes "<license>" ∷ []), x.1)) (first_fault (is_spdx v) items)) same ∙ ap (λ b. cond b (Some (Unexpected (codes "<license>" ∷ []), x.1)) (first_fault (is_spdx w) items)) (placed last w a.0) ∙ rest.no_fault;
       words = ap (λ (v : Word). v ∷ words_of items) same ∙ ap (λ (vs : List Word). w ∷ vs) rest.words;
     }
 
@@ -77,7 +79,7 @@ module _ (c : Rows) (well : IsTrue (is_well_formed c)) where
   good_row None h = absurd cc
   good_row (Some r) h = refl
 
-  pub good_listed : (ws : List Word) → AreGood c ws → EachName (IsListed c well) ws
+  pub good_listed : (ws : List Word) → EachName (λ name. IsTrue (is_good c name)) ws → EachName (IsListed c well) ws
   good_listed ws g = each_name (λ name. IsTrue (is_good c name)) (IsListed c well) (λ name h. good_row (LookUps.listed c.licenses name) h) ws g
 
   terms : (m : ParseMode) (ws : List Word) → AreRead c ws → EachName (IsListed c well) ws → EachTerm c well m (canonical_word c well) ws
@@ -130,7 +132,7 @@ module _ (c : Rows) (well : IsTrue (is_well_formed c)) where
         (subst (λ (x : LicenseRow). LicenceOf c strict (Spdx next ∷ rest) (listed x false) rest) (sym stays) (plain (ap (may_stand strict) (sym row) ∙ stands true r d g)));
   }
 
-  kept : (ws : List Word) → AreRead c ws → AreGood c ws → EachKept c lax strict (canonical_word c well) (only_licence c) (λ _. refl) ws
+  kept : (ws : List Word) → AreRead c ws → EachName (λ name. IsTrue (is_good c name)) ws → EachKept c lax strict (canonical_word c well) (only_licence c) (λ _. refl) ws
   kept [] d g = tt
   kept (Spdx r ∷ ws) d g = (kept_one (plus_follows ws) r d.0 g.0, kept ws d.1 g.1)
   kept (LicenseRef x y ∷ ws) d g = kept ws d.1 g

@@ -14,11 +14,12 @@ use Rattle.spdx_catalogue.specs.WellFormed.{is_well_formed}
 use Rattle.spdx_lexer.specs.declared.token.ParseMode.{ParseMode}
 use Rattle.spdx_lexer.specs.Words.{Word, Spdx, LicenseRef, Exception, AdditionRef, Plus, OpenParen, CloseParen, With, And, Or, Fault, SeparatedPlus, span}
 use Rattle.spdx_lexer.specs.Text.{white, is_run_byte, name_at, strip}
-use Rattle.spdx_lexer.specs.Lexeme.{Found, first_of, sign_of, sign, whole, operator, reference_text, name_behind, names_behind, reference, addition_reference, exact, referred, lexeme}
-use Rattle.spdx_lexer.specs.Reading.{said, then, behind, reading}
+use Rattle.spdx_lexer.specs.Lexeme.{Found, first_of, sign_of, sign, whole, operator, reference_text, name_behind, names_behind, reference, lexeme}
+use Rattle.spdx_lexer.specs.Groups.{addition_reference, exact, referred}
+use Rattle.spdx_lexer.specs.Reading.{said, reading}
 use Rattle.spdx_canonical.proofs.Lexed.{and_both}
 use Rattle.spdx_lexer.proofs.White.{white_space, white_none, white_nil}
-use Rattle.spdx_lexer.proofs.Unfold.{reading_is}
+use Rattle.spdx_lexer.proofs.Unfold.{then, behind, reading_is}
 use Rattle.spdx_canonical.proofs.Lexed.{lexeme_exact, lexeme_referred}
 use Rattle.spdx_canonical.proofs.Known.{license_named, exception_named}
 use Rattle.spdx_canonical.proofs.Neighbours.{IsReference}

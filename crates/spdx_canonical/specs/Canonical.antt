@@ -22,6 +22,7 @@ gnu_name false name = if has_suffix name then name else name ++ only
 abbrev pub written_name : Bool → LicenseRow → List ℕ
 written_name plus r = if is_gnu r.flags then gnu_name plus r.name else r.name
 
+-- the next word is `+`
 abbrev pub plus_follows : List Word → Bool
 plus_follows (Plus ∷ ws) = true
 plus_follows _ = false
@@ -47,6 +48,7 @@ text_behind joined (Spdx r ∷ ws) = written_name (plus_follows ws) r ++ text_be
 text_behind true (Plus ∷ ws) = text_behind false ws
 text_behind joined (w ∷ ws) = word_text w ++ text_behind false ws
 
+-- the text of all words
 abbrev pub canonical_text : List Word → List ℕ
 canonical_text ws = text_behind false ws
 
@@ -69,11 +71,13 @@ words_by word joined (Spdx r ∷ ws) = word (plus_follows ws) r ∷ words_by wor
 words_by word true (Plus ∷ ws) = words_by word false ws
 words_by word joined (w ∷ ws) = w ∷ words_by word false ws
 
+-- the words that a strict reader finds in the canonical text
 abbrev pub canonical_words : Rows → List Word → List Word
 canonical_words c ws = words_by (λ plus r. Spdx (canonical_row c plus r)) false ws
 
 -- ---- where there is a canonical text
 
+-- a listed licence
 abbrev pub is_spdx : Word → Bool
 is_spdx (Spdx r) = true
 is_spdx _ = false
@@ -83,16 +87,12 @@ abbrev pub is_misplaced : Bool → Word → Bool
 is_misplaced behind_spdx Plus = not behind_spdx
 is_misplaced behind_spdx _ = false
 
--- where it stands a licence was expected
-abbrev pub expected_license : Fault
-expected_license = Unexpected (codes "<license>" ∷ [])
-
--- the first thing in the text that has no canonical text: a fault of the lexer, or a misplaced `+`
+-- the first thing in the text that has no canonical text: a fault of the lexer, or a misplaced `+`, where a licence was expected
 abbrev pub first_fault : Bool → List Item → Option (Fault × Span)
 first_fault behind_spdx [] = None
 first_fault behind_spdx (Err fault ∷ items) = Some fault
 first_fault behind_spdx (Ok found ∷ items) =
-    if is_misplaced behind_spdx found.0 then Some (expected_license, found.1) else first_fault (is_spdx found.0) items
+    if is_misplaced behind_spdx found.0 then Some (Unexpected (codes "<license>" ∷ []), found.1) else first_fault (is_spdx found.0) items
 
 -- the words that were found
 abbrev pub words_of : List Item → List Word
@@ -100,13 +100,10 @@ words_of [] = []
 words_of (Err fault ∷ items) = words_of items
 words_of (Ok found ∷ items) = found.0 ∷ words_of items
 
+-- the text, unless there is a fault
 abbrev pub unless : Option (Fault × Span) → List ℕ → Result (List ℕ) (Fault × Span)
 unless None text = Ok text
 unless (Some fault) text = Err fault
-
--- the canonical text of these items
-abbrev pub text_of_items : List Item → Result (List ℕ) (Fault × Span)
-text_of_items items = unless (first_fault false items) (canonical_text (words_of items))
 
 -- the answer to a text: no other text where the canonical one is the text itself
 abbrev pub answer_to : List ℕ → Result (List ℕ) (Fault × Span) → Result (Option (List ℕ)) (Fault × Span)
@@ -115,4 +112,4 @@ answer_to text (Err fault) = Err fault
 
 -- The canonical text of a text, as a lax reader finds it, or the fault for which it has none.
 abbrev pub canonical_of : Rows → List ℕ → Result (List ℕ) (Fault × Span)
-canonical_of c text = text_of_items (reading c lax 0 text)
+canonical_of c text = let items : List Item = reading c lax 0 text in unless (first_fault false items) (canonical_text (words_of items))

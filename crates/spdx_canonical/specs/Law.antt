@@ -32,9 +32,6 @@ pub record IsReferenceName (c : Rows) (name : List ℕ) : Type 0 where
   pub no_exception : LookUps.listed_exception c.exceptions name ≡ None
   pub prefix : IsTrue (starts_with nat_eq name (codes "LicenseRef-"))
 
-abbrev pub AreGood : Rows → List Word → Type 0
-AreGood c ws = EachName (λ name. IsTrue (is_good c name)) ws
-
 -- ---- the tree
 
 -- the tree with f of each licence in it
@@ -42,6 +39,7 @@ abbrev pub tree_by : (Licence → Licence) → Tree → Tree
 tree_by f (Leaf r) = Leaf (record { licence = f r.licence; addition = r.addition })
 tree_by f (Join o l r) = Join o (tree_by f l) (tree_by f r)
 
+-- a listed licence whose row `only_row` says; a reference stays
 abbrev pub only_licence : Rows → Licence → Licence
 only_licence c (listed r marked) = listed (only_row c r) marked
 only_licence c (referred r) = referred r
@@ -57,13 +55,10 @@ pub record Accepts (c : Rows) (m : ParseMode) (text : List ℕ) (ws : List Word)
   pub read : Spells c m text ws
   pub meant : Derives c m ws t
 
-abbrev pub IsAccepted : Rows → ParseMode → List ℕ → Type 0
-IsAccepted c m text = (ws : List Word) × (t : Tree) × Accepts c m text ws t
-
 -- A lax reader accepts the text, and each name that its canonical text writes is good.
 pub record IsSound (c : Rows) (text : List ℕ) (ws : List Word) (t : Tree) : Type 0 where
   pub accepted : Accepts c lax text ws t
-  pub good : AreGood c ws
+  pub good : EachName (λ name. IsTrue (is_good c name)) ws
 
 -- The canonical text of the words ws, which mean t: a strict reader finds the canonical words in it, and for them
 -- the tree with each bare GNU licence made `-only`, and no other; it is its own canonical text, and that of the canonical words.
@@ -73,6 +68,7 @@ pub record IsFaithful (c : Rows) (ws : List Word) (t : Tree) : Type 0 where
   pub again : canonical_of c (canonical_text ws) ≡ Ok (canonical_text ws)
   pub written : canonical_text (canonical_words c ws) ≡ canonical_text ws
 
+-- what is said of each text that a lax reader accepts
 pub record CanonicalLaws (c : Rows) (text : List ℕ) : Type 0 where
   -- each text that a lax reader accepts has a canonical text
   pub defined : (ws : List Word) (t : Tree) → Accepts c lax text ws t → canonical_of c text ≡ Ok (canonical_text ws)
@@ -82,4 +78,4 @@ pub record CanonicalLaws (c : Rows) (text : List ℕ) : Type 0 where
       (canonical_text ws ≡ canonical_text vs) ↔ (canonical_words c ws ≡ canonical_words c vs)
   -- where some names are not good, a strict reader accepts it exactly if each of these reads as a reference
   pub otherwise : (ws : List Word) (t : Tree) → Accepts c lax text ws t →
-      IsAccepted c strict (canonical_text ws) ↔ EachName (λ name. is_good c name ≡ false → IsReferenceName c name) ws
+      ((vs : List Word) × (u : Tree) × Accepts c strict (canonical_text ws) vs u) ↔ EachName (λ name. is_good c name ≡ false → IsReferenceName c name) ws

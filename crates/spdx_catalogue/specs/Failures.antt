@@ -9,4 +9,5 @@ RefusedOr M P (Memory e) = M
 
 -- P of a refusal; of want of memory nothing
 abbrev pub IfRefused : {E : Type 0} → (E → Type 0) → Failure E → Type 0
-IfRefused P failure = RefusedOr (Unit {0}) P failure
+IfRefused P (Refused e) = P e
+IfRefused P (Memory e) = Unit {0}

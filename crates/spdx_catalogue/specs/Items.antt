@@ -20,28 +20,35 @@ pub data Licence : Type 0 where
   listed : LicenseRow → Bool → Licence
   referred : Reference → Licence
 
+-- a row, or a reference
 pub data Addition : Type 0 where
   excepted : ExceptionRow → Addition
   added : Reference → Addition
 
+-- a licence, and the addition that it has, if any
 pub record Requirement : Type 0 where
   pub licence : Licence
   pub addition : Option Addition
 
+-- the texts of a reference to a licence
 abbrev pub license_reference_of : LicenseRef → Reference
 license_reference_of r = record { document = option_map string_bytes r.doc_ref; name = string_bytes r.lic_ref }
 
+-- the texts of a reference to an addition
 abbrev pub addition_reference_of : AdditionRef → Reference
 addition_reference_of r = record { document = option_map string_bytes r.doc_ref; name = string_bytes r.add_ref }
 
+-- a licence as its row and its mark, or as a reference
 abbrev pub licence_of : LicenseItem → Licence
 licence_of (item.Spdx id or_later) = listed (id_row id) or_later
 licence_of (item.Other r) = referred (license_reference_of r.value)
 
+-- an addition as its row, or as a reference
 abbrev pub addition_of : AdditionItem → Addition
 addition_of (addition.Spdx id) = excepted (exception_row id)
 addition_of (addition.Other r) = added (addition_reference_of r.value)
 
+-- a requirement as rows and texts
 abbrev pub requirement_of : LicenseReq → Requirement
 requirement_of r = record { licence = licence_of r.license; addition = option_map addition_of r.addition }
 

@@ -2,19 +2,21 @@
 use Rattle.std.specs.Prelude.{ℕ, Bool, List, ◌++◌, Option, option_map, option_and_then, find, length, bytes_eq, if◌then◌else◌}
 use Rattle.std.specs.Str.{str_eq_ignore_ascii_case}
 use Rattle.spdx_catalogue.specs.Names.{has_suffix, ending, without_plus, begins_caseless}
-use Rattle.spdx_catalogue.specs.Rows.{Rows, LicenseRow, ExceptionRow, ImpreciseRow, license_name, exception_name}
+use Rattle.spdx_catalogue.specs.Rows.{Rows, LicenseRow, ExceptionRow, ImpreciseRow}
 
 -- the licence of that name, of which nothing is taken off
 abbrev pub listed : List LicenseRow → List ℕ → Option LicenseRow
-listed rows name = find (λ (r : LicenseRow). bytes_eq (license_name r) name) rows
+listed rows name = find (λ (r : LicenseRow). bytes_eq r.name name) rows
 
+-- the exception of that name
 abbrev pub listed_exception : List ExceptionRow → List ℕ → Option ExceptionRow
-listed_exception rows name = find (λ (r : ExceptionRow). bytes_eq (exception_name r) name) rows
+listed_exception rows name = find (λ (r : ExceptionRow). bytes_eq r.name name) rows
 
 -- the first licence whose name it is, the case of ASCII letters aside
 abbrev pub listed_caseless : List LicenseRow → List ℕ → Option LicenseRow
 listed_caseless rows name = find (λ (r : LicenseRow). str_eq_ignore_ascii_case (r.name) name) rows
 
+-- the first exception whose name it is, the case of ASCII letters aside
 abbrev pub listed_exception_caseless : List ExceptionRow → List ℕ → Option ExceptionRow
 listed_exception_caseless rows name = find (λ (r : ExceptionRow). str_eq_ignore_ascii_case (r.name) name) rows
 

@@ -27,9 +27,11 @@ abbrev pub is_above : Option (List ℕ) → List ℕ → Bool
 is_above None name = true
 is_above (Some before) name = is_below before name
 
+-- the ending of a GNU licence of one version
 abbrev pub only : List ℕ
 only = codes "-only"
 
+-- the ending of a GNU licence of that version and those after it
 abbrev pub or_later : List ℕ
 or_later = codes "-or-later"
 
@@ -37,12 +39,15 @@ or_later = codes "-or-later"
 abbrev pub ending : Bool → List ℕ
 ending later = if later then or_later else only
 
+-- the name ends in `-only`
 abbrev pub ends_only : List ℕ → Bool
 ends_only name = ends_with nat_eq name only
 
+-- the name ends in `-or-later`
 abbrev pub ends_or_later : List ℕ → Bool
 ends_or_later name = ends_with nat_eq name or_later
 
+-- the name has one of the two endings
 abbrev pub has_suffix : List ℕ → Bool
 has_suffix name = ends_only name || ends_or_later name
 
@@ -58,6 +63,7 @@ without_only name = unwrap_or (without only name) name
 abbrev pub without_suffix : List ℕ → List ℕ
 without_suffix name = unwrap_or (without only name) (unwrap_or (without or_later name) name)
 
+-- what is left has one of them, if anything is left
 abbrev pub still_has_suffix : Option (List ℕ) → Bool
 still_has_suffix None = false
 still_has_suffix (Some front) = has_suffix front

@@ -4,17 +4,20 @@ use Rattle.spdx_catalogue.specs.declared.row.License.{License}
 use Rattle.spdx_catalogue.specs.declared.row.Exception.{Exception}
 use Rattle.spdx_catalogue.specs.declared.row.ImpreciseName.{ImpreciseName}
 
+-- a listed licence; its index is its place in the list, and its flags are bits
 pub record LicenseRow : Type 0 where
   pub name : List ℕ
   pub full_name : List ℕ
   pub index : ℕ
   pub flags : ℕ
 
+-- a listed exception
 pub record ExceptionRow : Type 0 where
   pub name : List ℕ
   pub index : ℕ
   pub flags : ℕ
 
+-- another spelling: a text that begins with the prefix means the licence of that name
 pub record ImpreciseRow : Type 0 where
   pub prefix : List ℕ
   pub name : List ℕ
@@ -26,18 +29,23 @@ pub record Rows : Type 0 where
   pub exceptions : List ExceptionRow
   pub imprecise : List ImpreciseRow
 
+-- a row of the catalogue as bytes and numbers
 abbrev pub row_of : License → LicenseRow
 row_of r = record { name = string_bytes r.name; full_name = string_bytes r.full_name; index = r.index; flags = r.flags }
 
+-- the same of an exception
 abbrev pub exception_of : Exception → ExceptionRow
 exception_of r = record { name = string_bytes r.name; index = r.index; flags = r.flags }
 
+-- the same of another spelling
 abbrev pub imprecise_of : ImpreciseName → ImpreciseRow
 imprecise_of r = record { prefix = string_bytes r.prefix; name = string_bytes r.name }
 
+-- the name of a licence
 abbrev pub license_name : LicenseRow → List ℕ
 license_name r = r.name
 
+-- the name of an exception
 abbrev pub exception_name : ExceptionRow → List ℕ
 exception_name r = r.name
 

@@ -4,8 +4,10 @@ use Rattle.spdx_catalogue.specs.declared.catalogue.Catalogue.TheInside.{Inside}
 use Rattle.spdx_catalogue.specs.Rows.{Rows, row_of, exception_of, imprecise_of}
 use Rattle.spdx_catalogue.specs.WellFormed.{is_well_formed}
 
+-- a catalogue shows its rows as bytes and numbers
 abbrev pub shown : Inside → Rows
 shown a = record { version = string_bytes a.version; licenses = map row_of a.licenses.items; exceptions = map exception_of a.exceptions.items; imprecise = map imprecise_of a.imprecise.items }
 
+-- no row of a catalogue breaks a rule
 abbrev pub IsWellFormed : Inside → Type 0
 IsWellFormed a = IsTrue (is_well_formed (shown a))

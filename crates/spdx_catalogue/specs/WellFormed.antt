@@ -14,6 +14,7 @@ use Rattle.spdx_catalogue.specs.Names.{is_name, is_operator, is_above, has_two_s
 abbrev pub Rule : Type 0
 Rule = Bool × CatalogueError
 
+-- the fault of the first rule that is broken, if one is
 abbrev pub first_broken : List Rule → Option CatalogueError
 first_broken [] = None
 first_broken (r ∷ rs) = if r.0 then Some r.1 else first_broken rs
@@ -40,15 +41,19 @@ name_rules list name previous index row =
 abbrev pub license_row_rules : Option (List ℕ) → ℕ → LicenseRow → List Rule
 license_row_rules previous row r = name_rules Licenses (license_name r) previous r.index row ++ (is_gnu r.flags && has_two_suffixes (license_name r), TwoSuffixes row) ∷ []
 
+-- those of an exception
 abbrev pub exception_row_rules : Option (List ℕ) → ℕ → ExceptionRow → List Rule
 exception_row_rules previous row r = name_rules Exceptions (exception_name r) previous r.index row
 
+-- those of the licence of that row
 abbrev pub license_rules : List LicenseRow → ℕ → List Rule
 license_rules rows row = option_map_or (license_row_rules (option_map license_name (before rows row)) row) (slice_get rows row) []
 
+-- those of the exception of that row
 abbrev pub exception_rules : List ExceptionRow → ℕ → List Rule
 exception_rules rows row = option_map_or (exception_row_rules (option_map exception_name (before rows row)) row) (slice_get rows row) []
 
+-- some licence has that name
 abbrev pub is_listed : List LicenseRow → List ℕ → Bool
 is_listed rows name = is_some (listed rows name)
 
@@ -56,6 +61,7 @@ is_listed rows name = is_some (listed rows name)
 abbrev pub imprecise_row_rules : List LicenseRow → ℕ → ImpreciseRow → List Rule
 imprecise_row_rules licenses row r = (length r.prefix == 0, EmptyPrefix row) ∷ (not (is_listed licenses r.name), UnlistedTarget row) ∷ []
 
+-- those of the other spelling of that row
 abbrev pub imprecise_rules : List LicenseRow → List ImpreciseRow → ℕ → List Rule
 imprecise_rules licenses rows row = option_map_or (imprecise_row_rules licenses row) (slice_get rows row) []
 
@@ -70,5 +76,6 @@ rules_of c =
 abbrev pub first_fault : Rows → Option CatalogueError
 first_fault c = first_broken (rules_of c)
 
+-- no rule is broken
 abbrev pub is_well_formed : Rows → Bool
 is_well_formed c = is_none (first_fault c)

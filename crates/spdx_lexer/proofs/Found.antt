@@ -1,5 +1,5 @@
 -- What holds of each word that a rule finds.
-use Rattle.std.proofs.Common.{◌≡◌, ℕ, ◌<◌, Bool, true, false, List, [], ◌∷◌, Option, Some, None, refl, arith, IfSome, IfOk, option_map}
+use Rattle.std.proofs.Common.{◌≡◌, ℕ, ◌<◌, Bool, true, false, List, [], ◌∷◌, Option, Some, None, refl, sym, subst, arith, IfSome, IfOk, option_map}
 use Rattle.std.specs.Prelude.{ok_or, codes}
 use Rattle.spdx_catalogue.specs.Rows.{Rows, LicenseRow}
 use Rattle.spdx_catalogue.specs.WellFormed.{is_well_formed}
@@ -8,7 +8,9 @@ use Rattle.spdx_catalogue.proofs.Listed.{imprecise_is_license}
 use Rattle.spdx_lexer.specs.declared.token.ParseMode.{ParseMode}
 use Rattle.spdx_lexer.specs.Words.{Word, Spdx, Exception, LicenseRef, AdditionRef, Unknown}
 use Rattle.spdx_lexer.specs.Text.{run_at}
-use Rattle.spdx_lexer.specs.Lexeme.{Found, first_of, if_allowed, sign_of, sign, whole, operator, name_behind, names_behind, reference, document_reference, license_reference, addition_reference, exact, referred, caseless, by_run, unknown, imprecise, rules, word_of_run, lexeme_of, lexeme}
+use Rattle.spdx_lexer.specs.Lexeme.{Found, first_of, if_allowed, sign_of, sign, whole, operator, name_behind, names_behind, reference, document_reference, rules, lexeme_of, lexeme}
+use Rattle.spdx_lexer.specs.Groups.{license_reference, addition_reference, exact, referred, caseless, by_run, unknown, imprecise, grouped}
+use Rattle.spdx_lexer.proofs.Table.{rules_grouped}
 
 abbrev pub AllFound : (Word × ℕ → Type 0) → List Found → Type 0
 AllFound P [] = Unit {0}
@@ -33,16 +35,19 @@ module _ (P : Word × ℕ → Type 0) (c : Rows) (m : ParseMode) (text : List �
   or_fault None e h = tt
   or_fault (Some w) e h = h
 
-  of_run : (run : List ℕ) → ((b : ℕ) (r : List ℕ) → run ≡ b ∷ r → IfSome (rules c m text (b ∷ r)) P) → IfOk (word_of_run c m text run) P
-  of_run [] h = tt
-  of_run (b ∷ run) h = or_fault (rules c m text (b ∷ run)) _ (h b run refl)
+  of_run : (run : List ℕ) (o : Found) → ((b : ℕ) (r : List ℕ) → run ≡ b ∷ r → IfSome o P) → IfOk (lexeme_of text run None o) P
+  of_run [] o h = tt
+  of_run (b ∷ run) o h = or_fault o _ (h b run refl)
 
-  of_sign : (o : Found) → IfSome o P → IfOk (word_of_run c m text (run_at text)) P → IfOk (lexeme_of c m text o) P
-  of_sign None s h = h
-  of_sign (Some w) s h = s
+  of_sign : (run : List ℕ) (s o : Found) → IfSome s P → IfOk (lexeme_of text run None o) P → IfOk (lexeme_of text run s o) P
+  of_sign run None o s h = h
+  of_sign run (Some w) o s h = s
 
-  pub lexeme_all : IfSome (sign m text) P → ((b : ℕ) (r : List ℕ) → run_at text ≡ b ∷ r → IfSome (rules c m text (b ∷ r)) P) → IfOk (lexeme c m text) P
-  lexeme_all s h = of_sign (sign m text) s (of_run (run_at text) h)
+  pub lexeme_all : IfSome (sign m text) P → ((b : ℕ) (r : List ℕ) → run_at text ≡ b ∷ r → IfSome (grouped c m text (b ∷ r)) P) → IfOk (lexeme c m text) P
+  lexeme_all s h =
+      of_sign (run_at text) (sign m text) (rules c m text (run_at text)) s
+      (of_run (run_at text) (rules c m text (run_at text)) (λ b r e.
+      subst (λ (o : Found). IfSome o P) (sym (rules_grouped c m text (run_at text))) (subst (λ (run : List ℕ). IfSome (grouped c m text run) P) (sym e) (h b r e))))
 
 -- ---- each word takes a byte
 

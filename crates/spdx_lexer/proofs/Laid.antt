@@ -14,9 +14,12 @@ use Rattle.spdx_catalogue.proofs.Listed.{find_place, listed_is_license, listed_n
 use Rattle.spdx_lexer.specs.declared.token.ParseMode.{ParseMode}
 use Rattle.spdx_lexer.specs.Words.{Word, Spdx, Plus, OpenParen, CloseParen, Or, Fault, SeparatedPlus, UnknownTerm, Span, span, Item}
 use Rattle.spdx_lexer.specs.Text.{white, run_at, is_run_byte}
-use Rattle.spdx_lexer.specs.Lexeme.{Found, sign, by_run, imprecise, unknown, rules, word_of_run, lexeme_of, lexeme}
-use Rattle.spdx_lexer.specs.Reading.{then, behind, items, reading}
+use Rattle.spdx_lexer.specs.Lexeme.{Found, sign, rules, lexeme_of, lexeme}
+use Rattle.spdx_lexer.specs.Groups.{by_run, imprecise, unknown}
+use Rattle.spdx_lexer.specs.Reading.{reading}
 use Rattle.spdx_lexer.specs.Laid.{IsSpelt, IsWhite, between, IsPlace, IsGap, IsLexical, AreLaid, ended, stopped, goes_on, place_of}
+use Rattle.spdx_lexer.proofs.Unfold.{then, behind, reading_is}
+use Rattle.spdx_lexer.proofs.Next.{reading_nil}
 use Rattle.spdx_lexer.proofs.Front.{run_cut, first_cut}
 use Rattle.spdx_lexer.proofs.White.{white_front}
 use Rattle.spdx_lexer.proofs.Found.{first_all, lexeme_all, lexeme_long}
@@ -102,12 +105,12 @@ module _ (c : Rows) (well : is_well_formed c ≡ true) (texts : HasTextPrefixes 
       of_rules b run e None = (inr (inr refl), run_cut text (length (b ∷ run)) u (omega (arith, ap length e)))
       of_rules b run e (Some f) = tt
 
-      of_front : (run : List ℕ) → run_at text ≡ run → IfErr (word_of_run c m text run) (Stops text)
-      of_front [] e = (inl refl, IsCharBoundary-end text)
-      of_front (b ∷ run) e = of_rules b run e (rules c m text (b ∷ run))
+      of_front : (run : List ℕ) (o : Found) → run_at text ≡ run → IfErr (lexeme_of text run None o) (Stops text)
+      of_front [] o e = (inl refl, IsCharBoundary-end text)
+      of_front (b ∷ run) o e = of_rules b run e o
 
-      of_sign : (o : Found) → IfErr (lexeme_of c m text o) (Stops text)
-      of_sign None = of_front (run_at text) refl
+      of_sign : (s : Found) → IfErr (lexeme_of text (run_at text) s (rules c m text (run_at text))) (Stops text)
+      of_sign None = of_front (run_at text) _ refl
       of_sign (Some f) = tt
 
   -- ---- all of them
@@ -161,26 +164,26 @@ module _ (c : Rows) (well : is_well_formed c ≡ true) (texts : HasTextPrefixes 
         pick true = stopped (inr (inl refl)) (none_between at) (omega arith, (start, cut))
         pick false = then_laid more at gap (b ∷ t) (lexeme c m (b ∷ t)) e cut gapped (lexeme_fits (b ∷ t) rest_utf8) (lexeme_long c well m (b ∷ t)) (lexeme_stops (b ∷ t) rest_utf8) next
 
-    items_laid : (n at : ℕ) → length (drop at text) ≤ n → IsCharBoundary text at → AreLaid c m text at (items c m n at (drop at text))
-    items_laid zero at l start = ended (empty (drop at text) l)
+    rest_laid : (n at : ℕ) → length (drop at text) ≤ n → IsCharBoundary text at → AreLaid c m text at (reading c m at (drop at text))
+    rest_laid zero at l start = empty (drop at text) refl l
       where
-        empty : (xs : List ℕ) → length xs ≤ 0 → IsWhite xs
-        empty [] h = no_white
-        empty (x ∷ xs) h = absurd (omega arith)
-    items_laid (suc n) at l start =
+        empty : (xs : List ℕ) → drop at text ≡ xs → length xs ≤ 0 → AreLaid c m text at (reading c m at xs)
+        empty [] e h = subst (λ (is : List Item). AreLaid c m text at is) (sym (reading_nil c m at)) (ended (subst IsWhite (sym e) no_white))
+        empty (x ∷ xs) e h = absurd (omega arith)
+    rest_laid (suc n) at l start =
         let rest : List ℕ = drop at text in
         let gap : ℕ = white rest in
         let front = white_front rest (IsUtf8-drop text at utf8 start) in
         let here : drop gap rest ≡ drop (at + gap) text = drop-drop gap at text in
-        behind_laid (items c m n) at gap (drop gap rest) here start (IsCharBoundary-from_rest text at gap start.0 front.1) front.0
+        subst (λ (is : List Item). AreLaid c m text at is) (sym (reading_is c well m at rest))
+        (behind_laid (reading c m) at gap (drop gap rest) here start (IsCharBoundary-from_rest text at gap start.0 front.1) front.0
         (λ f end long.
         let after : drop f.1 (drop gap rest) ≡ drop ((at + gap) + f.1) text = ap (drop f.1) here ∙ drop-drop f.1 (at + gap) text in
         let short : length (drop ((at + gap) + f.1) text) ≤ n = omega (arith, l, long, length-drop at text, length-drop ((at + gap) + f.1) text, end.0) in
-        subst (λ (xs : List ℕ). AreLaid c m text ((at + gap) + f.1) (items c m n ((at + gap) + f.1) xs)) (sym after) (items_laid n ((at + gap) + f.1) short end))
+        subst (λ (xs : List ℕ). AreLaid c m text ((at + gap) + f.1) (reading c m ((at + gap) + f.1) xs)) (sym after) (rest_laid n ((at + gap) + f.1) short end)))
 
     pub reading_laid : AreLaid c m text 0 (reading c m 0 text)
-    unfolding reading
-    reading_laid = items_laid (length text) 0 (omega arith) (IsCharBoundary-start text utf8)
+    reading_laid = rest_laid (length text) 0 (omega arith) (IsCharBoundary-start text utf8)
 
 -- each item of such a list has its place in the text
 pub laid_places : (c : Rows) (m : ParseMode) (text : List ℕ) (at : ℕ) (xs : List Item) → AreLaid c m text at xs → (k : ℕ) (d : Item) → k < length xs → IsPlace text (place_of (get_or xs k d))

@@ -7,8 +7,8 @@ use Rattle.spdx_lexer.specs.declared.token.ParseMode.{ParseMode}
 use Rattle.spdx_lexer.specs.Text.{white, begins_plus}
 use Rattle.spdx_lexer.specs.Words.{Word, Fault, SeparatedPlus, Item, Span, span}
 use Rattle.spdx_lexer.specs.Lexeme.{lexeme}
-use Rattle.spdx_lexer.specs.Reading.{then, behind, reading}
-use Rattle.spdx_lexer.proofs.Unfold.{reading_is}
+use Rattle.spdx_lexer.specs.Reading.{reading}
+use Rattle.spdx_lexer.proofs.Unfold.{then, behind, reading_is}
 
 pub reading_nil : (c : Rows) (m : ParseMode) (at : ℕ) → reading c m at [] ≡ []
 unfolding reading

@@ -14,7 +14,8 @@ use Rattle.spdx_catalogue.proofs.Listed.{listed_is_license, listed_name, caseles
 use Rattle.spdx_lexer.specs.declared.token.ParseMode.{ParseMode}
 use Rattle.spdx_lexer.specs.Words.{Word, Spdx, LicenseRef, Exception, AdditionRef, Unknown, With, And, Or}
 use Rattle.spdx_lexer.specs.Text.{name_at, strip}
-use Rattle.spdx_lexer.specs.Lexeme.{Found, if_allowed, whole, operator, reference_text, name_behind, names_behind, reference, document_reference, license_reference, addition_reference, exact, referred, caseless, by_run, unknown}
+use Rattle.spdx_lexer.specs.Lexeme.{Found, if_allowed, whole, operator, reference_text, name_behind, names_behind, reference, document_reference}
+use Rattle.spdx_lexer.specs.Groups.{license_reference, addition_reference, exact, referred, caseless, by_run, unknown}
 use Rattle.spdx_lexer.specs.Laid.{IsSpelt, IsReference}
 use Rattle.spdx_lexer.proofs.Front.{front_passes}
 use Rattle.spdx_lexer.proofs.Found.{first_all}

@@ -1,46 +1,72 @@
 -- One item of a reading, and the reading of what follows it.
-use Rattle.std.proofs.Common.{◌≡◌, ℕ, zero, suc, ◌+◌, ◌<◌, ◌≤◌, true, cond, ◌&&◌, ◌==◌, nat_lt, List, [], ◌∷◌, length, drop, Result, Ok, Err, refl, sym, ap, arith, IfOk, length-drop}
+use Rattle.std.proofs.Common.{◌≡◌, ℕ, zero, suc, ◌+◌, ◌<◌, true, false, cond, ◌&&◌, ◌==◌, nat_lt, List, [], ◌∷◌, drop, Result, Ok, Err, refl, sym, ◌∙◌, ap, subst, arith, IfOk, lt-ltb}
 use Rattle.std.proofs.Math.Seq.{drop-nil}
+use Rattle.std.proofs.lemmas.List.{drop-drop}
+use Rattle.std.proofs.lemmas.Bool.{le-ltb}
 use Rattle.spdx_catalogue.specs.Rows.{Rows}
 use Rattle.spdx_catalogue.specs.WellFormed.{is_well_formed}
 use Rattle.spdx_lexer.specs.declared.token.ParseMode.{ParseMode}
 use Rattle.spdx_lexer.specs.Text.{white}
 use Rattle.spdx_lexer.specs.Words.{Word, Fault, SeparatedPlus, Item, span}
 use Rattle.spdx_lexer.specs.Lexeme.{lexeme}
-use Rattle.spdx_lexer.specs.Reading.{then, behind, items, reading}
+use Rattle.spdx_lexer.specs.Reading as Reading
+use Rattle.spdx_lexer.specs.Reading.{items, reading}
 use Rattle.spdx_lexer.proofs.Found.{lexeme_long}
 
-module _ (c : Rows) (well : is_well_formed c ≡ true) (m : ParseMode) where
-  -- two readers that agree on shorter texts
-  then_same : (f g : ℕ → List ℕ → List Item) (at : ℕ) (text : List ℕ) (r : Result (Word × ℕ) (Fault × ℕ)) → IfOk r (λ w. 0 < w.1) → 0 < length text → ((i : ℕ) (rest : List ℕ) → length rest < length text → f i rest ≡ g i rest) → then f at text r ≡ then g at text r
-  then_same f g at text (Ok w) h l e = ap (λ (xs : List Item). Ok (w.0, span at w.1) ∷ xs) (e (at + w.1) (drop w.1 text) (omega (arith, length-drop w.1 text)))
-  then_same f g at text (Err x) h l e = refl
+-- the item at the place, and what `more` reads of what follows it; behind a fault there is nothing
+abbrev pub then : (ℕ → List ℕ → List Item) → ℕ → List ℕ → Result (Word × ℕ) (Fault × ℕ) → List Item
+then more at text (Ok found) = Ok (found.0, span at found.1) ∷ more (at + found.1) (drop found.1 text)
+then more at text (Err fault) = Err (fault.0, span at fault.1) ∷ []
 
-  behind_same : (f g : ℕ → List ℕ → List Item) (at gap : ℕ) (text : List ℕ) → ((i : ℕ) (rest : List ℕ) → length rest < length text → f i rest ≡ g i rest) → behind c m f at gap text ≡ behind c m g at gap text
-  behind_same f g at gap [] e = refl
-  behind_same f g at gap (b ∷ text) e =
-      ap (λ (xs : List Item). cond (nat_lt 0 gap && b == 43) (Err (SeparatedPlus, span at gap) ∷ []) xs)
-      (then_same f g (at + gap) (b ∷ text) (lexeme c m (b ∷ text)) (lexeme_long c well m (b ∷ text)) (omega arith) e)
+abbrev pub behind : Rows → ParseMode → (ℕ → List ℕ → List Item) → ℕ → ℕ → List ℕ → List Item
+behind c m more at gap [] = []
+behind c m more at gap (b ∷ text) =
+    cond (nat_lt 0 gap && b == 43)
+    (Err (SeparatedPlus, span at gap) ∷ [])
+    (then more (at + gap) (b ∷ text) (lexeme c m (b ∷ text)))
 
-  nothing : (text : List ℕ) (k at : ℕ) → length text ≡ 0 → [] ≡ items c m (suc k) at text
-  nothing [] k at l = rw (drop-nil (white [])) refl
-  nothing (b ∷ text) k at l = absurd (omega arith)
+-- a place is not in front of itself, and is in front of those behind it
+here : (at : ℕ) → nat_lt at at ≡ false
+here at = le-ltb at at (omega arith)
 
-  items_same : (n k at : ℕ) (text : List ℕ) → length text ≤ n → length text ≤ k → items c m n at text ≡ items c m k at text
-  items_same zero zero at text l h = refl
-  items_same zero (suc k) at text l h = nothing text k at (omega arith)
-  items_same (suc n) zero at text l h = sym (nothing text n at (omega arith))
-  items_same (suc n) (suc k) at text l h =
-      behind_same (items c m n) (items c m k) at (white text) (drop (white text) text) (λ i rest s. items_same n k i rest (omega (arith, length-drop (white text) text)) (omega (arith, length-drop (white text) text)))
+before : (at k : ℕ) → nat_lt at (at + suc k) ≡ true
+before at k = lt-ltb at (at + suc k) (omega arith)
 
-  items_is : (n at : ℕ) (text : List ℕ) → length text ≤ n → items c m n at text ≡ behind c m (reading c m) at (white text) (drop (white text) text)
+module _ (c : Rows) (m : ParseMode) where
+  -- behind bytes that were read before, the reading of the rest
+  skipped : (k at : ℕ) (text : List ℕ) → items c m (at + k) at text ≡ reading c m (at + k) (drop k text)
   unfolding reading
-  items_is zero at [] l = rw (drop-nil (white [])) refl
-  items_is zero at (b ∷ text) l = absurd (omega arith)
-  items_is (suc n) at text l =
-      behind_same (items c m n) (reading c m) at (white text) (drop (white text) text) (λ i rest s. items_same n (length rest) i rest (omega (arith, length-drop (white text) text)) (omega arith))
+  skipped zero at text = let same : at + 0 ≡ at = omega arith in subst (λ i. items c m i at text ≡ items c m i i text) (sym same) refl
+  skipped (suc k) at [] = refl
+  skipped (suc k) at (b ∷ text) =
+      let next : at + suc k ≡ (at + 1) + k = omega arith in
+      ap (λ t. cond t (items c m (at + suc k) (at + 1) text) (Reading.behind c m (λ i. items c m i (at + 1) text) at (white (b ∷ text)) (drop (white (b ∷ text)) (b ∷ text)))) (before at k)
+      ∙ subst (λ i. items c m i (at + 1) text ≡ items c m i i (drop k text)) (sym next) (skipped k (at + 1) text)
+
+module _ (c : Rows) (well : is_well_formed c ≡ true) (m : ParseMode) where
+  -- what follows an item of a byte or more
+  then_is : (b : ℕ) (text : List ℕ) (at gap : ℕ) (r : Result (Word × ℕ) (Fault × ℕ)) → IfOk r (λ w. 0 < w.1) → Reading.go_on (λ next. items c m next (at + 1) text) (at + gap) r ≡ then (reading c m) (at + gap) (drop gap (b ∷ text)) r
+  then_is b text at gap (Ok (w, zero)) h = absurd (omega arith)
+  then_is b text at gap (Ok (w, suc n)) h =
+      let place : (at + gap) + suc n ≡ (at + 1) + (gap + n) = omega arith in
+      let taken : gap + suc n ≡ suc (gap + n) = omega arith in
+      let rest : drop (suc n) (drop gap (b ∷ text)) ≡ drop (gap + n) text = drop-drop (suc n) gap (b ∷ text) ∙ ap (λ k. drop k (b ∷ text)) taken in
+      let more : items c m ((at + gap) + suc n) (at + 1) text ≡ reading c m ((at + gap) + suc n) (drop (suc n) (drop gap (b ∷ text))) =
+      subst (λ i. items c m i (at + 1) text ≡ reading c m i (drop (suc n) (drop gap (b ∷ text)))) (sym place)
+      (skipped c m (gap + n) (at + 1) text ∙ ap (reading c m ((at + 1) + (gap + n))) (sym rest)) in
+      ap (λ (xs : List Item). Ok (w, span (at + gap) (suc n)) ∷ xs) more
+  then_is b text at gap (Err x) h = refl
+
+  behind_is : (b : ℕ) (text : List ℕ) (at gap : ℕ) (t : List ℕ) → drop gap (b ∷ text) ≡ t → Reading.behind c m (λ next. items c m next (at + 1) text) at gap t ≡ behind c m (reading c m) at gap t
+  behind_is b text at gap [] e = refl
+  behind_is b text at gap (x ∷ t) e =
+      ap (λ (xs : List Item). cond (nat_lt 0 gap && x == 43) (Err (SeparatedPlus, span at gap) ∷ []) xs)
+      (then_is b text at gap (lexeme c m (x ∷ t)) (lexeme_long c well m (x ∷ t)) ∙ ap (λ (u : List ℕ). then (reading c m) (at + gap) u (lexeme c m (x ∷ t))) e)
 
   -- the reading as one item and the reading of the rest
   pub reading_is : (at : ℕ) (text : List ℕ) → reading c m at text ≡ behind c m (reading c m) at (white text) (drop (white text) text)
   unfolding reading
-  reading_is at text = items_is (length text) at text (omega arith)
+  reading_is at [] = rw (drop-nil (white [])) refl
+  reading_is at (b ∷ text) =
+      ap (λ t. cond t (items c m at (at + 1) text) (Reading.behind c m (λ next. items c m next (at + 1) text) at (white (b ∷ text)) (drop (white (b ∷ text)) (b ∷ text)))) (here at)
+      ∙ behind_is b text at (white (b ∷ text)) (drop (white (b ∷ text)) (b ∷ text)) refl

@@ -26,6 +26,7 @@ word_of Token.With = With
 word_of Token.And = And
 word_of Token.Or = Or
 
+-- a range of places as a span
 abbrev pub span_of : Range ℕ → Span
 span_of r = record { from = r.start; to = r.end }
 

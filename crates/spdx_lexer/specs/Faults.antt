@@ -6,6 +6,7 @@ use Rattle.spdx_lexer.specs.declared.error.Reason.{Reason}
 use Rattle.spdx_lexer.specs.declared.error.ParseError.{ParseError}
 use Rattle.spdx_lexer.specs.Words.{Fault, UnknownLicense, UnknownException, InvalidCharacters, UnclosedParens, UnopenedParens, Empty, Unexpected, SeparatedPlus, UnknownTerm, GnuNoPlus, GnuPlusWithSuffix, DeprecatedLicenseId}
 
+-- the words that were expected
 abbrev pub words_of : List (Bor (List ℕ)) → List (List ℕ)
 words_of words = map (λ (w : Bor (List ℕ)). w.now) words
 
@@ -17,7 +18,7 @@ fault_of Reason.InvalidCharacters = InvalidCharacters
 fault_of Reason.UnclosedParens = UnclosedParens
 fault_of Reason.UnopenedParens = UnopenedParens
 fault_of Reason.Empty = Empty
-fault_of (Reason.Unexpected words) = Unexpected (words_of words.now)
+fault_of (Reason.Unexpected words) = Unexpected (map (λ (w : Bor (List ℕ)). w.now) words.now)
 fault_of Reason.SeparatedPlus = SeparatedPlus
 fault_of Reason.UnknownTerm = UnknownTerm
 fault_of Reason.GnuNoPlus = GnuNoPlus

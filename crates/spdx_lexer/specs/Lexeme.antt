@@ -16,6 +16,7 @@ first_of [] = None
 first_of (None ∷ rules) = first_of rules
 first_of (Some found ∷ rules) = Some found
 
+-- what is found, where the mode allows it
 abbrev pub if_allowed : Bool → Found → Found
 if_allowed true found = found
 if_allowed false found = None
@@ -30,11 +31,12 @@ sign_of m b =
     if b == 41 then Some CloseParen else
     if b == 47 && m.allow_slash_as_or_operator then Some Or else None
 
+-- the sign that the text begins with, of one byte
 abbrev pub sign : ParseMode → List ℕ → Found
 sign m [] = None
 sign m (b ∷ text) = option_map (λ w. (w, 1)) (sign_of m b)
 
--- ---- what the run alone says
+-- ---- what the run at the front of the text says
 
 -- a word of the whole run
 abbrev pub whole : List ℕ → Option Word → Found
@@ -46,14 +48,6 @@ operator run =
     if bytes_eq run (codes "AND") || bytes_eq run (codes "and") then Some And else
     if bytes_eq run (codes "OR") || bytes_eq run (codes "or") then Some Or else
     if bytes_eq run (codes "WITH") || bytes_eq run (codes "with") then Some With else None
-
--- an operator, the name of a licence, the name of an exception
-abbrev pub exact : Rows → List ℕ → Found
-exact c run = first_of (
-    whole run (operator run)
-    ∷ whole run (option_map Spdx (listed c.licenses run))
-    ∷ whole run (option_map Exception (listed_exception c.exceptions run))
-    ∷ [])
 
 -- `LicenseRef-y`, or `DocumentRef-x:LicenseRef-y`, for the prefix `LicenseRef-`
 abbrev pub reference_text : List ℕ → Option (List ℕ) → List ℕ → List ℕ
@@ -74,54 +68,35 @@ names_behind prefix run =
 abbrev pub reference : List ℕ → (Option (List ℕ) → List ℕ → Word) → List ℕ → Found
 reference prefix word run = option_map (λ y. (word None y, length (reference_text prefix None y))) (name_behind prefix run)
 
+-- the same with a document
 abbrev pub document_reference : List ℕ → (Option (List ℕ) → List ℕ → Word) → List ℕ → Found
 document_reference prefix word run = option_map (λ (n : List ℕ × List ℕ). (word (Some n.0) n.1, length (reference_text prefix (Some n.0) n.1))) (names_behind prefix run)
 
-abbrev pub license_reference : List ℕ → Found
-license_reference run = first_of (document_reference (codes "LicenseRef-") LicenseRef run ∷ reference (codes "LicenseRef-") LicenseRef run ∷ [])
-
-abbrev pub addition_reference : List ℕ → Found
-addition_reference run = first_of (document_reference (codes "AdditionRef-") AdditionRef run ∷ reference (codes "AdditionRef-") AdditionRef run ∷ [])
-
--- a reference at the front of the run
-abbrev pub referred : List ℕ → Found
-referred run = first_of (license_reference run ∷ addition_reference run ∷ [])
-
--- a name in another case, of a licence or else of an exception
-abbrev pub caseless : Rows → ParseMode → List ℕ → Found
-caseless c m run = if_allowed m.allow_caseless_ids (first_of (
-    whole run (option_map Spdx (listed_caseless c.licenses run))
-    ∷ whole run (option_map Exception (listed_exception_caseless c.exceptions run))
-    ∷ []))
-
--- all of these, in their order
-abbrev pub by_run : Rows → ParseMode → List ℕ → Found
-by_run c m run = first_of (exact c run ∷ referred run ∷ caseless c m run ∷ [])
-
--- any run at all
-abbrev pub unknown : ParseMode → List ℕ → Found
-unknown m run = if_allowed m.allow_unknown (whole run (Some (Unknown run)))
-
--- ---- what all of the text says
-
--- an imprecise spelling at the front of the text, which may go on behind the run or end within it
-abbrev pub imprecise : Rows → ParseMode → List ℕ → Found
-imprecise c m text = if_allowed m.allow_imprecise_license_names (option_map (λ (f : LicenseRow × ℕ). (Spdx f.0, f.1)) (imprecise_license c text))
-
 -- ---- the rules together
 
+-- An operator, a listed name, a reference, a listed name in another case, an imprecise spelling, which may go on behind
+-- the run or end within it, or any run at all.
 abbrev pub rules : Rows → ParseMode → List ℕ → List ℕ → Found
-rules c m text run = first_of (by_run c m run ∷ imprecise c m text ∷ unknown m run ∷ [])
+rules c m text run = first_of (
+    whole run (operator run)
+    ∷ whole run (option_map Spdx (listed c.licenses run))
+    ∷ whole run (option_map Exception (listed_exception c.exceptions run))
+    ∷ document_reference (codes "LicenseRef-") LicenseRef run
+    ∷ reference (codes "LicenseRef-") LicenseRef run
+    ∷ document_reference (codes "AdditionRef-") AdditionRef run
+    ∷ reference (codes "AdditionRef-") AdditionRef run
+    ∷ if_allowed m.allow_caseless_ids (whole run (option_map Spdx (listed_caseless c.licenses run)))
+    ∷ if_allowed m.allow_caseless_ids (whole run (option_map Exception (listed_exception_caseless c.exceptions run)))
+    ∷ if_allowed m.allow_imprecise_license_names (option_map (λ (f : LicenseRow × ℕ). (Spdx f.0, f.1)) (imprecise_license c text))
+    ∷ if_allowed m.allow_unknown (whole run (Some (Unknown run)))
+    ∷ [])
 
--- of the run at the front of the text
-abbrev pub word_of_run : Rows → ParseMode → List ℕ → List ℕ → Result (Word × ℕ) (Fault × ℕ)
-word_of_run c m text [] = Err (InvalidCharacters, length text)
-word_of_run c m text (b ∷ run) = ok_or (rules c m text (b ∷ run)) (UnknownTerm, length (b ∷ run))
-
-abbrev pub lexeme_of : Rows → ParseMode → List ℕ → Found → Result (Word × ℕ) (Fault × ℕ)
-lexeme_of c m text (Some found) = Ok found
-lexeme_of c m text None = word_of_run c m text (run_at text)
+-- a sign, or else what was found by the run at the front of the text, which is not empty
+abbrev pub lexeme_of : List ℕ → List ℕ → Found → Found → Result (Word × ℕ) (Fault × ℕ)
+lexeme_of text run (Some found) by_run = Ok found
+lexeme_of text [] None by_run = Err (InvalidCharacters, length text)
+lexeme_of text (b ∷ run) None by_run = ok_or by_run (UnknownTerm, length (b ∷ run))
 
 -- the word, or the fault, with how many bytes it takes
 abbrev pub lexeme : Rows → ParseMode → List ℕ → Result (Word × ℕ) (Fault × ℕ)
-lexeme c m text = lexeme_of c m text (sign m text)
+lexeme c m text = lexeme_of text (run_at text) (sign m text) (rules c m text (run_at text))

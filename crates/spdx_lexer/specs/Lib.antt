@@ -1,6 +1,7 @@
 pub mod Words
 pub mod Text
 pub mod Lexeme
+pub mod Groups
 pub mod Reading
 pub mod Faults
 pub mod Modes

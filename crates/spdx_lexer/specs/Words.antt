@@ -36,6 +36,7 @@ pub record Span : Type 0 where
   pub from : ℕ
   pub to : ℕ
 
+-- so many bytes from a place on
 abbrev pub span : ℕ → ℕ → Span
 span from len = record { from = from; to = from + len }
 

@@ -3,6 +3,7 @@
 ghost use Rattle.std.specs.Prelude.{◌≡◌, ◌<◌, ◌≤◌, option_map, length, IfSome, OnSome, slice_index, IfOk, IfErr, IsCharBoundary};
 ghost use Rattle.spdx_lexer.specs.Text as text_of;
 ghost use Rattle.spdx_lexer.specs.Lexeme as spec;
+ghost use Rattle.spdx_lexer.specs.Groups as groups;
 ghost use Rattle.spdx_catalogue.specs.Ids.{id_row};
 ghost use Rattle.spdx_catalogue.specs.LookUps.{listed};
 ghost use Rattle.spdx_lexer.specs.Code.{word_of, found_of, seen_of};
@@ -42,7 +43,7 @@ fn license_named<'c>(catalogue: &'c Catalogue, run: &str) -> Option<LicenseId<'c
 // An operator, or a listed name.
 fn exact<'c, 't>(catalogue: &'c Catalogue, run: &str) -> Found<'c, 't>
     requires { text_of.IsRun run.now }
-    ensures value { option_map found_of result ≡ spec.exact catalogue.now run.now }
+    ensures value { option_map found_of result ≡ groups.exact catalogue.now run.now }
     ensures len { IfSome result (λ f. f.1 ≤ length run.now) }
 {
     if let Some(token) = operator(run) {
@@ -59,7 +60,7 @@ fn exact<'c, 't>(catalogue: &'c Catalogue, run: &str) -> Found<'c, 't>
 
 // A listed name in another case.
 fn caseless<'c, 't>(catalogue: &'c Catalogue, mode: ParseMode, run: &str) -> Found<'c, 't>
-    ensures value { option_map found_of result ≡ spec.caseless catalogue.now mode run.now }
+    ensures value { option_map found_of result ≡ groups.caseless catalogue.now mode run.now }
     ensures len { IfSome result (λ f. f.1 ≤ length run.now) }
 {
     if !mode.allow_caseless_ids {
@@ -77,7 +78,7 @@ fn caseless<'c, 't>(catalogue: &'c Catalogue, mode: ParseMode, run: &str) -> Fou
 // What the run alone says.
 fn by_run<'c, 't>(catalogue: &'c Catalogue, mode: ParseMode, run: &'t str) -> Found<'c, 't>
     requires { text_of.IsRun run.now }
-    ensures value { option_map found_of result ≡ spec.by_run catalogue.now mode run.now }
+    ensures value { option_map found_of result ≡ groups.by_run catalogue.now mode run.now }
     ensures len { IfSome result (λ f. f.1 ≤ length run.now) }
 {
     if let Some(found) = exact(catalogue, run) {
@@ -91,7 +92,7 @@ fn by_run<'c, 't>(catalogue: &'c Catalogue, mode: ParseMode, run: &'t str) -> Fo
 
 // An imprecise name, which may end within the run or behind it.
 fn imprecise<'c, 't>(catalogue: &'c Catalogue, mode: ParseMode, text: &str) -> Found<'c, 't>
-    ensures value { option_map found_of result ≡ spec.imprecise catalogue.now mode text.now }
+    ensures value { option_map found_of result ≡ groups.imprecise catalogue.now mode text.now }
     ensures cut { IfSome result (λ f. IsCharBoundary text.now f.1) }
 {
     if !mode.allow_imprecise_license_names {
@@ -131,7 +132,7 @@ pub(crate) fn lexeme<'c, 't>(
 ) -> Result<(Token<'c, 't>, usize), (Reason, usize)>
     requires some { 0 < length text.now }
     requires run { run.now ≡ text_of.run_at text.now }
-    ensures value { seen_of result ≡ spec.lexeme catalogue.now mode text.now }
+    ensures value { seen_of result ≡ groups.grouped_lexeme catalogue.now mode text.now }
     ensures cut { IfOk result (λ f. IsCharBoundary text.now f.1) }
     ensures cut_fault { IfErr result (λ f. IsCharBoundary text.now f.1) }
 {

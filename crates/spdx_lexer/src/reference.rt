@@ -3,6 +3,7 @@
 ghost use Rattle.std.specs.Prelude.{◌≡◌, ◌+◌, ◌≤◌, length, option_map, IfSome};
 ghost use Rattle.std.specs.Option.{option_copied};
 ghost use Rattle.spdx_lexer.specs.Lexeme as spec;
+ghost use Rattle.spdx_lexer.specs.Groups as groups;
 ghost use Rattle.spdx_lexer.specs.Code.{found_of, pair_of};
 
 use crate::lexeme::Found;
@@ -32,7 +33,7 @@ fn names_behind<'t>(prefix: &str, run: &'t str) -> Option<(&'t str, &'t str)>
 }
 
 fn license_reference<'c, 't>(run: &'t str) -> Found<'c, 't>
-    ensures value { option_map found_of result ≡ spec.license_reference run.now }
+    ensures value { option_map found_of result ≡ groups.license_reference run.now }
     ensures len { IfSome result (λ f. f.1 ≤ length run.now) }
 {
     if let Some((document, lic_ref)) = names_behind("LicenseRef-", run) {
@@ -51,7 +52,7 @@ fn license_reference<'c, 't>(run: &'t str) -> Found<'c, 't>
 }
 
 fn addition_reference<'c, 't>(run: &'t str) -> Found<'c, 't>
-    ensures value { option_map found_of result ≡ spec.addition_reference run.now }
+    ensures value { option_map found_of result ≡ groups.addition_reference run.now }
     ensures len { IfSome result (λ f. f.1 ≤ length run.now) }
 {
     if let Some((document, add_ref)) = names_behind("AdditionRef-", run) {
@@ -71,7 +72,7 @@ fn addition_reference<'c, 't>(run: &'t str) -> Found<'c, 't>
 
 // A reference, of a licence or else of an addition.
 pub(crate) fn referred<'c, 't>(run: &'t str) -> Found<'c, 't>
-    ensures value { option_map found_of result ≡ spec.referred run.now }
+    ensures value { option_map found_of result ≡ groups.referred run.now }
     ensures len { IfSome result (λ f. f.1 ≤ length run.now) }
 {
     if let Some(found) = license_reference(run) {

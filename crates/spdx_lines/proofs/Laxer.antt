@@ -1,13 +1,15 @@
 -- A text that reads strictly without a fault reads loosely as the same words, so an accepted line has a canonical text.
-use Rattle.std.proofs.Common.{◌≡◌, ℕ, zero, suc, ◌+◌, ◌&&◌, ◌==◌, Bool, true, false, cond, List, [], ◌∷◌, map, length, drop, Option, Some, None, Result, Ok, Err, refl, sym, ◌∙◌, ap, subst, arith, nat_lt}
+use Rattle.std.proofs.Common.{◌≡◌, ℕ, ◌+◌, ◌&&◌, ◌==◌, Bool, true, false, cond, List, [], ◌∷◌, map, length, drop, Option, Some, None, Result, Ok, Err, refl, sym, ◌∙◌, ap, subst, arith, nat_lt}
 use Rattle.std.specs.Prelude.{option_map, ok_or}
 use Rattle.std.proofs.lemmas.Bool.Decides.{nat_tests}
 use Rattle.spdx_catalogue.specs.Rows.{Rows}
 use Rattle.spdx_lexer.specs.Modes.{strict, lax}
 use Rattle.spdx_lexer.specs.Words.{Word, Plus, OpenParen, CloseParen, Or, Fault, UnknownTerm, Span, span, Item}
 use Rattle.spdx_lexer.specs.Text.{run_at, white}
-use Rattle.spdx_lexer.specs.Lexeme.{Found, first_of, exact, referred, caseless, imprecise, unknown, rules, word_of_run, lexeme_of, lexeme}
-use Rattle.spdx_lexer.specs.Reading.{then, behind, items, reading, said, Spells}
+use Rattle.spdx_lexer.specs.Lexeme.{Found, first_of, rules, lexeme_of, lexeme}
+use Rattle.spdx_lexer.specs.Groups.{exact, referred, caseless, imprecise, unknown}
+use Rattle.spdx_lexer.proofs.Table.{rules_grouped}
+use Rattle.spdx_lexer.specs.Reading.{go_on, behind, items, reading, said, Spells}
 use Rattle.spdx_parser.specs.Tree.{Tree}
 use Rattle.spdx_parser.specs.Grammar.{Derives}
 use Rattle.spdx_parser.specs.Spans.{Placed, words}
@@ -30,28 +32,32 @@ ok_some : {A B : Type 0} (o : Option A) (other : B) (x : A) → ok_or o other �
 ok_some (Some y) other x e = cc
 ok_some None other x e = absurd cc
 
-run_same : (c : Rows) (text run : List ℕ) (found : Word × ℕ) → word_of_run c strict text run ≡ Ok found → word_of_run c lax text run ≡ Ok found
+run_same : (c : Rows) (text run : List ℕ) (found : Word × ℕ) → lexeme_of text run None (rules c strict text run) ≡ Ok found → lexeme_of text run None (rules c lax text run) ≡ Ok found
 run_same c text [] found e = absurd cc
 run_same c text (b ∷ run) found e =
     let k = ok_some (rules c strict text (b ∷ run)) (UnknownTerm, length (b ∷ run)) found e in
     ap (λ (o : Found). ok_or o (UnknownTerm, length (b ∷ run)))
-    (more_rules (exact c (b ∷ run)) (referred (b ∷ run)) (caseless c lax (b ∷ run)) (imprecise c lax text) (unknown lax (b ∷ run)) found k)
+    (rules_grouped c lax text (b ∷ run)
+    ∙ more_rules (exact c (b ∷ run)) (referred (b ∷ run)) (caseless c lax (b ∷ run)) (imprecise c lax text) (unknown lax (b ∷ run)) found (sym (rules_grouped c strict text (b ∷ run)) ∙ k))
 
 slash_begins_no_run : (b : ℕ) (text : List ℕ) → b ≡ 47 → run_at (b ∷ text) ≡ []
 slash_begins_no_run b text e = ap (λ (x : ℕ). run_at (x ∷ text)) e
+
+nothing_found : (text run : List ℕ) (o : Found) (found : Word × ℕ) → run ≡ [] → lexeme_of text run None o ≡ Ok found → ⊥
+nothing_found text [] o found r e = cc
+nothing_found text (b ∷ run) o found r e = cc
 
 -- a sign by four tests of a byte, the last one for `/`
 abbrev sign_by : Bool → Bool → Bool → Bool → Found
 sign_by plus left right slash = option_map (λ w. (w, 1)) (cond plus (Some Plus) (cond left (Some OpenParen) (cond right (Some CloseParen) (cond slash (Some Or) None))))
 
-sign_same : (c : Rows) (b : ℕ) (text : List ℕ) (plus left right slash : Bool) → (b == 47) ≡ slash → (found : Word × ℕ) → lexeme_of c strict (b ∷ text) (sign_by plus left right (slash && false)) ≡ Ok found → lexeme_of c lax (b ∷ text) (sign_by plus left right (slash && true)) ≡ Ok found
+sign_same : (c : Rows) (b : ℕ) (text : List ℕ) (plus left right slash : Bool) → (b == 47) ≡ slash → (found : Word × ℕ) → lexeme_of (b ∷ text) (run_at (b ∷ text)) (sign_by plus left right (slash && false)) (rules c strict (b ∷ text) (run_at (b ∷ text))) ≡ Ok found → lexeme_of (b ∷ text) (run_at (b ∷ text)) (sign_by plus left right (slash && true)) (rules c lax (b ∷ text) (run_at (b ∷ text))) ≡ Ok found
 sign_same c b text true left right slash s found e = e
 sign_same c b text false true right slash s found e = e
 sign_same c b text false false true slash s found e = e
 sign_same c b text false false false true s found e =
     let is : b ≡ 47 = grind (arith, nat_tests, s) in
-    let none = subst (λ (run : List ℕ). word_of_run c strict (b ∷ text) run ≡ Ok found) (slash_begins_no_run b text is) e in
-    absurd cc
+    absurd (nothing_found (b ∷ text) (run_at (b ∷ text)) (rules c strict (b ∷ text) (run_at (b ∷ text))) found (slash_begins_no_run b text is) e)
 sign_same c b text false false false false s found e = run_same c (b ∷ text) (run_at (b ∷ text)) found e
 
 lexeme_same : (c : Rows) (b : ℕ) (text : List ℕ) (found : Word × ℕ) → lexeme c strict (b ∷ text) ≡ Ok found → lexeme c lax (b ∷ text) ≡ Ok found
@@ -78,24 +84,26 @@ no_fault : (fault : Fault × Span) (rest ys : List Item) → Same (Err fault ∷
 no_fault fault rest ys [] e = absurd cc
 no_fault fault rest ys (p ∷ read) e = absurd cc
 
-then_same : (more more' : ℕ → List ℕ → List Item) → ((at : ℕ) (text : List ℕ) → Same (more at text) (more' at text)) → (at : ℕ) (text : List ℕ) (r r' : Result (Word × ℕ) (Fault × ℕ)) → ((found : Word × ℕ) → r ≡ Ok found → r' ≡ Ok found) → Same (then more at text r) (then more' at text r')
-then_same more more' h at text (Err fault) r' k = no_fault _ _ _
-then_same more more' h at text (Ok found) r' k =
-    subst (λ (x : Result (Word × ℕ) (Fault × ℕ)). Same (then more at text (Ok found)) (then more' at text x)) (sym (k found refl))
-    (one_same (Ok (found.0, span at found.1)) _ _ (h (at + found.1) (drop found.1 text)))
+go_on_same : (more more' : ℕ → List Item) → ((next : ℕ) → Same (more next) (more' next)) → (at : ℕ) (r r' : Result (Word × ℕ) (Fault × ℕ)) → ((found : Word × ℕ) → r ≡ Ok found → r' ≡ Ok found) → Same (go_on more at r) (go_on more' at r')
+go_on_same more more' h at (Err fault) r' k = no_fault _ _ _
+go_on_same more more' h at (Ok found) r' k =
+    subst (λ (x : Result (Word × ℕ) (Fault × ℕ)). Same (go_on more at (Ok found)) (go_on more' at x)) (sym (k found refl))
+    (one_same (Ok (found.0, span at found.1)) _ _ (h (at + found.1)))
 
-behind_same : (c : Rows) (more more' : ℕ → List ℕ → List Item) → ((at : ℕ) (text : List ℕ) → Same (more at text) (more' at text)) → (at gap : ℕ) (text : List ℕ) → Same (behind c strict more at gap text) (behind c lax more' at gap text)
+behind_same : (c : Rows) (more more' : ℕ → List Item) → ((next : ℕ) → Same (more next) (more' next)) → (at gap : ℕ) (text : List ℕ) → Same (behind c strict more at gap text) (behind c lax more' at gap text)
 behind_same c more more' h at gap [] = λ read e. e
 behind_same c more more' h at gap (b ∷ text) =
-    cond_same (nat_lt 0 gap && b == 43) _ _ _ _ (λ read e. e) (then_same more more' h (at + gap) (b ∷ text) (lexeme c strict (b ∷ text)) (lexeme c lax (b ∷ text)) (lexeme_same c b text))
+    cond_same (nat_lt 0 gap && b == 43) _ _ _ _ (λ read e. e) (go_on_same more more' h (at + gap) (lexeme c strict (b ∷ text)) (lexeme c lax (b ∷ text)) (lexeme_same c b text))
 
-items_same : (c : Rows) (count at : ℕ) (text : List ℕ) → Same (items c strict count at text) (items c lax count at text)
-items_same c zero at text = λ read e. e
-items_same c (suc count) at text = behind_same c (items c strict count) (items c lax count) (items_same c count) at (white text) (drop (white text) text)
+items_same : (c : Rows) (from at : ℕ) (text : List ℕ) → Same (items c strict from at text) (items c lax from at text)
+items_same c from at [] = λ read e. e
+items_same c from at (b ∷ text) =
+    cond_same (nat_lt at from) _ _ _ _ (items_same c from (at + 1) text)
+    (behind_same c (λ next. items c strict next (at + 1) text) (λ next. items c lax next (at + 1) text) (λ next. items_same c next (at + 1) text) at (white (b ∷ text)) (drop (white (b ∷ text)) (b ∷ text)))
 
 reads_same : (c : Rows) (text : List ℕ) → Same (reading c strict 0 text) (reading c lax 0 text)
 unfolding reading
-reads_same c text = items_same c (length text) 0 text
+reads_same c text = items_same c 0 0 text
 
 reads_loosely : (c : Rows) (mode : LineMode) (text : List ℕ) → Same (reading c (parse_mode mode) 0 text) (reading c lax 0 text)
 reads_loosely c Strict text = reads_same c text

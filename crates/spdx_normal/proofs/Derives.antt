@@ -6,7 +6,8 @@ use Rattle.spdx_lexer.specs.Words as Words
 use Rattle.spdx_lexer.specs.Words.{Word, CloseParen}
 use Rattle.spdx_parser.specs.declared.node.Operator.TheVariants.{And, Or}
 use Rattle.spdx_parser.specs.Tree.{Tree, Leaf, Join}
-use Rattle.spdx_parser.specs.Grammar.{PrimaryOf, leaf, group, AndOf, one_primary, and_more, OrOf, one_and, or_more, Derives}
+use Rattle.spdx_parser.specs.Grammar.{Derives}
+use Rattle.spdx_parser.proofs.Threaded.{PrimaryOf, leaf, group, AndOf, one_primary, and_more, OrOf, one_and, or_more, derives}
 use Rattle.spdx_normal.specs.Normal.{root, left_in_parens, right_in_parens}
 use Rattle.spdx_normal.specs.Law.{EachLeaf}
 use Rattle.spdx_normal.proofs.Leaves.{IsGood}
@@ -39,4 +40,4 @@ module _ (c : Rows) where
       record { primary = grouped (Join Or l r) whole; chain = λ more. one_primary (grouped (Join Or l r) whole more); whole = whole }
 
   pub normal_derived : (t : Tree) → EachLeaf (IsGood c) t → Derives c strict (normal_words t) t
-  normal_derived t h = subst (λ (ws : List Word). OrOf c strict ws t []) (append-nil (normal_words t)) ((derived t h).whole [])
+  normal_derived t h = derives c strict (subst (λ (ws : List Word). OrOf c strict ws t []) (append-nil (normal_words t)) ((derived t h).whole []))

@@ -7,7 +7,8 @@ use Rattle.spdx_lexer.specs.Words as Words
 use Rattle.spdx_lexer.specs.Words.{Word, CloseParen, With}
 use Rattle.spdx_parser.specs.declared.node.Operator.TheVariants.{And, Or}
 use Rattle.spdx_parser.specs.Tree.{Tree, Leaf, Join}
-use Rattle.spdx_parser.specs.Grammar.{LicenceOf, plain, marked, later, named, unknown, AdditionOf, exception, named_addition, unknown_addition, LeafOf, alone, joined, PrimaryOf, leaf, group, AndOf, one_primary, and_more, OrOf, one_and, or_more, Derives}
+use Rattle.spdx_parser.specs.Grammar.{Derives}
+use Rattle.spdx_parser.proofs.Threaded.{LicenceOf, plain, marked, later, named, unknown, AdditionOf, exception, named_addition, unknown_addition, LeafOf, alone, joined, PrimaryOf, leaf, group, AndOf, one_primary, and_more, OrOf, one_and, or_more, threaded}
 use Rattle.spdx_normal.specs.Normal.{root, left_in_parens, right_in_parens}
 use Rattle.spdx_normal.specs.Law.{parens}
 use Rattle.spdx_normal.proofs.Leaves.{licence_words, addition_words, requirement_words}
@@ -73,4 +74,4 @@ module _ (c : Rows) (m : ParseMode) where
     or_few (or_more {ws = ws} {mid = mid} {rest = rest} {t = t} {u = u} d e) = omega (arith, and_few d, or_few e, parens-append (at_and t) (Words.Or ∷ normal_words u))
 
   pub fewest : (t : Tree) (ws : List Word) → Derives c m ws t → parens (normal_words t) ≤ parens ws
-  fewest t ws d = omega (arith, or_few d)
+  fewest t ws d = omega (arith, or_few (threaded c m d))

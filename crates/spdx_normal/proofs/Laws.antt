@@ -9,6 +9,7 @@ use Rattle.spdx_lexer.specs.Reading.{said, reading, Spells}
 use Rattle.spdx_parser.specs.Tree.{Tree}
 use Rattle.spdx_parser.specs.Grammar.{Derives}
 use Rattle.spdx_parser.specs.Parsed.{IsOfRows}
+use Rattle.spdx_parser.proofs.Threaded.{threaded}
 use Rattle.spdx_parser.proofs.Complete.{the_only}
 use Rattle.spdx_parser.proofs.Known.{AllKnown, tree_known}
 use Rattle.spdx_canonical.proofs.Neighbours.{AreRead, apart}
@@ -37,7 +38,7 @@ module _ (c : Rows) where
   known t s = are_read c s.well_formed strict refl OpenParen s.words (apart c strict s.words t s.means) 0 s.text s.read
 
   pub good : (t : Tree) → IsStrict c t → EachLeaf (IsGood c) t
-  good t s = (or_good c s.means (known t s)).0
+  good t s = (or_good c (threaded c strict s.means) (known t s)).0
 
   -- the normal text of good requirements
   spells : IsTrue (is_well_formed c) → (t : Tree) → EachLeaf (IsGood c) t → Spells c strict (normal_text t) (normal_words t)

@@ -11,7 +11,7 @@ use Rattle.spdx_lexer.specs.Modes.{strict}
 use Rattle.spdx_lexer.specs.Words.{Word, Spdx, LicenseRef, Exception, AdditionRef, Plus, With}
 use Rattle.spdx_lexer.specs.Lexeme.{reference_text}
 use Rattle.spdx_parser.specs.Tree.{Tree}
-use Rattle.spdx_parser.specs.Grammar.{LicenceOf, plain, marked, later, named, unknown, AdditionOf, exception, named_addition, unknown_addition, LeafOf, alone, joined, PrimaryOf, leaf, group, AndOf, one_primary, and_more, OrOf, one_and, or_more}
+use Rattle.spdx_parser.proofs.Threaded.{LicenceOf, plain, marked, later, named, unknown, AdditionOf, exception, named_addition, unknown_addition, LeafOf, alone, joined, PrimaryOf, leaf, group, AndOf, one_primary, and_more, OrOf, one_and, or_more}
 use Rattle.spdx_canonical.proofs.Neighbours.{AreRead}
 use Rattle.spdx_canonical.proofs.Plain.{words_text, text-append}
 use Rattle.spdx_normal.specs.Law.{EachLeaf}

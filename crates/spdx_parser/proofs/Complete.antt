@@ -7,8 +7,9 @@ use Rattle.spdx_lexer.specs.declared.token.ParseMode.{ParseMode}
 use Rattle.spdx_lexer.specs.Words.{Word, Plus, CloseParen, With, And, Or}
 use Rattle.spdx_parser.specs.declared.node.Operator.{Operator}
 use Rattle.spdx_parser.specs.Tree.{Tree, Leaf, Join}
-use Rattle.spdx_parser.specs.Grammar.{may_stand, later_row, LicenceOf, plain, marked, later, named, unknown, AdditionOf, exception, named_addition, unknown_addition, LeafOf, alone, joined, PrimaryOf, leaf, group, AndOf, one_primary, and_more, OrOf, one_and, or_more, Derives, IsTheTree}
+use Rattle.spdx_parser.specs.Grammar.{may_stand, later_row, Derives, IsTheTree}
 use Rattle.spdx_parser.specs.Machine
+use Rattle.spdx_parser.proofs.Threaded.{LicenceOf, plain, marked, later, named, unknown, AdditionOf, exception, named_addition, unknown_addition, LeafOf, alone, joined, PrimaryOf, leaf, group, AndOf, one_primary, and_more, OrOf, one_and, or_more, threaded}
 
 -- what may follow a chain of OR, a chain of AND, a primary and a licence
 abbrev pub AfterOr : List Word → Type 0
@@ -117,7 +118,7 @@ module _ (c : Rows) (m : ParseMode) where
 
   -- what the grammar derives is what the machine builds
   pub complete : (ws : List Word) (t : Tree) → Derives c m ws t → Machine.parsed c m Machine.start ws ≡ Some t
-  complete ws t d = or_runs d tt [] []
+  complete ws t d = or_runs (threaded c m d) tt [] []
 
   -- words mean one tree at most
   pub unique : (ws : List Word) (t u : Tree) → Derives c m ws t → Derives c m ws u → t ≡ u

@@ -1,6 +1,6 @@
 -- Every row that is read stands in the catalogue, and so does every row of a tree.
-use Rattle.std.proofs.Common.{◌≡◌, ℕ, zero, suc, ◌+◌, Bool, true, false, cond, ◌&&◌, ◌==◌, nat_lt, List, [], ◌∷◌, ◌++◌, length, drop, map, Option, Some, None, Result, Ok, Err, refl, subst, IfSome, IfOk, option_map}
-use Rattle.std.specs.Prelude.{codes, bytes_eq, ◌||◌, if◌then◌else◌}
+use Rattle.std.proofs.Common.{◌≡◌, ℕ, ◌+◌, Bool, true, false, cond, ◌&&◌, ◌==◌, nat_lt, List, [], ◌∷◌, ◌++◌, length, drop, map, Option, Some, None, Result, Ok, Err, refl, subst, IfSome, IfOk, option_map}
+use Rattle.std.specs.Prelude.{codes, bytes_eq, ◌||◌, if◌then◌else◌, slice_get}
 use Rattle.spdx_catalogue.specs.Rows.{Rows, LicenseRow, ExceptionRow}
 use Rattle.spdx_catalogue.specs.WellFormed.{is_well_formed}
 use Rattle.spdx_catalogue.specs.LookUps as LookUps
@@ -10,21 +10,26 @@ use Rattle.spdx_catalogue.proofs.Listed.{listed_is_license, caseless_is_license,
 use Rattle.spdx_lexer.specs.declared.token.ParseMode.{ParseMode}
 use Rattle.spdx_lexer.specs.Words.{Word, Spdx, LicenseRef, Exception, AdditionRef, Unknown, Plus, OpenParen, CloseParen, With, And, Or, Fault, Item}
 use Rattle.spdx_lexer.specs.Text.{white}
-use Rattle.spdx_lexer.specs.Lexeme.{sign_of, sign, whole, operator, name_behind, names_behind, reference as lexeme_reference, document_reference, license_reference, addition_reference, exact, referred as referred_run, caseless, by_run, unknown, imprecise, lexeme}
-use Rattle.spdx_lexer.specs.Reading.{behind, items, reading}
-use Rattle.spdx_lexer.specs.Reading as Reading
+use Rattle.spdx_lexer.specs.Lexeme.{sign_of, sign, whole, operator, name_behind, names_behind, reference as lexeme_reference, document_reference, lexeme}
+use Rattle.spdx_lexer.specs.Groups.{license_reference, addition_reference, exact, referred as referred_run, caseless, by_run, unknown, imprecise}
+use Rattle.spdx_lexer.specs.Reading.{go_on, behind, items, reading}
 use Rattle.spdx_lexer.proofs.Found.{first_all, mapped, allowed, lexeme_all}
 use Rattle.spdx_parser.specs.Tree.{Tree, Leaf}
 use Rattle.spdx_parser.specs.Last.{Last, Listed, Joined, next_last, last_behind}
 use Rattle.spdx_parser.specs.Spans.{Placed, words}
-use Rattle.spdx_parser.specs.Parsed.{IsLicenseRow, IsExceptionRow, IsOfRows, IsLicenceOf, IsAdditionOf}
-use Rattle.spdx_parser.specs.Grammar as G
+use Rattle.spdx_parser.specs.Parsed.{IsOfRows, IsLicenceOf, IsAdditionOf}
+use Rattle.spdx_parser.specs.Code.{IsLicenseRow}
+use Rattle.spdx_parser.specs.Grammar.{Derives}
+use Rattle.spdx_parser.proofs.Threaded as Threaded
 
 module _ (c : Rows) where
+  abbrev IsExceptionRow : ExceptionRow → Type 0
+  IsExceptionRow r = slice_get c.exceptions r.index ≡ Some r
+
   -- the row of a word stands in the catalogue
   abbrev pub WordKnown : Word → Type 0
   WordKnown (Spdx r) = IsLicenseRow c r
-  WordKnown (Exception r) = IsExceptionRow c r
+  WordKnown (Exception r) = IsExceptionRow r
   WordKnown _ = Unit {0}
 
   abbrev pub AllKnown : List Word → Type 0
@@ -90,7 +95,7 @@ module _ (c : Rows) where
     license_known None h = tt
     license_known (Some r) h = h r refl
 
-    exception_known : (o : Option ExceptionRow) → ((r : ExceptionRow) → o ≡ Some r → IsExceptionRow c r) → IfSome (option_map Exception o) WordKnown
+    exception_known : (o : Option ExceptionRow) → ((r : ExceptionRow) → o ≡ Some r → IsExceptionRow r) → IfSome (option_map Exception o) WordKnown
     exception_known None h = tt
     exception_known (Some r) h = h r refl
 
@@ -138,60 +143,62 @@ module _ (c : Rows) where
           (imprecise_known m text, (allowed FoundKnown m.allow_unknown _ tt, tt)),
         ))
 
-    then_known : (more : ℕ → List ℕ → List Item) → ((at : ℕ) (text : List ℕ) → ItemsKnown (more at text)) → (at : ℕ) (text : List ℕ) (r : Result (Word × ℕ) (Fault × ℕ)) → IfOk r FoundKnown → ItemsKnown (Reading.then more at text r)
-    then_known more h at text (Ok found) k = (k, h (at + found.1) (drop found.1 text))
-    then_known more h at text (Err fault) k = (tt, tt)
+    go_on_known : (more : ℕ → List Item) → ((next : ℕ) → ItemsKnown (more next)) → (at : ℕ) (r : Result (Word × ℕ) (Fault × ℕ)) → IfOk r FoundKnown → ItemsKnown (go_on more at r)
+    go_on_known more h at (Ok found) k = (k, h (at + found.1))
+    go_on_known more h at (Err fault) k = (tt, tt)
 
     cond_known : (b : Bool) (xs ys : List Item) → ItemsKnown xs → ItemsKnown ys → ItemsKnown (cond b xs ys)
     cond_known true xs ys h k = h
     cond_known false xs ys h k = k
 
-    behind_known : (m : ParseMode) (more : ℕ → List ℕ → List Item) → ((at : ℕ) (text : List ℕ) → ItemsKnown (more at text)) → (at gap : ℕ) (text : List ℕ) → ItemsKnown (behind c m more at gap text)
+    behind_known : (m : ParseMode) (more : ℕ → List Item) → ((next : ℕ) → ItemsKnown (more next)) → (at gap : ℕ) (text : List ℕ) → ItemsKnown (behind c m more at gap text)
     behind_known m more h at gap [] = tt
-    behind_known m more h at gap (b ∷ text) = cond_known (nat_lt 0 gap && b == 43) _ _ (tt, tt) (then_known more h (at + gap) (b ∷ text) (lexeme c m (b ∷ text)) (lexeme_known m (b ∷ text)))
+    behind_known m more h at gap (b ∷ text) = cond_known (nat_lt 0 gap && b == 43) _ _ (tt, tt) (go_on_known more h (at + gap) (lexeme c m (b ∷ text)) (lexeme_known m (b ∷ text)))
 
-    items_known : (m : ParseMode) (n at : ℕ) (text : List ℕ) → ItemsKnown (items c m n at text)
-    items_known m zero at text = tt
-    items_known m (suc n) at text = behind_known m (items c m n) (items_known m n) at (white text) (drop (white text) text)
+    items_known : (m : ParseMode) (from at : ℕ) (text : List ℕ) → ItemsKnown (items c m from at text)
+    items_known m from at [] = tt
+    items_known m from at (b ∷ text) =
+        cond_known (nat_lt at from) _ _ (items_known m from (at + 1) text)
+        (behind_known m (λ next. items c m next (at + 1) text) (λ next. items_known m next (at + 1) text) at (white (b ∷ text)) (drop (white (b ∷ text)) (b ∷ text)))
 
     pub reading_known : (m : ParseMode) (at : ℕ) (text : List ℕ) → ItemsKnown (reading c m at text)
     unfolding reading
-    reading_known m at text = items_known m (length text) at text
+    reading_known m at text = items_known m at at text
 
     -- the words in front of a reading are known
     pub words_known : (m : ParseMode) (text : List ℕ) (read : List Placed) (more : List Item) → reading c m 0 text ≡ map Ok read ++ more → AllKnown (words read)
     words_known m text read more e = front_known read more (subst ItemsKnown e (reading_known m 0 text))
 
     -- ---- of a tree
-    licence_rows : {m : ParseMode} {ws rest : List Word} {l : Licence} → G.LicenceOf c m ws l rest → AllKnown ws → IsLicenceOf c l × AllKnown rest
-    licence_rows (G.plain may) h = h
-    licence_rows (G.marked may other) h = (h.0, h.1.1)
-    licence_rows (G.later {r = r} {next = next} may gnu allowed bare is) h = (listed_is_license c well (without_only r.name ++ or_later) next is, h.1.1)
-    licence_rows G.named h = h
-    licence_rows G.unknown h = h
+    licence_rows : {m : ParseMode} {ws rest : List Word} {l : Licence} → Threaded.LicenceOf c m ws l rest → AllKnown ws → IsLicenceOf c l × AllKnown rest
+    licence_rows (Threaded.plain may) h = h
+    licence_rows (Threaded.marked may other) h = (h.0, h.1.1)
+    licence_rows (Threaded.later {r = r} {next = next} may gnu allowed bare is) h = (listed_is_license c well (without_only r.name ++ or_later) next is, h.1.1)
+    licence_rows Threaded.named h = h
+    licence_rows Threaded.unknown h = h
 
-    addition_rows : {ws rest : List Word} {a : Addition} → G.AdditionOf ws a rest → AllKnown ws → IsAdditionOf c (Some a) × AllKnown rest
-    addition_rows G.exception h = h
-    addition_rows G.named_addition h = h
-    addition_rows G.unknown_addition h = h
+    addition_rows : {ws rest : List Word} {a : Addition} → Threaded.AdditionOf ws a rest → AllKnown ws → IsAdditionOf c (Some a) × AllKnown rest
+    addition_rows Threaded.exception h = h
+    addition_rows Threaded.named_addition h = h
+    addition_rows Threaded.unknown_addition h = h
 
-    leaf_rows : {m : ParseMode} {ws rest : List Word} {r : Requirement} → G.LeafOf c m ws r rest → AllKnown ws → IsOfRows c (Leaf r) × AllKnown rest
-    leaf_rows (G.alone d) h = let a = licence_rows d h in ((a.0, tt), a.1)
-    leaf_rows (G.joined d e) h = let a = licence_rows d h in let b = addition_rows e a.1.1 in ((a.0, b.0), b.1)
+    leaf_rows : {m : ParseMode} {ws rest : List Word} {r : Requirement} → Threaded.LeafOf c m ws r rest → AllKnown ws → IsOfRows c (Leaf r) × AllKnown rest
+    leaf_rows (Threaded.alone d) h = let a = licence_rows d h in ((a.0, tt), a.1)
+    leaf_rows (Threaded.joined d e) h = let a = licence_rows d h in let b = addition_rows e a.1.1 in ((a.0, b.0), b.1)
 
     mutual
-      primary_rows : {m : ParseMode} {ws rest : List Word} {t : Tree} → G.PrimaryOf c m ws t rest → AllKnown ws → IsOfRows c t × AllKnown rest
-      primary_rows (G.leaf d) h = leaf_rows d h
-      primary_rows (G.group d) h = let a = or_rows d h.1 in (a.0, a.1.1)
+      primary_rows : {m : ParseMode} {ws rest : List Word} {t : Tree} → Threaded.PrimaryOf c m ws t rest → AllKnown ws → IsOfRows c t × AllKnown rest
+      primary_rows (Threaded.leaf d) h = leaf_rows d h
+      primary_rows (Threaded.group d) h = let a = or_rows d h.1 in (a.0, a.1.1)
 
-      and_rows : {m : ParseMode} {ws rest : List Word} {t : Tree} → G.AndOf c m ws t rest → AllKnown ws → IsOfRows c t × AllKnown rest
-      and_rows (G.one_primary d) h = primary_rows d h
-      and_rows (G.and_more d e) h = let a = primary_rows d h in let b = and_rows e a.1.1 in ((a.0, b.0), b.1)
+      and_rows : {m : ParseMode} {ws rest : List Word} {t : Tree} → Threaded.AndOf c m ws t rest → AllKnown ws → IsOfRows c t × AllKnown rest
+      and_rows (Threaded.one_primary d) h = primary_rows d h
+      and_rows (Threaded.and_more d e) h = let a = primary_rows d h in let b = and_rows e a.1.1 in ((a.0, b.0), b.1)
 
-      or_rows : {m : ParseMode} {ws rest : List Word} {t : Tree} → G.OrOf c m ws t rest → AllKnown ws → IsOfRows c t × AllKnown rest
-      or_rows (G.one_and d) h = and_rows d h
-      or_rows (G.or_more d e) h = let a = and_rows d h in let b = or_rows e a.1.1 in ((a.0, b.0), b.1)
+      or_rows : {m : ParseMode} {ws rest : List Word} {t : Tree} → Threaded.OrOf c m ws t rest → AllKnown ws → IsOfRows c t × AllKnown rest
+      or_rows (Threaded.one_and d) h = and_rows d h
+      or_rows (Threaded.or_more d e) h = let a = and_rows d h in let b = or_rows e a.1.1 in ((a.0, b.0), b.1)
 
     -- every row of a tree that known words mean
-    pub tree_known : (m : ParseMode) (ws : List Word) (t : Tree) → AllKnown ws → G.Derives c m ws t → IsOfRows c t
-    tree_known m ws t h d = (or_rows d h).0
+    pub tree_known : (m : ParseMode) (ws : List Word) (t : Tree) → AllKnown ws → Derives c m ws t → IsOfRows c t
+    tree_known m ws t h d = (or_rows (Threaded.threaded c m d) h).0

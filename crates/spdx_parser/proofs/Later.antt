@@ -12,7 +12,7 @@ use Rattle.spdx_catalogue.specs.LookUps as LookUps
 use Rattle.spdx_catalogue.specs.WellFormed.{is_well_formed}
 use Rattle.spdx_catalogue.proofs.Listed.{license_one_suffix}
 use Rattle.spdx_parser.specs.Grammar.{later_row}
-use Rattle.spdx_parser.specs.Parsed.{IsLicenseRow}
+use Rattle.spdx_parser.specs.Code.{IsLicenseRow}
 
 -- what is left of a name where `-only` is stripped, if it is there
 pub strips : (name : List ℕ) (o : Option (Bor (List ℕ))) (whole : Bor (List ℕ)) → whole.now ≡ name → MatchOption o (FindsTextSuffix only name None) (λ (x : Bor (List ℕ)). StripsSuffix (FindsTextSuffix only) name x.now) → (unwrap_or o whole).now ≡ without_only name

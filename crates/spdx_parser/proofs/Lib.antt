@@ -7,5 +7,5 @@ pub mod Later
 pub mod Seen
 pub mod Known
 pub mod Loop
-pub mod Same
+pub mod Threaded
 pub mod Places

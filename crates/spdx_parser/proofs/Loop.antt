@@ -17,7 +17,7 @@ use Rattle.spdx_parser.specs.Tree.{Tree}
 use Rattle.spdx_parser.specs.Last.{Due, last_of, is_closing, terms}
 use Rattle.spdx_parser.specs.Spans.{Placed, words}
 use Rattle.spdx_parser.specs.Grammar.{Derives, IsViable}
-use Rattle.spdx_parser.specs.Faults.{none_open, fault_behind, word_fault, empty, short, unclosed, IsFaultOf, at_word, at_place, at_end, HasNoTree}
+use Rattle.spdx_parser.specs.Faults.{opens, closes, fault_behind, word_fault, empty, short, unclosed, IsFaultOf, at_word, at_place, at_end, HasNoTree}
 use Rattle.spdx_lexer.specs.declared.error.ParseError.{ParseError}
 use Rattle.spdx_lexer.specs.Faults.{fault_of}
 use Rattle.spdx_catalogue.specs.declared.error.Failure.{Failure}
@@ -183,7 +183,7 @@ module _ (c : Rows) (m : ParseMode) (text : List ℕ) where
     stops w s more new none f next a tells is =
         let fault : f ≡ word_fault m (words read) w =
         is ∙ ap (λ b. fault_behind m (last_in parser.phase) b w) (tells ∙ sym (ap (λ n. n == 0) places_long) ∙ sym (none_open_is read (seen_of read).places r.nest))
-        ∙ ap (λ last. fault_behind m last (none_open (words read)) w) last_now in
+        ∙ ap (λ last. fault_behind m last (opens (words read) == closes (words read)) w) last_now in
         subst (λ x. IsFaultOf c m text x s) (sym fault) (at_word read w more (r.so_far ∙ ap (λ xs. map Ok read ++ xs) next) is_viable (go (machine.step c m r.state w) refl a))
       where
         go : (o : Option machine.State) → machine.step c m r.state w ≡ o → Answers o false (see (seen_of read) w s) new → IsViable c m (words read ++ w ∷ []) → ⊥

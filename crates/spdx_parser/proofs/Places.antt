@@ -13,7 +13,7 @@ use Rattle.spdx_lexer.specs.Laid.{IsPlace, place_of}
 use Rattle.spdx_lexer.proofs.Laid.{place_among}
 use Rattle.spdx_parser.specs.declared.node.ExprNode.{ExprNode}
 use Rattle.spdx_parser.specs.Last.{Last, Due, next_last, is_license}
-use Rattle.spdx_parser.specs.Spans.{Placed, license_spans_behind, requirement_spans}
+use Rattle.spdx_parser.specs.Spans.{Placed, license_spans, requirement_spans}
 use Rattle.spdx_parser.specs.Parsed.{IsParsed}
 use Rattle.spdx_parser.specs.Faults.{IsEndFault, empty, short, unclosed, IsFaultOf, at_word, at_place, at_end}
 
@@ -30,16 +30,16 @@ module _ (text : List ℕ) (utf8 : IsUtf8 text) where
   fault_place c m all f s (at_end read {f = g} {s = t} r b n e) = end_place (reading c m 0 text) all read g t r e
 
 -- the licences stand among the words
-license_places : (text : List ℕ) (last : Last) (read : List Placed) → All (λ i. IsPlace text (place_of i)) (map Ok read) → All (IsPlace text) (license_spans_behind last read)
+license_places : (text : List ℕ) (last : Last) (read : List Placed) → All (λ i. IsPlace text (place_of i)) (map Ok read) → All (IsPlace text) (license_spans last read)
 license_places text last [] all = All-nil (IsPlace text)
 license_places text last (p ∷ read) all =
     pick (is_license last p.0)
     (All-head (λ (i : Item). IsPlace text (place_of i)) (Ok p) (map Ok read) all)
     (license_places text (next_last last p.0) read (All-tail (λ (i : Item). IsPlace text (place_of i)) (Ok p) (map Ok read) all))
   where
-    pick : (b : Bool) → IsPlace text p.1 → All (IsPlace text) (license_spans_behind (next_last last p.0) read)
-        → All (IsPlace text) (if b then p.1 ∷ license_spans_behind (next_last last p.0) read else license_spans_behind (next_last last p.0) read)
-    pick true here rest = All-cons (IsPlace text) p.1 (license_spans_behind (next_last last p.0) read) here rest
+    pick : (b : Bool) → IsPlace text p.1 → All (IsPlace text) (license_spans (next_last last p.0) read)
+        → All (IsPlace text) (if b then p.1 ∷ license_spans (next_last last p.0) read else license_spans (next_last last p.0) read)
+    pick true here rest = All-cons (IsPlace text) p.1 (license_spans (next_last last p.0) read) here rest
     pick false here rest = rest
 
 pub node_places : (c : Rows) (m : ParseMode) (text : List ℕ) → All (λ i. IsPlace text (place_of i)) (reading c m 0 text) → (nodes : List ExprNode) → IsParsed c m text nodes → All (IsPlace text) (requirement_spans nodes)

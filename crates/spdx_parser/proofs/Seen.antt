@@ -5,8 +5,8 @@ use Rattle.std.proofs.lemmas.List.{map-append}
 use Rattle.std.proofs.lemmas.Bool.Decides.{eqb_tells}
 use Rattle.spdx_lexer.specs.Words.{Word, Spdx, LicenseRef, Exception, AdditionRef, Unknown, Plus, OpenParen, CloseParen, With, And, Or, Span}
 use Rattle.spdx_parser.specs.Last.{next_last, last_behind, is_license}
-use Rattle.spdx_parser.specs.Spans.{Placed, words, license_spans_behind}
-use Rattle.spdx_parser.specs.Faults.{opens, closes, none_open, IsLastOpen}
+use Rattle.spdx_parser.specs.Spans.{Placed, words, license_spans}
+use Rattle.spdx_parser.specs.Faults.{opens, closes, IsLastOpen}
 use Rattle.spdx_parser.specs.Code.{Seen, see, seen_behind, add_span, but_last, move_places}
 use Rattle.spdx_parser.proofs.Steps.{but_last_snoc, not_snoc, snoc_same}
 
@@ -20,9 +20,9 @@ one_span : (b : Bool) (spans rest : List Span) (s : Span) → add_span b spans s
 one_span true spans rest s = append_assoc spans (s ∷ []) rest
 one_span false spans rest s = refl
 
-pub seen_spans : (seen : Seen) (read : List Placed) → (seen_behind seen read).spans ≡ seen.spans ++ license_spans_behind seen.last read
+pub seen_spans : (seen : Seen) (read : List Placed) → (seen_behind seen read).spans ≡ seen.spans ++ license_spans seen.last read
 seen_spans seen [] = sym (append-nil seen.spans)
-seen_spans seen (p ∷ read) = seen_spans (see seen p.0 p.1) read ∙ one_span (is_license seen.last p.0) seen.spans (license_spans_behind (next_last seen.last p.0) read) p.1
+seen_spans seen (p ∷ read) = seen_spans (see seen p.0 p.1) read ∙ one_span (is_license seen.last p.0) seen.spans (license_spans (next_last seen.last p.0) read) p.1
 
 pub seen_more : (seen : Seen) (read : List Placed) (w : Word) (s : Span) → seen_behind seen (read ++ (w, s) ∷ []) ≡ see (seen_behind seen read) w s
 seen_more seen [] w s = refl
@@ -194,7 +194,7 @@ same_test a b n e = test (eqb_tells a b) (eqb_tells n 0)
     test (inr x) (inl y) = let none = y.1 in absurd (x.1 (omega arith))
     test (inr x) (inr y) = x.0 ∙ sym y.0
 
-pub none_open_is : (read : List Placed) (places : List Span) → Nest read places → none_open (words read) ≡ (length places == 0)
+pub none_open_is : (read : List Placed) (places : List Span) → Nest read places → (opens (words read) == closes (words read)) ≡ (length places == 0)
 none_open_is read places n = same_test (opens (words read)) (closes (words read)) (length places) (nest_count read places n)
 
 -- the last of them is the last `(` that is left open

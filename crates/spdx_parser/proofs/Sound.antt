@@ -8,9 +8,10 @@ use Rattle.spdx_lexer.specs.declared.token.ParseMode.{ParseMode}
 use Rattle.spdx_lexer.specs.Words.{Word, Spdx, LicenseRef, Exception, AdditionRef, Unknown, Plus, OpenParen, CloseParen, With, And, Or}
 use Rattle.spdx_parser.specs.declared.node.Operator.{Operator}
 use Rattle.spdx_parser.specs.Tree.{Tree, Join}
-use Rattle.spdx_parser.specs.Grammar.{may_stand, later_row, reference, LicenceOf, plain, marked, later, named, unknown, AdditionOf, exception, named_addition, unknown_addition, alone, joined, PrimaryOf, leaf, group, AndOf, one_primary, and_more, OrOf, one_and, or_more, Derives}
+use Rattle.spdx_parser.specs.Grammar.{may_stand, later_row, reference, Derives}
 use Rattle.spdx_parser.specs.Machine
 use Rattle.spdx_parser.specs.Machine.{Frame, State, Phase, fold}
+use Rattle.spdx_parser.proofs.Threaded.{LicenceOf, plain, marked, later, named, unknown, AdditionOf, exception, named_addition, unknown_addition, alone, joined, PrimaryOf, leaf, group, AndOf, one_primary, and_more, OrOf, one_and, or_more, derives}
 
 module _ (c : Rows) (m : ParseMode) where
   -- what may follow a primary with the tree t in its chain of AND, which then has the tree u
@@ -176,4 +177,4 @@ module _ (c : Rows) (m : ParseMode) where
         let h = runs_law (Some Machine.start) ws e in
         let k = h.3 in
         let g = k.goes_on in
-        subst (λ t. OrOf c m ws t []) g.1 (subst (λ rest. OrOf c m ws k.whole rest) g.0 (or_of (and_of h.2 k.ands) k.ors))
+        derives c m (subst (λ t. OrOf c m ws t []) g.1 (subst (λ rest. OrOf c m ws k.whole rest) g.0 (or_of (and_of h.2 k.ands) k.ors)))

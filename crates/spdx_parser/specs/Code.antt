@@ -1,7 +1,7 @@
 -- How the parser shows a state of the machine.
-use Rattle.std.specs.Prelude.{◌≡◌, ℕ, Bool, true, false, List, [], ◌∷◌, ◌++◌, length, map, Option, Some, None}
+use Rattle.std.specs.Prelude.{◌≡◌, ℕ, Bool, true, false, List, [], ◌∷◌, ◌++◌, length, map, Option, Some, None, slice_get}
 use Rattle.std.specs.declared.ops.Range.{Range}
-use Rattle.spdx_catalogue.specs.Rows.{Rows}
+use Rattle.spdx_catalogue.specs.Rows.{Rows, LicenseRow}
 use Rattle.spdx_catalogue.specs.Ids.{id_row}
 use Rattle.spdx_catalogue.specs.Items.{Licence, listed, referred}
 use Rattle.spdx_lexer.specs.Code.{document_of, span_of}
@@ -14,7 +14,6 @@ use Rattle.spdx_parser.specs.declared.frames.Opened.{Opened}
 use Rattle.spdx_parser.specs.declared.frames.Parser.{Parser}
 use Rattle.spdx_parser.specs.Tree.{Tree, Node, postfix, node_of}
 use Rattle.spdx_parser.specs.Grammar.{reference}
-use Rattle.spdx_parser.specs.Parsed.{IsLicenseRow}
 use Rattle.spdx_parser.specs.Last.{Last, Due, Listed, Unlisted, Named, Joined, Added, Closed, next_last, is_license}
 use Rattle.spdx_parser.specs.Spans.{Placed, requirement_spans}
 use Rattle.spdx_parser.specs.Machine as machine
@@ -23,6 +22,10 @@ abbrev pub name_licence : Name → Licence
 name_licence (Name.Listed id or_later) = listed (id_row id) or_later
 name_licence (Name.Reference d n) = referred (reference (document_of d) n.now)
 name_licence (Name.Unknown n) = referred (reference None n.now)
+
+-- the row stands in the catalogue's list, at its own index
+abbrev pub IsLicenseRow : Rows → LicenseRow → Type 0
+IsLicenseRow c r = slice_get c.licenses r.index ≡ Some r
 
 -- a listed licence that was just read is one of the catalogue's
 abbrev pub IsRowKnown : Rows → Phase → Type 0

@@ -11,19 +11,17 @@ use Rattle.spdx_parser.specs.Tree.{Tree}
 use Rattle.spdx_parser.specs.Grammar.{may_stand, Derives, IsViable}
 use Rattle.spdx_parser.specs.Spans.{Placed, words}
 
+-- how many `(` there are
 abbrev pub opens : List Word → ℕ
 opens [] = 0
 opens (OpenParen ∷ ws) = opens ws + 1
 opens (w ∷ ws) = opens ws
 
+-- how many `)` there are
 abbrev pub closes : List Word → ℕ
 closes [] = 0
 closes (CloseParen ∷ ws) = closes ws + 1
 closes (w ∷ ws) = closes ws
-
--- no parenthesis is open behind these words
-abbrev pub none_open : List Word → Bool
-none_open ws = opens ws == closes ws
 
 -- a `+` behind a GNU licence: the mode has to allow it, the name must not end in `-or-later`, and the licence
 -- that it would mean has to be listed
@@ -37,9 +35,9 @@ fault_behind m (Listed r) none Plus = if is_gnu r.flags then plus_fault m r else
 fault_behind m last none CloseParen = if is_closing last && none then UnopenedParens else Unexpected (terms last)
 fault_behind m last none w = Unexpected (terms last)
 
--- a word that no expression has behind these
+-- a word that no expression has behind these; no parenthesis is open where as many close
 abbrev pub word_fault : ParseMode → List Word → Word → Fault
-word_fault m ws w = fault_behind m (last_of ws) (none_open ws) w
+word_fault m ws w = fault_behind m (last_of ws) (opens ws == closes ws) w
 
 -- a `(` is left open if every segment that begins at it has more `(` than `)`
 abbrev pub IsLeftOpen : List Word → Type 0

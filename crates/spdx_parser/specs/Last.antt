@@ -3,6 +3,7 @@ use Rattle.std.specs.Prelude.{ℕ, Bool, true, false, List, [], ◌∷◌, codes
 use Rattle.spdx_catalogue.specs.Rows.{LicenseRow}
 use Rattle.spdx_lexer.specs.Words.{Word, Spdx, LicenseRef, Exception, AdditionRef, Unknown, Plus, OpenParen, CloseParen, With, And, Or}
 
+-- what the last word stands as
 pub data Last : Type 0 where
   -- no word, AND, OR or `(`: a licence or `(` is due
   Due : Last
@@ -34,10 +35,12 @@ next_last last With = Joined
 next_last last And = Due
 next_last last Or = Due
 
+-- what the last of some words stands as, behind such a one
 abbrev pub last_behind : Last → List Word → Last
 last_behind last [] = last
 last_behind last (w ∷ ws) = last_behind (next_last last w) ws
 
+-- what the last of some words stands as, from the start of a text
 abbrev pub last_of : List Word → Last
 last_of ws = last_behind Due ws
 

@@ -6,5 +6,4 @@ pub mod Faults
 pub mod Parsed
 pub mod Machine
 pub mod Code
-pub mod Written
 pub mod Nodes

@@ -1,6 +1,6 @@
 -- What a text means, and the nodes that say so.
 use Rattle.std.specs.Prelude.{◌≡◌, ℕ, List, Option, Some, None, Ok, map, slice_get}
-use Rattle.spdx_catalogue.specs.Rows.{Rows, LicenseRow, ExceptionRow}
+use Rattle.spdx_catalogue.specs.Rows.{Rows}
 use Rattle.spdx_catalogue.specs.Items.{Licence, listed, referred, Addition, excepted, added}
 use Rattle.spdx_lexer.specs.declared.token.ParseMode.{ParseMode}
 use Rattle.spdx_lexer.specs.declared.error.ParseError.{ParseError}
@@ -10,23 +10,19 @@ use Rattle.spdx_lexer.specs.Reading.{reading}
 use Rattle.spdx_parser.specs.declared.node.ExprNode.{ExprNode}
 use Rattle.spdx_parser.specs.Tree.{Tree, Leaf, Join, postfix, node_of}
 use Rattle.spdx_parser.specs.Grammar.{IsTheTree}
+use Rattle.spdx_parser.specs.Last.{Due}
 use Rattle.spdx_parser.specs.Spans.{Placed, words, license_spans, requirement_spans}
 use Rattle.spdx_parser.specs.Faults.{IsFaultOf, HasNoTree}
 
--- the row stands in the catalogue's list, at its own index
-abbrev pub IsLicenseRow : Rows → LicenseRow → Type 0
-IsLicenseRow c r = slice_get c.licenses r.index ≡ Some r
-
-abbrev pub IsExceptionRow : Rows → ExceptionRow → Type 0
-IsExceptionRow c r = slice_get c.exceptions r.index ≡ Some r
-
+-- a listed licence has a row of the catalogue, which stands at its own index
 abbrev pub IsLicenceOf : Rows → Licence → Type 0
-IsLicenceOf c (listed r mark) = IsLicenseRow c r
+IsLicenceOf c (listed r mark) = slice_get c.licenses r.index ≡ Some r
 IsLicenceOf c (referred r) = Unit {0}
 
+-- and so has a listed exception
 abbrev pub IsAdditionOf : Rows → Option Addition → Type 0
 IsAdditionOf c None = Unit {0}
-IsAdditionOf c (Some (excepted r)) = IsExceptionRow c r
+IsAdditionOf c (Some (excepted r)) = slice_get c.exceptions r.index ≡ Some r
 IsAdditionOf c (Some (added r)) = Unit {0}
 
 -- every id in the tree has a row of the catalogue
@@ -42,7 +38,7 @@ pub record IsParsed (c : Rows) (m : ParseMode) (text : List ℕ) (nodes : List E
   pub reads : reading c m 0 text ≡ map Ok read
   pub meant : IsTheTree c m (words read) tree
   pub nodes_are : map node_of nodes ≡ postfix tree
-  pub spans_are : requirement_spans nodes ≡ license_spans read
+  pub spans_are : requirement_spans nodes ≡ license_spans Due read
   pub rows_are : IsOfRows c tree
 
 -- the text has no tree, and the error is its fault, with the place and the text

@@ -3,23 +3,20 @@ use Rattle.std.specs.Prelude.{List, [], ◌∷◌, Option, Some, None, map, if�
 use Rattle.spdx_lexer.specs.Code.{span_of}
 use Rattle.spdx_lexer.specs.Words.{Word, Span}
 use Rattle.spdx_parser.specs.declared.node.ExprNode.{ExprNode}
-use Rattle.spdx_parser.specs.Last.{Last, Due, next_last, is_license}
+use Rattle.spdx_parser.specs.Last.{Last, next_last, is_license}
 
 -- a word and where it stands
 abbrev pub Placed : Type 0
 Placed = Word × Span
 
+-- the words without their places
 abbrev pub words : List Placed → List Word
 words read = map (λ (p : Placed). p.0) read
 
--- the spans of the licences among the words that come behind such a one
-abbrev pub license_spans_behind : Last → List Placed → List Span
-license_spans_behind last [] = []
-license_spans_behind last (p ∷ read) = if is_license last p.0 then p.1 ∷ license_spans_behind (next_last last p.0) read else license_spans_behind (next_last last p.0) read
-
--- the spans of the licences, from left to right
-abbrev pub license_spans : List Placed → List Span
-license_spans read = license_spans_behind Due read
+-- the spans of the licences, from left to right, among the words that come behind such a one
+abbrev pub license_spans : Last → List Placed → List Span
+license_spans last [] = []
+license_spans last (p ∷ read) = if is_license last p.0 then p.1 ∷ license_spans (next_last last p.0) read else license_spans (next_last last p.0) read
 
 -- a requirement has a place
 abbrev pub node_span : ExprNode → Option Span

@@ -25,6 +25,7 @@ abbrev pub leaves : Tree → List Requirement
 leaves (Leaf r) = r ∷ []
 leaves (Join o l r) = leaves l ++ leaves r
 
+-- a node of the code, its place aside
 abbrev pub node_of : ExprNode → Node
 node_of (ExprNode.Op o) = Op o
 node_of (ExprNode.Req r) = Req (requirement_of r.req)

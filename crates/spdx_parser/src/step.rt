@@ -12,9 +12,8 @@ ghost use Rattle.spdx_catalogue.specs.Flags as Flags;
 ghost use Rattle.spdx_catalogue.specs.Names as Names;
 ghost use Rattle.spdx_parser.specs.Grammar.{later_row};
 ghost use Rattle.spdx_parser.specs.Last as Last;
-ghost use Rattle.spdx_parser.specs.Parsed.{IsLicenseRow};
 ghost use Rattle.spdx_parser.specs.Machine as machine;
-ghost use Rattle.spdx_parser.specs.Code.{name_licence, IsRowKnown, Seen, see, Stands, Shows, IsShown, IsWhole, IsHeld, EndsWhole, IsBuilt, Answers, last_in};
+ghost use Rattle.spdx_parser.specs.Code.{IsLicenseRow, name_licence, IsRowKnown, Seen, see, Stands, Shows, IsShown, IsWhole, IsHeld, EndsWhole, IsBuilt, Answers, last_in};
 
 use crate::frames::{Frame, Opened, Parser, put, put_operators};
 use crate::node::{ExprNode, ExpressionReq, Operator};
