@@ -3,7 +3,7 @@ use Rattle.std.proofs.Common.{◌≡◌, Bool, true, false, cond, List, [], ◌�
 use Rattle.std.specs.Prelude.{not}
 use Rattle.std.specs.List.{filter, zip}
 use Rattle.spdx_catalogue.specs.declared.requirement.LicenseReq.{LicenseReq}
-use Rattle.spdx_catalogue.specs.Items.{Requirement, requirement_of}
+use Rattle.spdx_catalogue.specs.Items.{Requirement}
 use Rattle.spdx_lexer.specs.Words.{Span}
 use Rattle.spdx_parser.specs.Tree.{Tree, leaves}
 use Rattle.spdx.specs.ByRequirement.{AnswersBy, FailsBy}

@@ -1,12 +1,12 @@
 -- Lists with the same members pass the same tests, and so have one choice.
-use Rattle.std.proofs.Common.{◌≡◌, ◌≢◌, ℕ, ◌<◌, Bool, true, false, cond, nat_lt, List, [], ◌∷◌, ◌||◌, ◌&&◌, length, get_or, refl, sym, ◌∙◌, ap, subst}
-use Rattle.std.specs.Prelude.{◌↔◌, Contains}
-use Rattle.std.specs.List.{list_any, list_all, filter, HoldsAt}
-use Rattle.std.proofs.lemmas.List.Folds.{Any-from_list_any, list_any_at, list_all_at}
+use Rattle.std.proofs.Common.{◌≡◌, Bool, true, false, cond, nat_lt, List, [], ◌∷◌, ◌||◌, ◌&&◌, length, refl, sym, ◌∙◌, ap}
+use Rattle.std.specs.Prelude.{Contains}
+use Rattle.std.specs.List.{list_any, list_all, filter}
+use Rattle.std.proofs.lemmas.List.Folds.{Any-from_list_any, list_any_at}
 use Rattle.spdx_catalogue.specs.Items.{Requirement}
 use Rattle.spdx_licensee.specs.Satisfies.{satisfies}
 use Rattle.spdx_parser.specs.Tree.{Tree, leaves}
-use Rattle.spdx.specs.Choice.{Choice, too_many, first_ones, satisfies_some, useful, holds, any_chosen, suffices_for, choice_among, choice_by, least_of, choice_of}
+use Rattle.spdx.specs.Choice.{too_many, first_ones, satisfies_some, useful, holds, any_chosen, suffices_for, choice_among, choice_by, least_of, choice_of}
 use Rattle.spdx.specs.Doubles.{SameMembers}
 
 same_truth : (a b : Bool) → (a ≡ true → b ≡ true) → (b ≡ true → a ≡ true) → a ≡ b

@@ -25,6 +25,7 @@ mod texts;
 pub use iterators::{Nodes, Requirements};
 pub use judge::ExpressionJudge;
 pub use minimize::{MinimizeError, minimized_for_all};
+// The default of a node fills the unused places of a `SmallVec`; it means nothing, and no call gives it.
 pub use spdx_parser::node::{ExprNode, ExpressionReq, Operator};
 
 /// A licence expression: a tree of requirements joined by AND and OR, and the text that it was
