@@ -10,12 +10,12 @@ use Rattle.spdx.specs.ByRequirement.{AnswersBy, FailsBy}
 use Rattle.spdx.specs.Calls.{CallsGive, AsksFor, refused, Evaluates, EvaluatesToFalse}
 use Rattle.spdx.specs.Choice.{holds}
 use Rattle.spdx.specs.Truth.{truth_of}
-use Rattle.spdx.specs.Written.{Written, Placed, placed}
+use Rattle.spdx.specs.Written.{Written, PlacedRequirement, placed}
 
 -- a requirement is kept exactly if its answer is false
-keeps : (b : Bool) (x : Placed) (xs : List Placed) (bs : List Bool) (kept : List Placed) → refused xs bs ≡ kept → refused (x ∷ xs) (b ∷ bs) ≡ cond (not b) (x ∷ kept) kept
+keeps : (b : Bool) (x : PlacedRequirement) (xs : List PlacedRequirement) (bs : List Bool) (kept : List PlacedRequirement) → refused xs bs ≡ kept → refused (x ∷ xs) (b ∷ bs) ≡ cond (not b) (x ∷ kept) kept
 keeps true x xs bs kept e = e
-keeps false x xs bs kept e = ap (λ (z : List Placed). x ∷ z) e
+keeps false x xs bs kept e = ap (λ (z : List PlacedRequirement). x ∷ z) e
 
 refused_are : (h : Requirement → Bool) (rs : List Requirement) (spans : List Span) → refused (zip rs spans) (map h rs) ≡ filter (λ p. not (h p.0)) (zip rs spans)
 refused_are h [] spans = refl
@@ -36,7 +36,7 @@ module _ {F : Type 0} (S : F → LicenseReq → Bool → F → Type 0) (f : F) (
   pub holds_by : (t : Tree) (truth : Bool) (g : F) → Evaluates S f t truth g → truth ≡ holds h t
   holds_by t truth g (answers, calls, is) = is ∙ ap (truth_of t) (answers_are f refl (leaves t) answers g calls)
 
-  pub fails_by : (w : Written) (failed : List Placed) (g : F) → EvaluatesToFalse S f w failed g → FailsBy h w failed
+  pub fails_by : (w : Written) (failed : List PlacedRequirement) (g : F) → EvaluatesToFalse S f w failed g → FailsBy h w failed
   fails_by w failed g (answers, calls, is, failed_are) =
       let known = answers_are f refl (leaves w.tree) answers g calls in
       (sym (ap (truth_of w.tree) known) ∙ is, failed_are ∙ ap (refused (placed w)) known ∙ refused_are h (leaves w.tree) w.spans)

@@ -6,9 +6,8 @@ use Rattle.spdx_catalogue.specs.declared.error.Failure.{Failure}
 use Rattle.spdx_catalogue.specs.declared.error.Failure.TheVariants.{Refused, Memory}
 use Rattle.spdx_catalogue.specs.Failures.{IfRefused}
 use Rattle.spdx_lexer.specs.Modes.{strict}
-use Rattle.spdx_lexer.specs.Words.{Word, Fault, Item}
+use Rattle.spdx_lexer.specs.Words.{Word, Fault, Item, Placed, words}
 use Rattle.spdx_lexer.specs.Reading.{said}
-use Rattle.spdx_parser.specs.Spans.{Placed, words}
 use Rattle.spdx_parser.specs.Tree.{Tree, Leaf, Join}
 use Rattle.spdx_normal.specs.Law.{EachLeaf, IsStrict}
 use Rattle.spdx_normal.proofs.Leaves.{IsGood}

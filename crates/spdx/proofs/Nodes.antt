@@ -10,7 +10,7 @@ use Rattle.spdx_parser.specs.declared.node.ExprNode.{ExprNode}
 use Rattle.spdx_parser.specs.Tree.{Tree, Leaf, Join, Node, Op, Req, postfix, leaves, node_of}
 use Rattle.spdx_lexer.specs.Code.{span_of}
 use Rattle.spdx_parser.specs.Spans.{requirement_spans, node_span}
-use Rattle.spdx.specs.Written.{Placed, placed_of, requirements_in, placed_in}
+use Rattle.spdx.specs.Written.{PlacedRequirement, placed_of, requirements_in, placed_in}
 
 abbrev pub requirement_at : ExpressionReq → Requirement
 requirement_at r = requirement_of r.req
@@ -45,7 +45,7 @@ requirements_of_tree nodes t e = requirements_are nodes ∙ ap leaves_in e ∙ l
 placed_apart : (nodes : List ExprNode) → placed_in nodes ≡ zip (leaves_in (map node_of nodes)) (requirement_spans nodes)
 placed_apart [] = refl
 placed_apart (ExprNode.Op o ∷ nodes) = placed_apart nodes
-placed_apart (ExprNode.Req r ∷ nodes) = ap (λ (z : List Placed). placed_of r ∷ z) (placed_apart nodes)
+placed_apart (ExprNode.Req r ∷ nodes) = ap (λ (z : List PlacedRequirement). placed_of r ∷ z) (placed_apart nodes)
 
 pub placed_of_tree : (nodes : List ExprNode) (t : Tree) → map node_of nodes ≡ postfix t → placed_in nodes ≡ zip (leaves t) (requirement_spans nodes)
 placed_of_tree nodes t e = placed_apart nodes ∙ ap (λ (z : List Requirement). zip z (requirement_spans nodes)) (ap leaves_in e ∙ leaves_in_postfix t)

@@ -3,7 +3,7 @@ use Rattle.std.specs.Prelude.{◌≡◌, Bool, true, false, List, [], ◌∷◌}
 use Rattle.spdx_catalogue.specs.declared.requirement.LicenseReq.{LicenseReq}
 use Rattle.spdx_catalogue.specs.Items.{Requirement, requirement_of}
 use Rattle.spdx_parser.specs.Tree.{Tree, leaves}
-use Rattle.spdx.specs.Written.{Written, Placed, placed}
+use Rattle.spdx.specs.Written.{Written, PlacedRequirement, placed}
 use Rattle.spdx.specs.Truth.{truth_of}
 
 -- Called at each of xs in order, each call in the state that the one before left, a closure that was in state f answered bs
@@ -31,5 +31,5 @@ abbrev pub Evaluates : {F : Type 0} → (F → LicenseReq → Bool → F → Typ
 Evaluates S f t truth g = (answers : List Bool) × CallsGive (AsksFor S) f (leaves t) answers g × (truth ≡ truth_of t answers)
 
 -- the same where the truth is false, with every requirement whose answer was false
-abbrev pub EvaluatesToFalse : {F : Type 0} → (F → LicenseReq → Bool → F → Type 0) → F → Written → List Placed → F → Type 0
+abbrev pub EvaluatesToFalse : {F : Type 0} → (F → LicenseReq → Bool → F → Type 0) → F → Written → List PlacedRequirement → F → Type 0
 EvaluatesToFalse S f w failed g = (answers : List Bool) × CallsGive (AsksFor S) f (leaves w.tree) answers g × (truth_of w.tree answers ≡ false) × (failed ≡ refused (placed w) answers)

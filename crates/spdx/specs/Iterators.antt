@@ -3,14 +3,14 @@ use Rattle.std.specs.Prelude.{List, [], ◌∷◌, Some, None, map}
 use Rattle.spdx_lexer.specs.Words.{Span}
 use Rattle.spdx_parser.specs.Tree.{Node, Op, Req, postfix}
 use Rattle.spdx_parser.specs.Nodes.{PlacedNode, placed_node}
-use Rattle.spdx.specs.Written.{Written, Placed, placed_in}
+use Rattle.spdx.specs.Written.{Written, PlacedRequirement, placed_in}
 use Rattle.spdx.specs.declared.expression.iterators.Nodes.{Nodes}
 use Rattle.spdx.specs.declared.expression.iterators.Requirements.{Requirements}
 
 abbrev pub nodes_left : Nodes → List PlacedNode
 nodes_left s = map placed_node s.rest.now
 
-abbrev pub requirements_left : Requirements → List Placed
+abbrev pub requirements_left : Requirements → List PlacedRequirement
 requirements_left s = placed_in s.rest.now
 
 -- the nodes, of which each requirement has the next place

@@ -1,4 +1,5 @@
 -- An expression that was read from a text.
+use Rattle.spdx_lexer.specs.Words.{Placed, words}
 use Rattle.std.specs.Prelude.{◌≡◌, ℕ, List, Ok, map}
 use Rattle.spdx_catalogue.specs.Rows.{Rows}
 use Rattle.spdx_catalogue.specs.Items.{Requirement}
@@ -8,7 +9,7 @@ use Rattle.spdx_lexer.specs.Reading.{reading}
 use Rattle.spdx_parser.specs.Tree.{Leaf}
 use Rattle.spdx_parser.specs.Grammar.{IsTheTree}
 use Rattle.spdx_parser.specs.Last.{Due}
-use Rattle.spdx_parser.specs.Spans.{Placed, words, license_spans}
+use Rattle.spdx_parser.specs.Spans.{license_spans}
 use Rattle.spdx_parser.specs.Parsed.{IsOfRows}
 use Rattle.spdx_normal.specs.Law.{ReadsAs}
 use Rattle.spdx.specs.Written.{Written}

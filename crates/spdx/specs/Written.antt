@@ -17,14 +17,14 @@ pub record Written : Type 0 where
   pub spans : List Span
 
 -- a requirement, and where its licence stands
-abbrev pub Placed : Type 0
-Placed = Requirement × Span
+abbrev pub PlacedRequirement : Type 0
+PlacedRequirement = Requirement × Span
 
-abbrev pub placed_of : ExpressionReq → Placed
+abbrev pub placed_of : ExpressionReq → PlacedRequirement
 placed_of r = (requirement_of r.req, span_of r.span)
 
 -- the requirements from left to right, each with its place
-abbrev pub placed : Written → List Placed
+abbrev pub placed : Written → List PlacedRequirement
 placed w = zip (leaves w.tree) w.spans
 
 -- the requirements among some nodes
@@ -33,7 +33,7 @@ requirements_in [] = []
 requirements_in (ExprNode.Op o ∷ nodes) = requirements_in nodes
 requirements_in (ExprNode.Req r ∷ nodes) = r ∷ requirements_in nodes
 
-abbrev pub placed_in : List ExprNode → List Placed
+abbrev pub placed_in : List ExprNode → List PlacedRequirement
 placed_in nodes = map placed_of (requirements_in nodes)
 
 -- what references point to

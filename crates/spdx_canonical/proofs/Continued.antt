@@ -6,10 +6,10 @@ use Rattle.spdx_lexer.specs.Laid.{IsPlace, place_of}
 use Rattle.spdx_catalogue.specs.Rows.{LicenseRow}
 use Rattle.spdx_catalogue.specs.Flags.{is_gnu}
 use Rattle.spdx_lexer.specs.Words.{Word, Spdx, Plus, Fault, Span, Item, Unexpected}
-use Rattle.spdx_canonical.specs.Canonical.{gnu_name, written_name, word_text, text_behind, is_spdx, is_misplaced, first_fault, words_of, unless}
+use Rattle.spdx_canonical.specs.Canonical.{gnu_name, written_name, word_text, text_behind, is_spdx, is_misplaced, canonical_fault, words_of, unless}
 use Rattle.spdx_canonical.specs.Drafted.{Drafted, extended, IsOff}
 use Rattle.spdx_canonical.proofs.Drafts.{not_off_text}
-use Rattle.spdx_canonical.specs.Pending.{marked_name, license_text, is_plus, decided_text, own_text, next_text, waiting}
+use Rattle.spdx_canonical.specs.Pending.{marked_name, license_text, is_plus_word, decided_text, own_text, next_text, waiting}
 
 -- the words, where a licence waits before them
 abbrev pub waiting_words : Option LicenseRow → List Word → List Word
@@ -17,7 +17,7 @@ waiting_words None ws = ws
 waiting_words (Some r) ws = Spdx r ∷ ws
 
 abbrev pub continued : Drafted → Option LicenseRow → List Item → Result (List ℕ) (Fault × Span)
-continued d before items = unless (first_fault (is_some before) items) (d.bytes ++ text_behind false (waiting_words before (words_of items)))
+continued d before items = unless (canonical_fault (is_some before) items) (d.bytes ++ text_behind false (waiting_words before (words_of items)))
 
 -- a licence and its plus
 marked_text : (r : LicenseRow) (ws : List Word) → text_behind false (Spdx r ∷ Plus ∷ ws) ≡ license_text true r ++ text_behind false ws
@@ -32,7 +32,7 @@ bare_name : (r : LicenseRow) → written_name false r ≡ license_text false r
 bare_name r = refl
 
 -- what a word adds, behind a licence or none
-adds : (before : Option LicenseRow) (w : Word) (ws : List Word) → is_misplaced (is_some before) w ≡ false → text_behind false (waiting_words before (w ∷ ws)) ≡ (decided_text before (is_plus w) ++ own_text w) ++ text_behind false (waiting_words (waiting w) ws)
+adds : (before : Option LicenseRow) (w : Word) (ws : List Word) → is_misplaced (is_some before) w ≡ false → text_behind false (waiting_words before (w ∷ ws)) ≡ (decided_text before (is_plus_word w) ++ own_text w) ++ text_behind false (waiting_words (waiting w) ws)
 adds None (Plus) ws h = absurd cc
 adds None (Spdx r) ws h = refl
 adds None w ws h = refl
@@ -44,18 +44,18 @@ spdx_waits : (w : Word) → is_spdx w ≡ is_some (waiting w)
 spdx_waits (Spdx r) = refl
 spdx_waits _ = refl
 
-pub step : (d : Drafted) (before : Option LicenseRow) (w : Word) (s : Span) (items : List Item) → is_misplaced (is_some before) w ≡ false → continued d before (Ok (w, s) ∷ items) ≡ continued (extended d (decided_text before (is_plus w) ++ own_text w)) (waiting w) items
+pub step : (d : Drafted) (before : Option LicenseRow) (w : Word) (s : Span) (items : List Item) → is_misplaced (is_some before) w ≡ false → continued d before (Ok (w, s) ∷ items) ≡ continued (extended d (decided_text before (is_plus_word w) ++ own_text w)) (waiting w) items
 step d before w s items h =
     let more = text_behind false (waiting_words (waiting w) (words_of items)) in
-    let bytes : d.bytes ++ text_behind false (waiting_words before (w ∷ words_of items)) ≡ (d.bytes ++ (decided_text before (is_plus w) ++ own_text w)) ++ more =
-    ap (λ (t : List ℕ). d.bytes ++ t) (adds before w (words_of items) h) ∙ sym (append_assoc d.bytes (decided_text before (is_plus w) ++ own_text w) more) in
-    ap (λ b. unless (cond b (Some (Unexpected (codes "<license>" ∷ []), s)) (first_fault (is_spdx w) items)) (d.bytes ++ text_behind false (waiting_words before (w ∷ words_of items)))) h
-    ∙ ap (λ b. unless (first_fault b items) (d.bytes ++ text_behind false (waiting_words before (w ∷ words_of items)))) (spdx_waits w)
-    ∙ ap (unless (first_fault (is_some (waiting w)) items)) bytes
+    let bytes : d.bytes ++ text_behind false (waiting_words before (w ∷ words_of items)) ≡ (d.bytes ++ (decided_text before (is_plus_word w) ++ own_text w)) ++ more =
+    ap (λ (t : List ℕ). d.bytes ++ t) (adds before w (words_of items) h) ∙ sym (append_assoc d.bytes (decided_text before (is_plus_word w) ++ own_text w) more) in
+    ap (λ b. unless (cond b (Some (Unexpected (codes "<license>" ∷ []), s)) (canonical_fault (is_spdx w) items)) (d.bytes ++ text_behind false (waiting_words before (w ∷ words_of items)))) h
+    ∙ ap (λ b. unless (canonical_fault b items) (d.bytes ++ text_behind false (waiting_words before (w ∷ words_of items)))) (spdx_waits w)
+    ∙ ap (unless (canonical_fault (is_some (waiting w)) items)) bytes
 
 -- a plus that is misplaced
 pub refused : (d : Drafted) (before : Option LicenseRow) (w : Word) (s : Span) (items : List Item) → is_misplaced (is_some before) w ≡ true → continued d before (Ok (w, s) ∷ items) ≡ Err (Unexpected (codes "<license>" ∷ []), s)
-refused d before w s items h = ap (λ b. unless (cond b (Some (Unexpected (codes "<license>" ∷ []), s)) (first_fault (is_spdx w) items)) (d.bytes ++ text_behind false (waiting_words before (w ∷ words_of items)))) h
+refused d before w s items h = ap (λ b. unless (cond b (Some (Unexpected (codes "<license>" ∷ []), s)) (canonical_fault (is_spdx w) items)) (d.bytes ++ text_behind false (waiting_words before (w ∷ words_of items)))) h
 
 -- the end
 pub ended : (d : Drafted) (before : Option LicenseRow) → continued d before [] ≡ Ok (d.bytes ++ decided_text before false)
@@ -76,7 +76,7 @@ pub never_off : (d : Drafted) (before : Option LicenseRow) (w : Word) (s : Span)
 never_off d before w s items text t h o e =
     let piece = next_text before w in
     let more = text_behind false (waiting_words (waiting w) (words_of items)) in
-    not_off_text d piece more o (t ∙ sym (all_of (first_fault (is_some (waiting w)) items) ((d.bytes ++ piece) ++ more) text (sym (step d before w s items h) ∙ e)))
+    not_off_text d piece more o (t ∙ sym (all_of (canonical_fault (is_some (waiting w)) items) ((d.bytes ++ piece) ++ more) text (sym (step d before w s items h) ∙ e)))
 
 pub never_off_at_end : (d : Drafted) (before : Option LicenseRow) (r : LicenseRow) (text : List ℕ) → d.text ≡ text → before ≡ Some r → IsOff d (license_text false r) → continued d before [] ≡ Ok text → ⊥
 never_off_at_end d before r text t b o e =

@@ -17,7 +17,7 @@ use Rattle.spdx_parser.specs.Tree.{Tree}
 use Rattle.spdx_parser.specs.Grammar.{may_stand, later_row}
 use Rattle.spdx_parser.proofs.Threaded.{LicenceOf, plain, marked}
 use Rattle.spdx_parser.proofs.Complete.{the_only}
-use Rattle.spdx_canonical.specs.Canonical.{is_spdx, is_misplaced, first_fault, words_of, unless, canonical_of, gnu_name, written_name, plus_follows, canonical_text, only_row, canonical_row, canonical_words}
+use Rattle.spdx_canonical.specs.Canonical.{is_spdx, is_misplaced, canonical_fault, words_of, unless, canonical_of, gnu_name, written_name, plus_follows, canonical_text, only_row, canonical_row, canonical_words}
 use Rattle.spdx_canonical.specs.Law.{EachName, is_good, only_licence, only_tree, Accepts, IsSound, IsFaithful}
 use Rattle.spdx_canonical.proofs.Known.{license_named}
 use Rattle.spdx_canonical.proofs.Neighbours.{may_follow, AreApart, AreRead, apart}
@@ -35,7 +35,7 @@ placed last Plus h = ap not h
 placed last _ h = refl
 
 pub record Whole (behind : Bool) (items : List Item) (ws : List Word) : Type 0 where
-  pub no_fault : first_fault behind items ≡ None
+  pub no_fault : canonical_fault behind items ≡ None
   pub words : words_of items ≡ ws
 
 pub whole : (last : Word) (items : List Item) (ws : List Word) → map said items ≡ map Ok ws → AreApart last ws → Whole (is_spdx last) items ws
@@ -49,7 +49,7 @@ whole last (Ok x ∷ items) (w ∷ ws) e a =
     let more : map said items ≡ map Ok ws = cc in
     let rest = whole w items ws more a.1 in
     record {
-      no_fault = ap (λ (v : Word). cond (is_misplaced (is_spdx last) v) (Some (Unexpected (codes "<license>" ∷ []), x.1)) (first_fault (is_spdx v) items)) same ∙ ap (λ b. cond b (Some (Unexpected (codes "<license>" ∷ []), x.1)) (first_fault (is_spdx w) items)) (placed last w a.0) ∙ rest.no_fault;
+      no_fault = ap (λ (v : Word). cond (is_misplaced (is_spdx last) v) (Some (Unexpected (codes "<license>" ∷ []), x.1)) (canonical_fault (is_spdx v) items)) same ∙ ap (λ b. cond b (Some (Unexpected (codes "<license>" ∷ []), x.1)) (canonical_fault (is_spdx w) items)) (placed last w a.0) ∙ rest.no_fault;
       words = ap (λ (v : Word). v ∷ words_of items) same ∙ ap (λ (vs : List Word). w ∷ vs) rest.words;
     }
 

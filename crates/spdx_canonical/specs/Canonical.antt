@@ -6,7 +6,7 @@ use Rattle.spdx_catalogue.specs.Names.{only, or_later, has_suffix, without_only}
 use Rattle.spdx_catalogue.specs.LookUps.{listed}
 use Rattle.spdx_lexer.specs.Modes.{lax}
 use Rattle.spdx_lexer.specs.Words.{Word, Spdx, LicenseRef, Exception, AdditionRef, Unknown, Plus, OpenParen, CloseParen, With, And, Or, Fault, Unexpected, Span, Item}
-use Rattle.spdx_lexer.specs.Lexeme.{reference_text}
+use Rattle.spdx_lexer.specs.Lexeme.{reference_run}
 use Rattle.spdx_lexer.specs.Reading.{reading}
 use Rattle.spdx_parser.specs.Grammar.{later_row}
 
@@ -30,9 +30,9 @@ plus_follows _ = false
 -- any other word: an operator in capitals, with a space on each side
 abbrev pub word_text : Word → List ℕ
 word_text (Spdx r) = r.name
-word_text (LicenseRef d y) = reference_text (codes "LicenseRef-") d y
+word_text (LicenseRef d y) = reference_run (codes "LicenseRef-") d y
 word_text (Exception r) = r.name
-word_text (AdditionRef d y) = reference_text (codes "AdditionRef-") d y
+word_text (AdditionRef d y) = reference_run (codes "AdditionRef-") d y
 word_text (Unknown x) = x
 word_text Plus = codes "+"
 word_text OpenParen = codes "("
@@ -88,11 +88,11 @@ is_misplaced behind_spdx Plus = not behind_spdx
 is_misplaced behind_spdx _ = false
 
 -- the first thing in the text that has no canonical text: a fault of the lexer, or a misplaced `+`, where a licence was expected
-abbrev pub first_fault : Bool → List Item → Option (Fault × Span)
-first_fault behind_spdx [] = None
-first_fault behind_spdx (Err fault ∷ items) = Some fault
-first_fault behind_spdx (Ok found ∷ items) =
-    if is_misplaced behind_spdx found.0 then Some (Unexpected (codes "<license>" ∷ []), found.1) else first_fault (is_spdx found.0) items
+abbrev pub canonical_fault : Bool → List Item → Option (Fault × Span)
+canonical_fault behind_spdx [] = None
+canonical_fault behind_spdx (Err fault ∷ items) = Some fault
+canonical_fault behind_spdx (Ok found ∷ items) =
+    if is_misplaced behind_spdx found.0 then Some (Unexpected (codes "<license>" ∷ []), found.1) else canonical_fault (is_spdx found.0) items
 
 -- the words that were found
 abbrev pub words_of : List Item → List Word
@@ -112,4 +112,4 @@ answer_to text (Err fault) = Err fault
 
 -- The canonical text of a text, as a lax reader finds it, or the fault for which it has none.
 abbrev pub canonical_of : Rows → List ℕ → Result (List ℕ) (Fault × Span)
-canonical_of c text = let items : List Item = reading c lax 0 text in unless (first_fault false items) (canonical_text (words_of items))
+canonical_of c text = let items : List Item = reading c lax 0 text in unless (canonical_fault false items) (canonical_text (words_of items))

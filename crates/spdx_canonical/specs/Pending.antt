@@ -14,9 +14,9 @@ marked_name false name = name
 abbrev pub license_text : Bool → LicenseRow → List ℕ
 license_text plus r = if is_gnu r.flags then gnu_name plus r.name else marked_name plus r.name
 
-abbrev pub is_plus : Word → Bool
-is_plus Plus = true
-is_plus _ = false
+abbrev pub is_plus_word : Word → Bool
+is_plus_word Plus = true
+is_plus_word _ = false
 
 -- what the next word makes of the licence before it
 abbrev pub decided_text : Option LicenseRow → Bool → List ℕ
@@ -36,4 +36,4 @@ waiting _ = None
 
 -- what is written at the word
 abbrev pub next_text : Option LicenseRow → Word → List ℕ
-next_text before w = decided_text before (is_plus w) ++ own_text w
+next_text before w = decided_text before (is_plus_word w) ++ own_text w

@@ -3,13 +3,13 @@
 ghost use Rattle.std.specs.Prelude.{◌≡◌, ◌++◌, None, Ok, Err, IfOk, IfErr, option_map, is_some, string_bytes};
 ghost use Rattle.spdx_catalogue.specs.Ids.{id_row};
 ghost use Rattle.spdx_catalogue.specs.Names as Names;
-ghost use Rattle.spdx_lexer.specs.Lexeme.{reference_text};
+ghost use Rattle.spdx_lexer.specs.Lexeme.{reference_run};
 ghost use Rattle.spdx_lexer.specs.Code.{word_of, document_of, span_of};
 ghost use Rattle.spdx_lexer.specs.Laid.{IsPlace};
 ghost use Rattle.spdx_canonical.specs.Canonical.{word_text, is_misplaced, canonical_of, answer_to};
 ghost use Rattle.spdx_canonical.specs.Law.{CanonicalLaws};
 ghost use Rattle.spdx_canonical.specs.Drafted.{extended, IsOff};
-ghost use Rattle.spdx_canonical.specs.Pending.{license_text, is_plus, next_text, own_text, waiting};
+ghost use Rattle.spdx_canonical.specs.Pending.{license_text, is_plus_word, next_text, own_text, waiting};
 ghost use Rattle.spdx_catalogue.specs.Failures.{IfRefused};
 ghost use Rattle.spdx_canonical.specs.Code.{placed_fault};
 
@@ -80,9 +80,9 @@ fn push_reference(
     name: &str,
 ) -> Result<(), AllocError>
     ensures ok { IfOk result (λ _. draft.new
-        ≡ extended draft.old (reference_text prefix.now (document_of document.entry) name.now)) }
+        ≡ extended draft.old (reference_run prefix.now (document_of document.entry) name.now)) }
     ensures err { IfErr result (λ _.
-        IsOff draft.old (reference_text prefix.now (document_of document.entry) name.now)) }
+        IsOff draft.old (reference_run prefix.now (document_of document.entry) name.now)) }
 {
     match document {
         None => push_both(draft, alloc, prefix, name),
@@ -118,8 +118,8 @@ fn push_token(draft: &mut Draft<'_>, alloc: Global, token: Token<'_, '_>) -> Res
     }
 }
 
-fn is_plus(token: &Token<'_, '_>) -> bool
-    ensures { result ≡ is_plus (word_of token.now) }
+fn is_plus_word(token: &Token<'_, '_>) -> bool
+    ensures { result ≡ is_plus_word (word_of token.now) }
 {
     matches!(token, Token::Plus)
 }
@@ -154,7 +154,7 @@ fn push_next(
         IsOff draft.old (next_text (option_map id_row before.entry) (word_of token.entry))) }
 {
     if let Some(id) = before {
-        push_license(draft, alloc, id, is_plus(&token))?;
+        push_license(draft, alloc, id, is_plus_word(&token))?;
     }
     push_token(draft, alloc, token)
 }

@@ -18,14 +18,14 @@ list_text Exceptions = codes "exceptions"
 abbrev pub row_text : List ℕ → ℕ → List ℕ → List ℕ
 row_text list row what = list ++ (codes " row " ++ (decimal row ++ (codes ": " ++ what)))
 
-abbrev pub fault_text : CatalogueError → List ℕ
-fault_text (BadName l row) = row_text (list_text l) row (codes "bad name")
-fault_text (OperatorName l row) = row_text (list_text l) row (codes "operator word")
-fault_text (NotAscending l row) = row_text (list_text l) row (codes "names do not ascend")
-fault_text (BadIndex l row) = row_text (list_text l) row (codes "index is not the position")
-fault_text (TwoSuffixes row) = row_text (codes "licenses") row (codes "two GNU suffixes")
-fault_text (EmptyPrefix row) = row_text (codes "imprecise") row (codes "empty prefix")
-fault_text (UnlistedTarget row) = row_text (codes "imprecise") row (codes "target is not listed")
+abbrev pub catalogue_fault_text : CatalogueError → List ℕ
+catalogue_fault_text (BadName l row) = row_text (list_text l) row (codes "bad name")
+catalogue_fault_text (OperatorName l row) = row_text (list_text l) row (codes "operator word")
+catalogue_fault_text (NotAscending l row) = row_text (list_text l) row (codes "names do not ascend")
+catalogue_fault_text (BadIndex l row) = row_text (list_text l) row (codes "index is not the position")
+catalogue_fault_text (TwoSuffixes row) = row_text (codes "licenses") row (codes "two GNU suffixes")
+catalogue_fault_text (EmptyPrefix row) = row_text (codes "imprecise") row (codes "empty prefix")
+catalogue_fault_text (UnlistedTarget row) = row_text (codes "imprecise") row (codes "target is not listed")
 
 -- a field is named by its key
 abbrev pub field_text : Field → List ℕ
@@ -38,4 +38,4 @@ abbrev pub read_text : ReadFault → List ℕ
 read_text read.NotJson = codes "not JSON"
 read_text read.Float = codes "floating-point number"
 read_text (read.Shape field) = codes "bad or missing field " ++ field_text field
-read_text (read.Catalogue fault) = fault_text fault
+read_text (read.Catalogue fault) = catalogue_fault_text fault

@@ -27,13 +27,13 @@ license_row index d =
     option_and_then (λ name. option_and_then (λ full_name. option_map (λ flags. record { name = name; full_name = full_name; index = index; flags = flags })
     (byte_at (codes "flags") d)) (text_at (codes "full_name") d)) (text_at (codes "name") d)
 
-abbrev pub exception_row : ℕ → Data → Option ExceptionRow
-exception_row index d =
+abbrev pub exception_row_at : ℕ → Data → Option ExceptionRow
+exception_row_at index d =
     option_and_then (λ name. option_map (λ flags. record { name = name; index = index; flags = flags })
     (byte_at (codes "flags") d)) (text_at (codes "name") d)
 
-abbrev pub imprecise_row : Data → Option ImpreciseRow
-imprecise_row d = option_and_then (λ prefix. option_map (λ name. record { prefix = prefix; name = name }) (text_at (codes "name") d)) (text_at (codes "prefix") d)
+abbrev pub imprecise_row_at : Data → Option ImpreciseRow
+imprecise_row_at d = option_and_then (λ prefix. option_map (λ name. record { prefix = prefix; name = name }) (text_at (codes "name") d)) (text_at (codes "prefix") d)
 
 -- the rows of a table, from the given index on, if each item is one
 abbrev pub license_rows : ℕ → Items → Option (List LicenseRow)
@@ -42,11 +42,11 @@ license_rows index (item d ds) = option_and_then (λ row. option_map (λ rows. r
 
 abbrev pub exception_rows : ℕ → Items → Option (List ExceptionRow)
 exception_rows index no_items = Some []
-exception_rows index (item d ds) = option_and_then (λ row. option_map (λ rows. row ∷ rows) (exception_rows (suc index) ds)) (exception_row index d)
+exception_rows index (item d ds) = option_and_then (λ row. option_map (λ rows. row ∷ rows) (exception_rows (suc index) ds)) (exception_row_at index d)
 
 abbrev pub imprecise_rows : Items → Option (List ImpreciseRow)
 imprecise_rows no_items = Some []
-imprecise_rows (item d ds) = option_and_then (λ row. option_map (λ rows. row ∷ rows) (imprecise_rows ds)) (imprecise_row d)
+imprecise_rows (item d ds) = option_and_then (λ row. option_map (λ rows. row ∷ rows) (imprecise_rows ds)) (imprecise_row_at d)
 
 abbrev pub licenses_at : Data → Option (List LicenseRow)
 licenses_at d = option_and_then (license_rows 0) (items_at (codes "licenses") d)

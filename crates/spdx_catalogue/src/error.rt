@@ -1,7 +1,7 @@
 // Why a catalogue is refused.
 
 ghost use Rattle.std.specs.Prelude.{Some};
-ghost use Rattle.spdx_catalogue.specs.Faults.{list_text, fault_text, field_text, read_text};
+ghost use Rattle.spdx_catalogue.specs.Faults.{list_text, catalogue_fault_text, field_text, read_text};
 
 use std::alloc::{AllocError, AllocFailed};
 use std::fmt;
@@ -98,7 +98,7 @@ impl fmt::Display for List {
 }
 
 impl fmt::Display for CatalogueError {
-    ghost output = { λ e. Some (fault_text e) };
+    ghost output = { λ e. Some (catalogue_fault_text e) };
 
     fn fmt<W: fmt::Write>(&self, f: &mut fmt::Formatter<W>) -> fmt::Result {
         match self {

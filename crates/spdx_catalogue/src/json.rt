@@ -171,7 +171,7 @@ fn exception_row(
     index: usize,
 ) -> Result<Option<Exception>, AllocError>
     ensures { IfOk result (λ o. option_map exception_of o
-        ≡ shape.exception_row index (view value.now)) }
+        ≡ shape.exception_row_at index (view value.now)) }
 {
     let Some(name) = text_at(value, "name") else {
         return Ok(None);
@@ -201,7 +201,7 @@ fn exception_rows(alloc: Global, items: &Vec<Value>) -> Result<Option<Vec<Except
 }
 
 fn imprecise_row(alloc: Global, value: &Value) -> Result<Option<ImpreciseName>, AllocError>
-    ensures { IfOk result (λ o. option_map imprecise_of o ≡ shape.imprecise_row (view value.now)) }
+    ensures { IfOk result (λ o. option_map imprecise_of o ≡ shape.imprecise_row_at (view value.now)) }
 {
     let Some(prefix) = text_at(value, "prefix") else {
         return Ok(None);

@@ -1,4 +1,4 @@
-// A line of more than 1 MiB.
+// A line of more than 2 MiB.
 
 use crate::devices::{Feed, Tray};
 use crate::shown::Shown;
@@ -6,8 +6,8 @@ use crate::ways::{Judge, Way};
 use spdx_lines::Summary;
 use std::alloc::{AllocError, Global};
 
-// A fourth of 1 MiB.
-const TIMES: u32 = 262_144;
+// A fourth of 2 MiB.
+const TIMES: u32 = 524_288;
 
 // A text of the middle, `TIMES` over, between its front and its back.
 fn repeated(alloc: Global, front: &str, middle: &str, back: &str) -> Result<Vec<u8>, AllocError> {

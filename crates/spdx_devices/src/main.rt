@@ -98,7 +98,7 @@ fn try_all(rt: &HostRuntime, judge: &Judge<'_>) -> io::Result<()> {
     tell(
         rt,
         Way::Run,
-        "a line of more than 1 MiB",
+        "a line of more than 2 MiB",
         long::long_line(judge)?,
     )
 }

@@ -50,9 +50,9 @@ operator run =
     if bytes_eq run (codes "WITH") || bytes_eq run (codes "with") then Some With else None
 
 -- `LicenseRef-y`, or `DocumentRef-x:LicenseRef-y`, for the prefix `LicenseRef-`
-abbrev pub reference_text : List ℕ → Option (List ℕ) → List ℕ → List ℕ
-reference_text prefix None y = prefix ++ y
-reference_text prefix (Some x) y = codes "DocumentRef-" ++ (x ++ (codes ":" ++ (prefix ++ y)))
+abbrev pub reference_run : List ℕ → Option (List ℕ) → List ℕ → List ℕ
+reference_run prefix None y = prefix ++ y
+reference_run prefix (Some x) y = codes "DocumentRef-" ++ (x ++ (codes ":" ++ (prefix ++ y)))
 
 -- the y of the first at the front of the run: the longest front of a name's bytes, perhaps none
 abbrev pub name_behind : List ℕ → List ℕ → Option (List ℕ)
@@ -66,11 +66,11 @@ names_behind prefix run =
 
 -- a reference takes the bytes of its own text, and leaves the rest of the run
 abbrev pub reference : List ℕ → (Option (List ℕ) → List ℕ → Word) → List ℕ → Found
-reference prefix word run = option_map (λ y. (word None y, length (reference_text prefix None y))) (name_behind prefix run)
+reference prefix word run = option_map (λ y. (word None y, length (reference_run prefix None y))) (name_behind prefix run)
 
 -- the same with a document
 abbrev pub document_reference : List ℕ → (Option (List ℕ) → List ℕ → Word) → List ℕ → Found
-document_reference prefix word run = option_map (λ (n : List ℕ × List ℕ). (word (Some n.0) n.1, length (reference_text prefix (Some n.0) n.1))) (names_behind prefix run)
+document_reference prefix word run = option_map (λ (n : List ℕ × List ℕ). (word (Some n.0) n.1, length (reference_run prefix (Some n.0) n.1))) (names_behind prefix run)
 
 -- ---- the rules together
 

@@ -1,5 +1,5 @@
 -- What a token and a fault are, apart from what they borrow.
-use Rattle.std.specs.Prelude.{ℕ, List, Option, Result, ◌+◌}
+use Rattle.std.specs.Prelude.{ℕ, List, Option, Result, map, ◌+◌}
 use Rattle.spdx_catalogue.specs.Rows.{LicenseRow, ExceptionRow}
 
 -- a reference has the name of its document, if it has one, and its own
@@ -39,6 +39,14 @@ pub record Span : Type 0 where
 -- so many bytes from a place on
 abbrev pub span : ℕ → ℕ → Span
 span from len = record { from = from; to = from + len }
+
+-- a word and where it stands
+abbrev pub Placed : Type 0
+Placed = Word × Span
+
+-- the words without their places
+abbrev pub words : List Placed → List Word
+words read = map (λ (p : Placed). p.0) read
 
 -- a word or a fault, and where it stands
 abbrev pub Item : Type 0

@@ -3,7 +3,7 @@ use Rattle.std.proofs.Common.{◌≡◌, arith, add-zero, zero-add, map, ℕ, Bo
 use Rattle.std.proofs.lemmas.Bool.{false≢true}
 use Rattle.spdx_catalogue.specs.Rows.{Rows}
 use Rattle.spdx_catalogue.specs.Items.{Licence, Addition, added, Requirement, requirement_of}
-use Rattle.spdx_lexer.specs.Words.{Word, LicenseRef, AdditionRef, With, Fault, Unexpected, Span, Item}
+use Rattle.spdx_lexer.specs.Words.{Word, LicenseRef, AdditionRef, With, Fault, Unexpected, Span, Item, Placed, words}
 use Rattle.spdx_lexer.specs.Modes.{strict}
 use Rattle.spdx_lexer.specs.Reading.{reading}
 use Rattle.spdx_lexer.specs.Laid.{IsPlace, place_of}
@@ -16,7 +16,7 @@ use Rattle.spdx_catalogue.specs.declared.error.Failure.TheVariants.{Refused, Mem
 use Rattle.spdx_lexer.specs.declared.error.ParseError.{ParseError}
 use Rattle.spdx_lexer.specs.Faults.{fault_of}
 use Rattle.spdx_lexer.specs.Code.{span_of}
-use Rattle.spdx_licensee.specs.Named.{license_named, addition_named, licensee_named, Begins, Placed, words, word_fault, end_fault, Names, NamesNone, IsFaultOf, at_word, at_place, at_end}
+use Rattle.spdx_licensee.specs.Named.{license_named, addition_named, licensee_named, Begins, licensee_word_fault, licensee_end_fault, Names, NamesNone, IsLicenseeFault, at_word, at_place, at_end}
 use Rattle.spdx_catalogue.specs.Failures.{IfRefused}
 use Rattle.spdx_licensee.specs.Answers.{Gives, and_then, is_with, behind_addition, behind_with, behind_license, licensee_at}
 
@@ -74,72 +74,72 @@ with_is q h = go q.0 h
 
 fault_behind_addition : (c : Rows) (text : List ℕ) (p a : Placed) (s : Span) (l : Licence) (ad : Addition) (more : List Item)
     → reading c strict 0 text ≡ Ok p ∷ Ok (With, s) ∷ Ok a ∷ more → license_named p.0 ≡ Some l → addition_named a.0 ≡ Some ad
-    → (e : Fault × Span) → behind_addition l ad more ≡ Err e → IsFaultOf c text e.0 e.1
+    → (e : Fault × Span) → behind_addition l ad more ≡ Err e → IsLicenseeFault c text e.0 e.1
 fault_behind_addition c text p a s l ad [] r n m e h = cc h
 fault_behind_addition c text p a s l ad (Err x ∷ more) r n m e h =
     let same : x ≡ e = cc h in
-    subst (λ (y : Fault × Span). IsFaultOf c text y.0 y.1) same (at_place (p ∷ (With, s) ∷ a ∷ []) more r (begins_addition p.0 a.0 l ad n m))
+    subst (λ (y : Fault × Span). IsLicenseeFault c text y.0 y.1) same (at_place (p ∷ (With, s) ∷ a ∷ []) more r (begins_addition p.0 a.0 l ad n m))
 fault_behind_addition c text p a s l ad (Ok b ∷ more) r n m e h =
     let same : ◌≡◌ {A = Fault × Span} (Unexpected [], b.1) e = cc h in
-    subst (λ (y : Fault × Span). IsFaultOf c text y.0 y.1) same
+    subst (λ (y : Fault × Span). IsLicenseeFault c text y.0 y.1) same
     (at_word (p ∷ (With, s) ∷ a ∷ []) b.0 more r (begins_addition p.0 a.0 l ad n m) (λ (ws, req, k). no_fourth p.0 With a.0 b.0 ws req k))
 
 fault_behind_with : (c : Rows) (text : List ℕ) (p : Placed) (s : Span) (l : Licence) (more : List Item)
     → reading c strict 0 text ≡ Ok p ∷ Ok (With, s) ∷ more → license_named p.0 ≡ Some l
     → (e : Fault × Span)
     → behind_with (length text) l more ≡ Err e
-    → IsFaultOf c text e.0 e.1
+    → IsLicenseeFault c text e.0 e.1
 fault_behind_with c text p s l [] r n e h =
-    let same : end_fault (length text) (p.0 ∷ With ∷ []) ≡ e = cc h in
-    subst (λ (y : Fault × Span). IsFaultOf c text y.0 y.1) same (at_end (p ∷ (With, s) ∷ []) r (begins_with p.0 l n) refl)
+    let same : licensee_end_fault (length text) (p.0 ∷ With ∷ []) ≡ e = cc h in
+    subst (λ (y : Fault × Span). IsLicenseeFault c text y.0 y.1) same (at_end (p ∷ (With, s) ∷ []) r (begins_with p.0 l n) refl)
 fault_behind_with c text p s l (Err x ∷ more) r n e h =
     let same : x ≡ e = cc h in
-    subst (λ (y : Fault × Span). IsFaultOf c text y.0 y.1) same (at_place (p ∷ (With, s) ∷ []) more r (begins_with p.0 l n))
+    subst (λ (y : Fault × Span). IsLicenseeFault c text y.0 y.1) same (at_place (p ∷ (With, s) ∷ []) more r (begins_with p.0 l n))
 fault_behind_with c text p s l (Ok a ∷ more) r n e h = go (addition_named a.0) refl h
   where
     go : (o : Option Addition) → addition_named a.0 ≡ o
         → and_then (ok_or o (Unexpected (codes "<addition>" ∷ []), a.1)) (λ ad. behind_addition l ad more) ≡ Err e
-        → IsFaultOf c text e.0 e.1
+        → IsLicenseeFault c text e.0 e.1
     go None m k =
         let same : ◌≡◌ {A = Fault × Span} (Unexpected (codes "<addition>" ∷ []), a.1) e = cc k in
-        subst (λ (y : Fault × Span). IsFaultOf c text y.0 y.1) same
+        subst (λ (y : Fault × Span). IsLicenseeFault c text y.0 y.1) same
         (at_word (p ∷ (With, s) ∷ []) a.0 more r (begins_with p.0 l n) (λ (ws, req, named). no_third p.0 With a.0 ws req m named))
     go (Some ad) m k = fault_behind_addition c text p a s l ad more r n m e k
 
 fault_behind_license : (c : Rows) (text : List ℕ) (p : Placed) (l : Licence) (more : List Item)
     → reading c strict 0 text ≡ Ok p ∷ more → license_named p.0 ≡ Some l
-    → (e : Fault × Span) → behind_license (length text) l more ≡ Err e → IsFaultOf c text e.0 e.1
+    → (e : Fault × Span) → behind_license (length text) l more ≡ Err e → IsLicenseeFault c text e.0 e.1
 fault_behind_license c text p l [] r n e h = cc h
 fault_behind_license c text p l (Err x ∷ more) r n e h =
     let same : x ≡ e = cc h in
-    subst (λ (y : Fault × Span). IsFaultOf c text y.0 y.1) same (at_place (p ∷ []) more r (begins_license p.0 l n))
+    subst (λ (y : Fault × Span). IsLicenseeFault c text y.0 y.1) same (at_place (p ∷ []) more r (begins_license p.0 l n))
 fault_behind_license c text p l (Ok q ∷ more) r n e h = go (is_with q.0) refl h
   where
     go : (b : Bool) → is_with q.0 ≡ b
         → and_then {A = Unit {0}} (if b then Ok tt else Err (Unexpected (codes "WITH" ∷ []), q.1)) (λ _. behind_with (length text) l more) ≡ Err e
-        → IsFaultOf c text e.0 e.1
+        → IsLicenseeFault c text e.0 e.1
     go false m k =
         let same : ◌≡◌ {A = Fault × Span} (Unexpected (codes "WITH" ∷ []), q.1) e = cc k in
-        subst (λ (y : Fault × Span). IsFaultOf c text y.0 y.1) same
+        subst (λ (y : Fault × Span). IsLicenseeFault c text y.0 y.1) same
         (at_word (p ∷ []) q.0 more r (begins_license p.0 l n) (λ (ws, req, named). false≢true (sym m ∙ no_second p.0 q.0 ws req named)))
     go true m k = fault_behind_with c text p q.1 l more (r ∙ ap (λ (x : Placed). Ok p ∷ Ok x ∷ more) (with_is q m)) n e k
 
 pub fault_found : (c : Rows) (text : List ℕ) (items : List Item) → reading c strict 0 text ≡ items
-    → (e : Fault × Span) → licensee_at (length text) items ≡ Err e → IsFaultOf c text e.0 e.1
+    → (e : Fault × Span) → licensee_at (length text) items ≡ Err e → IsLicenseeFault c text e.0 e.1
 fault_found c text [] r e h =
-    let same : end_fault (length text) [] ≡ e = cc h in
-    subst (λ (y : Fault × Span). IsFaultOf c text y.0 y.1) same (at_end [] r begins_nothing refl)
+    let same : licensee_end_fault (length text) [] ≡ e = cc h in
+    subst (λ (y : Fault × Span). IsLicenseeFault c text y.0 y.1) same (at_end [] r begins_nothing refl)
 fault_found c text (Err x ∷ more) r e h =
     let same : x ≡ e = cc h in
-    subst (λ (y : Fault × Span). IsFaultOf c text y.0 y.1) same (at_place [] more r begins_nothing)
+    subst (λ (y : Fault × Span). IsLicenseeFault c text y.0 y.1) same (at_place [] more r begins_nothing)
 fault_found c text (Ok p ∷ more) r e h = go (license_named p.0) refl h
   where
     go : (o : Option Licence) → license_named p.0 ≡ o
-        → and_then (ok_or o (word_fault [] p.0, p.1)) (λ l. behind_license (length text) l more) ≡ Err e
-        → IsFaultOf c text e.0 e.1
+        → and_then (ok_or o (licensee_word_fault [] p.0, p.1)) (λ l. behind_license (length text) l more) ≡ Err e
+        → IsLicenseeFault c text e.0 e.1
     go None m k =
-        let same : ◌≡◌ {A = Fault × Span} (word_fault [] p.0, p.1) e = cc k in
-        subst (λ (y : Fault × Span). IsFaultOf c text y.0 y.1) same
+        let same : ◌≡◌ {A = Fault × Span} (licensee_word_fault [] p.0, p.1) e = cc k in
+        subst (λ (y : Fault × Span). IsLicenseeFault c text y.0 y.1) same
         (at_word [] p.0 more r begins_nothing (λ (ws, req, named). no_first p.0 ws req m named))
     go (Some l) m k = fault_behind_license c text p l more r m e k
 
@@ -187,7 +187,7 @@ licensee_found c text (Err x ∷ more) r req h = cc h
 licensee_found c text (Ok p ∷ more) r req h = go (license_named p.0) refl h
   where
     go : (o : Option Licence) → license_named p.0 ≡ o
-        → and_then (ok_or o (word_fault [] p.0, p.1)) (λ l. behind_license (length text) l more) ≡ Ok req → Names c text req
+        → and_then (ok_or o (licensee_word_fault [] p.0, p.1)) (λ l. behind_license (length text) l more) ≡ Ok req → Names c text req
     go None m k = cc k
     go (Some l) m k = named_behind_license c text p l more r m req k
 
@@ -195,7 +195,7 @@ licensee_found c text (Ok p ∷ more) r req h = go (license_named p.0) refl h
 
 pub gives_fault : (c : Rows) (text : List ℕ) (takes : Bool) (result : Result LicenseReq (Failure ParseError))
     → Gives requirement_of text takes (licensee_at (length text) (reading c strict 0 text)) result
-    → IfErr result (IfRefused (λ e. IsFaultOf c text (fault_of e.reason) (span_of e.span)))
+    → IfErr result (IfRefused (λ e. IsLicenseeFault c text (fault_of e.reason) (span_of e.span)))
 gives_fault c text takes (Ok req) h = tt
 gives_fault c text takes (Err (Refused e)) h = fault_found c text (reading c strict 0 text) refl (fault_of e.reason, span_of e.span) h.0
 gives_fault c text takes (Err (Memory m)) h = tt
@@ -212,7 +212,7 @@ one_found : (len : ℕ) (p : Placed) (req : Requirement) → licensee_named (p.0
 one_found len p req h = go (license_named p.0) h
   where
     go : (o : Option Licence) → option_map (λ l. record { licence = l; addition = None }) o ≡ Some req
-        → and_then (ok_or o (word_fault [] p.0, p.1)) (λ l. behind_license len l []) ≡ Ok req
+        → and_then (ok_or o (licensee_word_fault [] p.0, p.1)) (λ l. behind_license len l []) ≡ Ok req
     go None k = cc k
     go (Some l) k =
         let same : record { licence = l; addition = None } ≡ req = cc k in
@@ -222,12 +222,12 @@ joined : Licence → Addition → Requirement
 joined l a = record { licence = l; addition = Some a }
 
 three_found : (len : ℕ) (p a : Placed) (req : Requirement) → licensee_named (p.0 ∷ With ∷ a.0 ∷ []) ≡ Some req
-    → and_then (ok_or (license_named p.0) (word_fault [] p.0, p.1)) (λ l. behind_with len l (Ok a ∷ [])) ≡ Ok req
+    → and_then (ok_or (license_named p.0) (licensee_word_fault [] p.0, p.1)) (λ l. behind_with len l (Ok a ∷ [])) ≡ Ok req
 unfolding joined
 three_found len p a req h = go (license_named p.0) (addition_named a.0) h
   where
     go : (o : Option Licence) (q : Option Addition) → option_and_then (λ l. option_map (λ d. joined l d) q) o ≡ Some req
-        → and_then (ok_or o (word_fault [] p.0, p.1)) (λ l. and_then (ok_or q (Unexpected (codes "<addition>" ∷ []), a.1)) (λ d. behind_addition l d [])) ≡ Ok req
+        → and_then (ok_or o (licensee_word_fault [] p.0, p.1)) (λ l. and_then (ok_or q (Unexpected (codes "<addition>" ∷ []), a.1)) (λ d. behind_addition l d [])) ≡ Ok req
     go None q k = cc k
     go (Some l) None k = cc k
     go (Some l) (Some d) k =
@@ -235,7 +235,7 @@ three_found len p a req h = go (license_named p.0) (addition_named a.0) h
         ap Ok same
 
 behind_first : (len : ℕ) (p q : Placed) (more : List Placed) (req : Requirement) → licensee_named (p.0 ∷ With ∷ words more) ≡ Some req
-    → and_then (ok_or (license_named p.0) (word_fault [] p.0, p.1)) (λ l. behind_with len l (map Ok more)) ≡ Ok req
+    → and_then (ok_or (license_named p.0) (licensee_word_fault [] p.0, p.1)) (λ l. behind_with len l (map Ok more)) ≡ Ok req
 behind_first len p q [] req h = cc h
 behind_first len p q (a ∷ []) req h = three_found len p a req h
 behind_first len p q (a ∷ b ∷ more) req h = cc h
@@ -261,7 +261,7 @@ gives_none c text takes (Err (Memory m)) h = tt
 -- ---- where a fault stands
 
 pub fault_place : (c : Rows) (text : List ℕ) → IsCharBoundary text 0 → IsCharBoundary text (length text)
-    → All (λ i. IsPlace text (place_of i)) (reading c strict 0 text) → (f : Fault) (s : Span) → IsFaultOf c text f s → IsPlace text s
+    → All (λ i. IsPlace text (place_of i)) (reading c strict 0 text) → (f : Fault) (s : Span) → IsLicenseeFault c text f s → IsPlace text s
 fault_place c text start end all f s (at_word read w {s = t} more r b nb) = place_among text read (Ok (w, t)) more (subst (All (λ i. IsPlace text (place_of i))) r all)
 fault_place c text start end all f s (at_place read {f = g} {s = t} more r b) = place_among text read (Err (g, t)) more (subst (All (λ i. IsPlace text (place_of i))) r all)
 fault_place c text start end all f s (at_end [] r b n) = (omega arith, (start, rw zero-add end))

@@ -7,12 +7,12 @@ use Rattle.spdx_lexer.specs.declared.error.ParseError.{ParseError}
 use Rattle.spdx_lexer.specs.Words.{Word, With, Fault, Unexpected, Span, span, Item}
 use Rattle.spdx_lexer.specs.Faults.{fault_of}
 use Rattle.spdx_lexer.specs.Code.{span_of}
-use Rattle.spdx_licensee.specs.Named.{license_named, addition_named, word_fault, end_fault, item_is_reference}
+use Rattle.spdx_licensee.specs.Named.{license_named, addition_named, licensee_word_fault, licensee_end_fault, item_is_reference}
 
 -- it is no want of memory
-abbrev pub IsRefusal : {E : Type 0} → Failure E → Type 0
-IsRefusal (Refused e) = Unit {0}
-IsRefusal (Memory m) = ⊥
+abbrev pub TellsAFault : {E : Type 0} → Failure E → Type 0
+TellsAFault (Refused e) = Unit {0}
+TellsAFault (Memory m) = ⊥
 
 -- a value, or a fault and where it stands
 abbrev pub Answer : Type 0 → Type 0
@@ -31,9 +31,9 @@ starts_reference (Some item) = item_is_reference item
 
 -- the licence that the first item is, of a text of so many bytes
 abbrev pub license_at : ℕ → Option Item → Answer Licence
-license_at len None = Err (end_fault len [])
+license_at len None = Err (licensee_end_fault len [])
 license_at len (Some (Err fault)) = Err fault
-license_at len (Some (Ok placed)) = ok_or (license_named placed.0) (word_fault [] placed.0, placed.1)
+license_at len (Some (Ok placed)) = ok_or (license_named placed.0) (licensee_word_fault [] placed.0, placed.1)
 
 -- behind a licence
 abbrev pub is_with : Word → Bool

@@ -4,7 +4,7 @@ use Rattle.std.specs.List.{list_any}
 use Rattle.spdx_catalogue.specs.Rows.{Rows}
 use Rattle.spdx_catalogue.specs.Flags.{is_deprecated}
 use Rattle.spdx_catalogue.specs.Items.{Licence, listed, referred, Addition, excepted, added, Requirement}
-use Rattle.spdx_lexer.specs.Words.{Word, Spdx, LicenseRef, Exception, AdditionRef, With, Fault, Empty, Unexpected, DeprecatedLicenseId, Span, span, Item}
+use Rattle.spdx_lexer.specs.Words.{Word, Spdx, LicenseRef, Exception, AdditionRef, With, Fault, Empty, Unexpected, DeprecatedLicenseId, Span, span, Item, Placed, words}
 use Rattle.spdx_lexer.specs.Modes.{strict}
 use Rattle.spdx_lexer.specs.Reading.{reading}
 
@@ -31,25 +31,18 @@ licensee_named ws = None
 abbrev pub Begins : List Word → Type 0
 Begins ws = (more : List Word) × (req : Requirement) × (licensee_named (ws ++ more) ≡ Some req)
 
--- a word and where it stands
-abbrev pub Placed : Type 0
-Placed = Word × Span
-
-abbrev pub words : List Placed → List Word
-words read = map (λ (p : Placed). p.0) read
-
 -- the fault of a word behind others with which no licensee goes on
-abbrev pub word_fault : List Word → Word → Fault
-word_fault [] (Spdx row) = DeprecatedLicenseId
-word_fault [] w = Unexpected (codes "<license>" ∷ [])
-word_fault (l ∷ []) w = Unexpected (codes "WITH" ∷ [])
-word_fault (l ∷ joiner ∷ []) w = Unexpected (codes "<addition>" ∷ [])
-word_fault (l ∷ joiner ∷ a ∷ ws) w = Unexpected []
+abbrev pub licensee_word_fault : List Word → Word → Fault
+licensee_word_fault [] (Spdx row) = DeprecatedLicenseId
+licensee_word_fault [] w = Unexpected (codes "<license>" ∷ [])
+licensee_word_fault (l ∷ []) w = Unexpected (codes "WITH" ∷ [])
+licensee_word_fault (l ∷ joiner ∷ []) w = Unexpected (codes "<addition>" ∷ [])
+licensee_word_fault (l ∷ joiner ∷ a ∷ ws) w = Unexpected []
 
 -- the fault of a text of so many bytes that ends behind these words, and where it stands
-abbrev pub end_fault : ℕ → List Word → Fault × Span
-end_fault len [] = (Empty, span 0 len)
-end_fault len (l ∷ ws) = (Unexpected (codes "<addition>" ∷ []), span len 0)
+abbrev pub licensee_end_fault : ℕ → List Word → Fault × Span
+licensee_end_fault len [] = (Empty, span 0 len)
+licensee_end_fault len (l ∷ ws) = (Unexpected (codes "<addition>" ∷ []), span len 0)
 
 -- the text reads, in the strict form, as the words of a licensee
 abbrev pub Names : Rows → List ℕ → Requirement → Type 0
@@ -61,13 +54,13 @@ NamesNone c text = (req : Requirement) → Names c text req → ⊥
 
 -- The fault of a text: that of the first word with which no licensee goes on; where there is none, that of the
 -- first place that is no word; where there is none, that of the end.
-pub data IsFaultOf (c : Rows) (text : List ℕ) : Fault → Span → Type 0 where
+pub data IsLicenseeFault (c : Rows) (text : List ℕ) : Fault → Span → Type 0 where
   at_word : (read : List Placed) (w : Word) {s : Span} (more : List Item) → reading c strict 0 text ≡ map Ok read ++ Ok (w, s) ∷ more
-      → Begins (words read) → (Begins (words read ++ w ∷ []) → ⊥) → IsFaultOf c text (word_fault (words read) w) s
+      → Begins (words read) → (Begins (words read ++ w ∷ []) → ⊥) → IsLicenseeFault c text (licensee_word_fault (words read) w) s
   at_place : (read : List Placed) {f : Fault} {s : Span} (more : List Item) → reading c strict 0 text ≡ map Ok read ++ Err (f, s) ∷ more
-      → Begins (words read) → IsFaultOf c text f s
+      → Begins (words read) → IsLicenseeFault c text f s
   at_end : (read : List Placed) → reading c strict 0 text ≡ map Ok read
-      → Begins (words read) → licensee_named (words read) ≡ None → IsFaultOf c text (end_fault (length text) (words read)).0 (end_fault (length text) (words read)).1
+      → Begins (words read) → licensee_named (words read) ≡ None → IsLicenseeFault c text (licensee_end_fault (length text) (words read)).0 (licensee_end_fault (length text) (words read)).1
 
 abbrev pub is_reference : Word → Bool
 is_reference (LicenseRef document name) = true

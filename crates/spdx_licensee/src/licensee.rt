@@ -12,9 +12,9 @@ ghost use Rattle.spdx_lexer.specs.Faults.{fault_of};
 ghost use Rattle.spdx_lexer.specs.Code.{span_of};
 ghost use Rattle.spdx_lexer.specs.Laid.{IsPlace};
 ghost use Rattle.spdx_licensee.specs.Alike.{same_additions};
-ghost use Rattle.spdx_licensee.specs.Named.{Names, NamesNone, IsFaultOf, has_reference};
+ghost use Rattle.spdx_licensee.specs.Named.{Names, NamesNone, IsLicenseeFault, has_reference};
 ghost use Rattle.spdx_catalogue.specs.Failures.{IfRefused};
-ghost use Rattle.spdx_licensee.specs.Answers.{IsRefusal};
+ghost use Rattle.spdx_licensee.specs.Answers.{TellsAFault};
 ghost use Rattle.spdx_licensee.specs.Satisfies as spec;
 
 use crate::reading::read_requirement;
@@ -56,11 +56,11 @@ impl<'c> Licensee<'c> {
     ) -> Result<Licensee<'c>, Failure<ParseError<'t>>>
         ensures ok { IfOk result (λ licensee. Names cat.now text.now licensee) }
         ensures err { IfErr result (IfRefused (λ e.
-            IsFaultOf cat.now text.now (fault_of e.reason) (span_of e.span))) }
+            IsLicenseeFault cat.now text.now (fault_of e.reason) (span_of e.span))) }
         ensures none { IfErr result (IfRefused (λ _. NamesNone cat.now text.now)) }
         ensures original { IfErr result (IfRefused (λ e. e.original.now ≡ text.now)) }
         ensures place { IfErr result (IfRefused (λ e. IsPlace text.now (span_of e.span))) }
-        ensures memory { has_reference cat.now text.now ≡ false → IfErr result IsRefusal }
+        ensures memory { has_reference cat.now text.now ≡ false → IfErr result TellsAFault }
     {
         let mut lexer = Lexer::new(cat, text);
         Ok(Licensee {

@@ -8,9 +8,9 @@ ghost use Rattle.spdx_lexer.specs.Words.{Unexpected};
 ghost use Rattle.spdx_lexer.specs.Faults.{fault_of};
 ghost use Rattle.spdx_lexer.specs.Left.{items_left};
 ghost use Rattle.spdx_lexer.specs.Code.{word_of, item_of, span_of};
-ghost use Rattle.spdx_licensee.specs.Named.{license_named, addition_named, is_reference, item_is_reference, word_fault};
+ghost use Rattle.spdx_licensee.specs.Named.{license_named, addition_named, is_reference, item_is_reference, licensee_word_fault};
 ghost use Rattle.spdx_catalogue.specs.Failures.{IfRefused};
-ghost use Rattle.spdx_licensee.specs.Answers.{IsRefusal, Gives, license_at, with_at, addition_at, end_at, starts_reference, licensee_at};
+ghost use Rattle.spdx_licensee.specs.Answers.{TellsAFault, Gives, license_at, with_at, addition_at, end_at, starts_reference, licensee_at};
 
 use spdx_catalogue::{AdditionItem, AdditionRef, LicenseItem, LicenseRef, LicenseReq};
 use spdx_lexer::{Failure, Lexer, LexerToken, ParseError, Reason, Token};
@@ -25,7 +25,7 @@ fn refused<'t>(text: &'t str, span: Range<usize>, reason: Reason) -> Failure<Par
     ensures fault { IfRefused (λ e.
         (fault_of e.reason ≡ fault_of reason) × (span_of e.span ≡ span_of span)
         × (e.original.now ≡ text.now)) result }
-    ensures refusal { IsRefusal result }
+    ensures refusal { TellsAFault result }
 {
     Failure::Refused(ParseError {
         original: text,
@@ -98,7 +98,7 @@ fn addition_named<'c>(
 
 // Why a token is no licence.
 fn license_fault(token: Token<'_, '_>) -> Reason
-    ensures { fault_of result ≡ word_fault [] (word_of token.entry) }
+    ensures { fault_of result ≡ licensee_word_fault [] (word_of token.entry) }
 {
     match token {
         Token::Spdx(_) => Reason::DeprecatedLicenseId,

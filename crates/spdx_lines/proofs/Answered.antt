@@ -3,11 +3,10 @@ use Rattle.std.proofs.Common.{◌≡◌, ℕ, true, false, List, [], ◌∷◌, 
 use Rattle.std.specs.Prelude.{IsUtf8}
 use Rattle.spdx_catalogue.specs.Rows.{Rows}
 use Rattle.spdx_lexer.specs.declared.token.ParseMode.{ParseMode}
-use Rattle.spdx_lexer.specs.Words.{Fault, Span}
+use Rattle.spdx_lexer.specs.Words.{Fault, Span, Placed, words}
 use Rattle.spdx_lexer.specs.Reading.{reading}
 use Rattle.spdx_parser.specs.Tree.{Tree}
 use Rattle.spdx_parser.specs.Grammar.{IsTheTree}
-use Rattle.spdx_parser.specs.Spans.{Placed, words}
 use Rattle.spdx_parser.specs.Faults.{IsFaultOf}
 use Rattle.spdx_parser.specs.Parsed.{IsOfRows}
 use Rattle.spdx_canonical.specs.Canonical.{canonical_of}

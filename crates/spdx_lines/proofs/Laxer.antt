@@ -4,7 +4,7 @@ use Rattle.std.specs.Prelude.{option_map, ok_or}
 use Rattle.std.proofs.lemmas.Bool.Decides.{nat_tests}
 use Rattle.spdx_catalogue.specs.Rows.{Rows}
 use Rattle.spdx_lexer.specs.Modes.{strict, lax}
-use Rattle.spdx_lexer.specs.Words.{Word, Plus, OpenParen, CloseParen, Or, Fault, UnknownTerm, Span, span, Item}
+use Rattle.spdx_lexer.specs.Words.{Word, Plus, OpenParen, CloseParen, Or, Fault, UnknownTerm, Span, span, Item, Placed, words}
 use Rattle.spdx_lexer.specs.Text.{run_at, white}
 use Rattle.spdx_lexer.specs.Lexeme.{Found, first_of, rules, lexeme_of, lexeme}
 use Rattle.spdx_lexer.specs.Groups.{exact, referred, caseless, imprecise, unknown}
@@ -12,7 +12,6 @@ use Rattle.spdx_lexer.proofs.Table.{rules_grouped}
 use Rattle.spdx_lexer.specs.Reading.{go_on, behind, items, reading, said, Spells}
 use Rattle.spdx_parser.specs.Tree.{Tree}
 use Rattle.spdx_parser.specs.Grammar.{Derives}
-use Rattle.spdx_parser.specs.Spans.{Placed, words}
 use Rattle.spdx_canonical.specs.Canonical.{canonical_text, canonical_of}
 use Rattle.spdx_canonical.proofs.Neighbours.{apart}
 use Rattle.spdx_canonical.proofs.Sound.{has_text}

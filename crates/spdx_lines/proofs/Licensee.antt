@@ -3,10 +3,10 @@ use Rattle.std.proofs.Common.{◌≡◌, ℕ, Bool, false, cond, List, [], ◌�
 use Rattle.std.specs.Prelude.{option_map, option_and_then, ok_or, MatchResult}
 use Rattle.spdx_catalogue.specs.Rows.{Rows}
 use Rattle.spdx_catalogue.specs.Items.{Reference, Licence, Addition, added, Requirement}
-use Rattle.spdx_lexer.specs.Words.{Word, AdditionRef, With, Fault, Unexpected, Span, Item}
+use Rattle.spdx_lexer.specs.Words.{Word, AdditionRef, With, Fault, Unexpected, Span, Item, Placed, words}
 use Rattle.spdx_lexer.specs.Modes.{strict}
 use Rattle.spdx_lexer.specs.Reading.{reading}
-use Rattle.spdx_licensee.specs.Named.{license_named, addition_named, licensee_named, Begins, Placed, words, word_fault, end_fault, Names, IsFaultOf, at_word, at_place, at_end}
+use Rattle.spdx_licensee.specs.Named.{license_named, addition_named, licensee_named, Begins, licensee_word_fault, licensee_end_fault, Names, IsLicenseeFault, at_word, at_place, at_end}
 use Rattle.spdx_licensee.specs.Answers.{Answer, and_then, is_with, behind_addition, behind_with, behind_license, licensee_at}
 use Rattle.spdx_licensee.proofs.Theorem.{licensee_found, fault_found}
 use Rattle.spdx_lines.specs.Program.{licensee_of, IsTheLicensee}
@@ -45,13 +45,13 @@ shape (w ∷ v ∷ ws) req h = absurd cc
 -- ---- one word more
 
 license_step : (len : ℕ) (w : Word) (s : Span) (l : Licence) (more : List Item) → license_named w ≡ Some l → licensee_at len (Ok (w, s) ∷ more) ≡ behind_license len l more
-license_step len w s l more e = ap (λ (o : Option Licence). and_then (ok_or o (word_fault [] w, s)) (λ x. behind_license len x more)) e
+license_step len w s l more e = ap (λ (o : Option Licence). and_then (ok_or o (licensee_word_fault [] w, s)) (λ x. behind_license len x more)) e
 
 addition_step : (len : ℕ) (l : Licence) (a : Word) (s : Span) (ad : Addition) (more : List Item) → addition_named a ≡ Some ad → behind_with len l (Ok (a, s) ∷ more) ≡ behind_addition l ad more
 addition_step len l a s ad more e = ap (λ (o : Option Addition). and_then (ok_or o (Unexpected (codes "<addition>" ∷ []), s)) (λ x. behind_addition l x more)) e
 
-no_license : (len : ℕ) (w : Word) (s : Span) (more : List Item) → license_named w ≡ None → licensee_at len (Ok (w, s) ∷ more) ≡ Err (word_fault [] w, s)
-no_license len w s more e = ap (λ (o : Option Licence). and_then (ok_or o (word_fault [] w, s)) (λ x. behind_license len x more)) e
+no_license : (len : ℕ) (w : Word) (s : Span) (more : List Item) → license_named w ≡ None → licensee_at len (Ok (w, s) ∷ more) ≡ Err (licensee_word_fault [] w, s)
+no_license len w s more e = ap (λ (o : Option Licence). and_then (ok_or o (licensee_word_fault [] w, s)) (λ x. behind_license len x more)) e
 
 no_with : (len : ℕ) (l : Licence) (w : Word) (s : Span) (more : List Item) → is_with w ≡ false → behind_license len l (Ok (w, s) ∷ more) ≡ Err (Unexpected (codes "WITH" ∷ []), s)
 no_with len l w s more e = ap (λ (b : Bool). and_then {A = Unit {0}} (cond b (Ok tt) (Err (Unexpected (codes "WITH" ∷ []), s))) (λ _. behind_with len l more)) e
@@ -116,7 +116,7 @@ fault_from len (license l) fault more = refl
 fault_from len (with l) fault more = refl
 fault_from len (all l ad) fault more = refl
 
-end_from : (len : ℕ) (ws : List Word) (b : Behind) → At ws b → licensee_named ws ≡ None → from len b [] ≡ Err (end_fault len ws)
+end_from : (len : ℕ) (ws : List Word) (b : Behind) → At ws b → licensee_named ws ≡ None → from len b [] ≡ Err (licensee_end_fault len ws)
 end_from len _ _ at_start h = refl
 end_from len _ _ (at_license {w = w} {l = l} e) h = let some : option_map alone (Some l) ≡ None = sym (ap (option_map alone) e) ∙ h in absurd cc
 end_from len _ _ (at_with e) h = refl
@@ -138,7 +138,7 @@ none_with w With l e h =
     absurd (h (AdditionRef None [] ∷ [], joined l (added other), ap (λ o. named_by o (Some (added other))) e))
 none_with w v l e h = refl
 
-word_from : (len : ℕ) (ws : List Word) (b : Behind) (w : Word) (s : Span) (more : List Item) → At ws b → (Begins (ws ++ w ∷ []) → ⊥) → from len b (Ok (w, s) ∷ more) ≡ Err (word_fault ws w, s)
+word_from : (len : ℕ) (ws : List Word) (b : Behind) (w : Word) (s : Span) (more : List Item) → At ws b → (Begins (ws ++ w ∷ []) → ⊥) → from len b (Ok (w, s) ∷ more) ≡ Err (licensee_word_fault ws w, s)
 word_from len _ _ w s more at_start h = no_license len w s more (none_license w (license_named w) refl h)
 word_from len _ _ w s more (at_license {w = v} {l = l} e) h = no_with len l w s more (none_with v w l e h)
 word_from len _ _ w s more (at_with {w = v} {l = l} e) h = no_addition len l w s more (none_addition v w l (addition_named w) e refl h)
@@ -152,7 +152,7 @@ module _ (c : Rows) (text : List ℕ) where
   only_licensee : (req : Requirement) → Names c text req → licensee_of c text ≡ Ok req
   only_licensee req h = found_by (map Ok h.0) h.1 ∙ shape_found (length text) h.0 req (shape (words h.0) req h.2)
 
-  only_fault : (fault : Fault) (s : Span) → IsFaultOf c text fault s → licensee_of c text ≡ Err (fault, s)
+  only_fault : (fault : Fault) (s : Span) → IsLicenseeFault c text fault s → licensee_of c text ≡ Err (fault, s)
   only_fault _ _ (at_word read w {s = s} more r begins not) =
       let k = place (words read) begins in
       found_by (map Ok read ++ Ok (w, s) ∷ more) r ∙ passes (length text) read (Ok (w, s) ∷ more) k.0 k.1 ∙ word_from (length text) (words read) k.0 w s more k.1 not
@@ -163,11 +163,11 @@ module _ (c : Rows) (text : List ℕ) where
       let k = place (words read) begins in
       found_by (map Ok read ++ []) (r ∙ sym (append-nil (map Ok read))) ∙ passes (length text) read [] k.0 k.1 ∙ end_from (length text) (words read) k.0 k.1 none
 
-  given_by : (r : Result Requirement (Fault × Span)) → licensee_at (length text) (reading c strict 0 text) ≡ r → MatchResult r (Names c text) (λ fault. IsFaultOf c text fault.0 fault.1)
+  given_by : (r : Result Requirement (Fault × Span)) → licensee_at (length text) (reading c strict 0 text) ≡ r → MatchResult r (Names c text) (λ fault. IsLicenseeFault c text fault.0 fault.1)
   given_by (Ok req) e = licensee_found c text (reading c strict 0 text) refl req e
   given_by (Err fault) e = fault_found c text (reading c strict 0 text) refl fault e
 
-  given : MatchResult (licensee_of c text) (Names c text) (λ fault. IsFaultOf c text fault.0 fault.1)
+  given : MatchResult (licensee_of c text) (Names c text) (λ fault. IsLicenseeFault c text fault.0 fault.1)
   unfolding licensee_of
   given = given_by (licensee_at (length text) (reading c strict 0 text)) refl
 

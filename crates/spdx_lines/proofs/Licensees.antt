@@ -4,7 +4,7 @@ use Rattle.std.specs.Borrow.{Bor}
 use Rattle.spdx_catalogue.specs.Rows.{Rows}
 use Rattle.spdx_catalogue.specs.Items.{Requirement}
 use Rattle.spdx_lexer.specs.Words.{Fault, Span}
-use Rattle.spdx_licensee.specs.Named.{Names, IsFaultOf}
+use Rattle.spdx_licensee.specs.Named.{Names, IsLicenseeFault}
 use Rattle.spdx_lines.specs.Program.{Refusal, NoLicensee, texts_of, licensee_of, put_before, licensee_before, licensees_from}
 use Rattle.spdx_lines.proofs.Licensee.{the_licensee}
 
@@ -53,6 +53,6 @@ module _ (c : Rows) (words : List (Bor (List ℕ))) (i : ℕ) (d : Bor (List ℕ
       read_one c (i + 1) (get_or words i d).now (texts_of (drop (i + 1) words)) reqs req all (next reqs e) ((the_licensee c (get_or words i d).now).only_licensee req h)
       ∙ ap (λ rs. behind rs (licensees_from c (i + 1 + 1) (texts_of (drop (i + 1) words)))) (sym k)
 
-  pub refused_at : (reqs : List Requirement) (fault : Fault) (s : Span) → all ≡ behind reqs (licensees_from c (i + 1) (texts_of (drop i words))) → IsFaultOf c (get_or words i d).now fault s → all ≡ Err (NoLicensee (i + 1) fault s)
+  pub refused_at : (reqs : List Requirement) (fault : Fault) (s : Span) → all ≡ behind reqs (licensees_from c (i + 1) (texts_of (drop i words))) → IsLicenseeFault c (get_or words i d).now fault s → all ≡ Err (NoLicensee (i + 1) fault s)
   refused_at reqs fault s e h =
       refused_one c (i + 1) (get_or words i d).now (texts_of (drop (i + 1) words)) reqs fault s all (next reqs e) ((the_licensee c (get_or words i d).now).only_fault fault s h)

@@ -1,7 +1,6 @@
 -- The last parenthesis that is left open.
 use Rattle.std.proofs.Common.{◌≡◌, ℕ, zero, suc, ◌+◌, ◌<◌, ◌≤◌, Bool, true, false, cond, List, [], ◌∷◌, ◌++◌, Option, Some, None, refl, ◌∙◌, ap, subst, arith}
-use Rattle.spdx_lexer.specs.Words.{Word, OpenParen, CloseParen, Span}
-use Rattle.spdx_parser.specs.Spans.{Placed, words}
+use Rattle.spdx_lexer.specs.Words.{Word, OpenParen, CloseParen, Span, Placed, words}
 use Rattle.spdx_parser.specs.Faults.{opens, closes, IsLeftOpen, IsLastOpen}
 use Rattle.spdx_lines.specs.Outcome.{if_deeper, stays_open, open_at, unless_behind, last_open}
 

@@ -2,12 +2,11 @@
 use Rattle.std.proofs.Common.{◌≡◌, ℕ, Bool, true, false, List, [], ◌∷◌, ◌++◌, map, length, Option, Some, None, Ok, Err, refl, sym, ◌∙◌, ap, subst, arith, append_assoc, append-nil}
 use Rattle.spdx_catalogue.specs.Rows.{Rows}
 use Rattle.spdx_lexer.specs.declared.token.ParseMode.{ParseMode}
-use Rattle.spdx_lexer.specs.Words.{Word, Fault, UnclosedParens, Span, span, Item}
+use Rattle.spdx_lexer.specs.Words.{Word, Fault, UnclosedParens, Span, span, Item, Placed, words}
 use Rattle.spdx_lexer.specs.Reading.{reading}
 use Rattle.spdx_parser.specs.Tree.{Tree}
 use Rattle.spdx_parser.specs.Last.{last_of, is_closing}
 use Rattle.spdx_parser.specs.Grammar.{Derives, IsViable, IsTheTree}
-use Rattle.spdx_parser.specs.Spans.{Placed, words}
 use Rattle.spdx_parser.specs.Faults.{word_fault, IsLastOpen, IsEndFault, empty, short, unclosed, IsFaultOf, at_word, at_place, at_end}
 use Rattle.spdx_parser.specs.Machine.{State, start, step, run, built, built_on}
 use Rattle.spdx_parser.proofs.Complete.{complete}

@@ -5,12 +5,11 @@ use Rattle.std.specs.Str.{is_utf8}
 use Rattle.std.specs.Result.{result_ok}
 use Rattle.std.proofs.lemmas.Str.{IsUtf8-from_is_utf8, is_utf8-from_IsUtf8}
 use Rattle.spdx_catalogue.specs.Rows.{Rows}
-use Rattle.spdx_lexer.specs.Words.{Fault, Span}
+use Rattle.spdx_lexer.specs.Words.{Fault, Span, Placed, words}
 use Rattle.spdx_lexer.specs.Reading.{reading}
 use Rattle.spdx_parser.specs.Tree.{Tree}
 use Rattle.spdx_parser.specs.Grammar.{IsTheTree}
 use Rattle.spdx_parser.specs.Faults.{IsFaultOf}
-use Rattle.spdx_parser.specs.Spans.{Placed, words}
 use Rattle.spdx_canonical.specs.Canonical.{canonical_text, canonical_of}
 use Rattle.spdx_lines.specs.declared.lines.LineMode.{LineMode}
 use Rattle.spdx_lines.specs.declared.lines.LineMode.TheVariants.{Strict, Lax, Normal}

@@ -2,11 +2,10 @@
 use Rattle.std.specs.Prelude.{ℕ, zero, suc, Bool, true, false, List, [], ◌∷◌, ◌++◌, length, Option, Some, None, Result, Ok, Err, if◌then◌else◌}
 use Rattle.spdx_catalogue.specs.Rows.{Rows}
 use Rattle.spdx_lexer.specs.declared.token.ParseMode.{ParseMode}
-use Rattle.spdx_lexer.specs.Words.{Word, OpenParen, CloseParen, Fault, Unexpected, UnclosedParens, Empty, Span, span, Item}
+use Rattle.spdx_lexer.specs.Words.{Word, OpenParen, CloseParen, Fault, Unexpected, UnclosedParens, Empty, Span, span, Item, Placed, words}
 use Rattle.spdx_lexer.specs.Reading.{reading}
 use Rattle.spdx_parser.specs.Tree.{Tree}
 use Rattle.spdx_parser.specs.Last.{last_of, is_closing, terms}
-use Rattle.spdx_parser.specs.Spans.{Placed, words}
 use Rattle.spdx_parser.specs.Faults.{word_fault}
 use Rattle.spdx_parser.specs.Machine.{State, start, step, built}
 

@@ -15,7 +15,7 @@ use Rattle.spdx_catalogue.specs.declared.error.ReadFault.TheVariants.{NotJson}
 use Rattle.spdx_lexer.specs.Modes.{strict}
 use Rattle.spdx_lexer.specs.Words.{Fault, Span}
 use Rattle.spdx_lexer.specs.Reading.{reading}
-use Rattle.spdx_licensee.specs.Named.{Names, IsFaultOf}
+use Rattle.spdx_licensee.specs.Named.{Names, IsLicenseeFault}
 use Rattle.spdx_licensee.specs.Answers.{licensee_at}
 use Rattle.spdx_lines.specs.declared.lines.LineMode.{LineMode}
 use Rattle.spdx_lines.specs.declared.lines.LineMode.TheVariants.{Strict, Lax, Normal}
@@ -74,9 +74,9 @@ licensee_of c text = licensee_at (length text) (reading c strict 0 text)
 
 -- this is the licensee, or the fault, and there is no other
 pub record IsTheLicensee (c : Rows) (text : List ℕ) (r : Result Requirement (Fault × Span)) : Type 0 where
-  pub given : MatchResult r (Names c text) (λ fault. IsFaultOf c text fault.0 fault.1)
+  pub given : MatchResult r (Names c text) (λ fault. IsLicenseeFault c text fault.0 fault.1)
   pub only_licensee : (req : Requirement) → Names c text req → r ≡ Ok req
-  pub only_fault : (fault : Fault) (s : Span) → IsFaultOf c text fault s → r ≡ Err (fault, s)
+  pub only_fault : (fault : Fault) (s : Span) → IsLicenseeFault c text fault s → r ≡ Err (fault, s)
 
 abbrev pub put_before : Requirement → Result (List Requirement) Refusal → Result (List Requirement) Refusal
 put_before req (Ok reqs) = Ok (req ∷ reqs)

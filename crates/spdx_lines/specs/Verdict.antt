@@ -9,12 +9,11 @@ use Rattle.spdx_catalogue.specs.Items.{Requirement}
 use Rattle.spdx_catalogue.specs.Texts.{requirement_text}
 use Rattle.spdx_lexer.specs.declared.token.ParseMode.{ParseMode}
 use Rattle.spdx_lexer.specs.Modes.{strict, lax}
-use Rattle.spdx_lexer.specs.Words.{Fault, Span}
+use Rattle.spdx_lexer.specs.Words.{Fault, Span, Placed, words}
 use Rattle.spdx_lexer.specs.Faults.{fault_text}
 use Rattle.spdx_lexer.specs.Reading.{reading}
 use Rattle.spdx_parser.specs.Tree.{Tree}
 use Rattle.spdx_parser.specs.Grammar.{IsTheTree}
-use Rattle.spdx_parser.specs.Spans.{Placed, words}
 use Rattle.spdx_parser.specs.Faults.{IsFaultOf}
 use Rattle.spdx_canonical.specs.Canonical.{canonical_of}
 use Rattle.spdx_normal.specs.Normal.{normal_text}

@@ -9,7 +9,7 @@ use Rattle.spdx_catalogue.specs.Texts as texts
 use Rattle.spdx_catalogue.specs.Texts.{license_prefix, addition_prefix, licence_text, with_text, requirement_text}
 use Rattle.spdx_lexer.specs.Modes.{strict}
 use Rattle.spdx_lexer.specs.Words.{Word, Spdx, LicenseRef, Exception, AdditionRef, Plus, With}
-use Rattle.spdx_lexer.specs.Lexeme.{reference_text}
+use Rattle.spdx_lexer.specs.Lexeme.{reference_run}
 use Rattle.spdx_parser.specs.Tree.{Tree}
 use Rattle.spdx_parser.proofs.Threaded.{LicenceOf, plain, marked, later, named, unknown, AdditionOf, exception, named_addition, unknown_addition, LeafOf, alone, joined, PrimaryOf, leaf, group, AndOf, one_primary, and_more, OrOf, one_and, or_more}
 use Rattle.spdx_canonical.proofs.Neighbours.{AreRead}
@@ -31,9 +31,9 @@ addition_words (Some (added x)) = With ∷ AdditionRef x.document x.name ∷ []
 abbrev pub requirement_words : Requirement → List Word
 requirement_words r = licence_words r.licence ++ addition_words r.addition
 
-reference_same : (p : List ℕ) (d : Option (List ℕ)) (y : List ℕ) → reference_text p d y ++ [] ≡ texts.reference_text p (record { document = d; name = y })
+reference_same : (p : List ℕ) (d : Option (List ℕ)) (y : List ℕ) → reference_run p d y ++ [] ≡ texts.reference_text p (record { document = d; name = y })
 reference_same p None y = append-nil (p ++ y)
-reference_same p (Some x) y = append-nil (reference_text p (Some x) y) ∙ ap (λ (t : List ℕ). codes "DocumentRef-" ++ t) (sym (append_assoc x (codes ":") (p ++ y)))
+reference_same p (Some x) y = append-nil (reference_run p (Some x) y) ∙ ap (λ (t : List ℕ). codes "DocumentRef-" ++ t) (sym (append_assoc x (codes ":") (p ++ y)))
 
 module _ (c : Rows) where
   -- ---- what is known of a requirement that was read

@@ -8,7 +8,7 @@ use Rattle.spdx_catalogue.specs.Names.{without_only, or_later}
 use Rattle.spdx_catalogue.specs.Items.{Requirement, Licence, Addition}
 use Rattle.spdx_catalogue.proofs.Listed.{listed_is_license, caseless_is_license, listed_is_exception, caseless_is_exception, imprecise_is_license}
 use Rattle.spdx_lexer.specs.declared.token.ParseMode.{ParseMode}
-use Rattle.spdx_lexer.specs.Words.{Word, Spdx, LicenseRef, Exception, AdditionRef, Unknown, Plus, OpenParen, CloseParen, With, And, Or, Fault, Item}
+use Rattle.spdx_lexer.specs.Words.{Word, Spdx, LicenseRef, Exception, AdditionRef, Unknown, Plus, OpenParen, CloseParen, With, And, Or, Fault, Item, Placed, words}
 use Rattle.spdx_lexer.specs.Text.{white}
 use Rattle.spdx_lexer.specs.Lexeme.{sign_of, sign, whole, operator, name_behind, names_behind, reference as lexeme_reference, document_reference, lexeme}
 use Rattle.spdx_lexer.specs.Groups.{license_reference, addition_reference, exact, referred as referred_run, caseless, by_run, unknown, imprecise}
@@ -16,7 +16,6 @@ use Rattle.spdx_lexer.specs.Reading.{go_on, behind, items, reading}
 use Rattle.spdx_lexer.proofs.Found.{first_all, mapped, allowed, lexeme_all}
 use Rattle.spdx_parser.specs.Tree.{Tree, Leaf}
 use Rattle.spdx_parser.specs.Last.{Last, Listed, Joined, next_last, last_behind}
-use Rattle.spdx_parser.specs.Spans.{Placed, words}
 use Rattle.spdx_parser.specs.Parsed.{IsOfRows, IsLicenceOf, IsAdditionOf}
 use Rattle.spdx_parser.specs.Code.{IsLicenseRow}
 use Rattle.spdx_parser.specs.Grammar.{Derives}

@@ -5,7 +5,7 @@ use Rattle.std.proofs.lemmas.List.{map-append, length-map}
 use Rattle.spdx_catalogue.specs.Rows.{Rows}
 use Rattle.spdx_catalogue.specs.WellFormed.{is_well_formed}
 use Rattle.spdx_lexer.specs.declared.token.ParseMode.{ParseMode}
-use Rattle.spdx_lexer.specs.Words.{Word, CloseParen, Fault, Empty, Unexpected, UnclosedParens, Span, span, Item}
+use Rattle.spdx_lexer.specs.Words.{Word, CloseParen, Fault, Empty, Unexpected, UnclosedParens, Span, span, Item, Placed, words}
 use Rattle.spdx_lexer.specs.Code.{span_of}
 use Rattle.spdx_lexer.specs.Reading.{reading}
 use Rattle.spdx_parser.specs.declared.node.ExprNode.{ExprNode}
@@ -15,7 +15,6 @@ use Rattle.spdx_parser.specs.declared.phase.Name.{Name}
 use Rattle.spdx_parser.specs.declared.phase.Phase.{Phase}
 use Rattle.spdx_parser.specs.Tree.{Tree}
 use Rattle.spdx_parser.specs.Last.{Due, last_of, is_closing, terms}
-use Rattle.spdx_parser.specs.Spans.{Placed, words}
 use Rattle.spdx_parser.specs.Grammar.{Derives, IsViable}
 use Rattle.spdx_parser.specs.Faults.{opens, closes, fault_behind, word_fault, empty, short, unclosed, IsFaultOf, at_word, at_place, at_end, HasNoTree}
 use Rattle.spdx_lexer.specs.declared.error.ParseError.{ParseError}

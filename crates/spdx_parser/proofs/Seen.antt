@@ -3,9 +3,9 @@ use Rattle.std.proofs.Common.{◌≡◌, ℕ, zero, suc, ◌+◌, ◌<◌, Bool,
 use Rattle.std.specs.Prelude.{if◌then◌else◌, ◌==◌}
 use Rattle.std.proofs.lemmas.List.{map-append}
 use Rattle.std.proofs.lemmas.Bool.Decides.{eqb_tells}
-use Rattle.spdx_lexer.specs.Words.{Word, Spdx, LicenseRef, Exception, AdditionRef, Unknown, Plus, OpenParen, CloseParen, With, And, Or, Span}
+use Rattle.spdx_lexer.specs.Words.{Word, Spdx, LicenseRef, Exception, AdditionRef, Unknown, Plus, OpenParen, CloseParen, With, And, Or, Span, Placed, words}
 use Rattle.spdx_parser.specs.Last.{next_last, last_behind, is_license}
-use Rattle.spdx_parser.specs.Spans.{Placed, words, license_spans}
+use Rattle.spdx_parser.specs.Spans.{license_spans}
 use Rattle.spdx_parser.specs.Faults.{opens, closes, IsLastOpen}
 use Rattle.spdx_parser.specs.Code.{Seen, see, seen_behind, add_span, but_last, move_places}
 use Rattle.spdx_parser.proofs.Steps.{but_last_snoc, not_snoc, snoc_same}

@@ -5,7 +5,7 @@ use Rattle.spdx_catalogue.specs.Rows.{Rows, LicenseRow}
 use Rattle.spdx_catalogue.specs.Ids.{id_row}
 use Rattle.spdx_catalogue.specs.Items.{Licence, listed, referred}
 use Rattle.spdx_lexer.specs.Code.{document_of, span_of}
-use Rattle.spdx_lexer.specs.Words.{Word, OpenParen, CloseParen, Span}
+use Rattle.spdx_lexer.specs.Words.{Word, OpenParen, CloseParen, Span, Placed}
 use Rattle.spdx_parser.specs.declared.node.ExprNode.{ExprNode}
 use Rattle.spdx_parser.specs.declared.phase.Name.{Name}
 use Rattle.spdx_parser.specs.declared.phase.Phase.{Phase}
@@ -15,7 +15,7 @@ use Rattle.spdx_parser.specs.declared.frames.Parser.{Parser}
 use Rattle.spdx_parser.specs.Tree.{Tree, Node, postfix, node_of}
 use Rattle.spdx_parser.specs.Grammar.{reference}
 use Rattle.spdx_parser.specs.Last.{Last, Due, Listed, Unlisted, Named, Joined, Added, Closed, next_last, is_license}
-use Rattle.spdx_parser.specs.Spans.{Placed, requirement_spans}
+use Rattle.spdx_parser.specs.Spans.{requirement_spans}
 use Rattle.spdx_parser.specs.Machine as machine
 
 abbrev pub name_licence : Name → Licence

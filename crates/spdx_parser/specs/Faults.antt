@@ -4,12 +4,11 @@ use Rattle.spdx_catalogue.specs.Rows.{Rows, LicenseRow}
 use Rattle.spdx_catalogue.specs.Flags.{is_gnu}
 use Rattle.spdx_catalogue.specs.Names.{ends_or_later}
 use Rattle.spdx_lexer.specs.declared.token.ParseMode.{ParseMode}
-use Rattle.spdx_lexer.specs.Words.{Word, Spdx, Plus, OpenParen, CloseParen, Fault, UnknownLicense, Unexpected, GnuNoPlus, GnuPlusWithSuffix, DeprecatedLicenseId, UnopenedParens, UnclosedParens, Empty, Span, span, Item}
+use Rattle.spdx_lexer.specs.Words.{Word, Spdx, Plus, OpenParen, CloseParen, Fault, UnknownLicense, Unexpected, GnuNoPlus, GnuPlusWithSuffix, DeprecatedLicenseId, UnopenedParens, UnclosedParens, Empty, Span, span, Item, Placed, words}
 use Rattle.spdx_lexer.specs.Reading.{reading}
 use Rattle.spdx_parser.specs.Last.{Last, Due, Listed, last_of, is_closing, terms}
 use Rattle.spdx_parser.specs.Tree.{Tree}
 use Rattle.spdx_parser.specs.Grammar.{may_stand, Derives, IsViable}
-use Rattle.spdx_parser.specs.Spans.{Placed, words}
 
 -- how many `(` there are
 abbrev pub opens : List Word → ℕ

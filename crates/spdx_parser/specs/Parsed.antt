@@ -1,4 +1,5 @@
 -- What a text means, and the nodes that say so.
+use Rattle.spdx_lexer.specs.Words.{Placed, words}
 use Rattle.std.specs.Prelude.{◌≡◌, ℕ, List, Option, Some, None, Ok, map, slice_get}
 use Rattle.spdx_catalogue.specs.Rows.{Rows}
 use Rattle.spdx_catalogue.specs.Items.{Licence, listed, referred, Addition, excepted, added}
@@ -11,7 +12,7 @@ use Rattle.spdx_parser.specs.declared.node.ExprNode.{ExprNode}
 use Rattle.spdx_parser.specs.Tree.{Tree, Leaf, Join, postfix, node_of}
 use Rattle.spdx_parser.specs.Grammar.{IsTheTree}
 use Rattle.spdx_parser.specs.Last.{Due}
-use Rattle.spdx_parser.specs.Spans.{Placed, words, license_spans, requirement_spans}
+use Rattle.spdx_parser.specs.Spans.{license_spans, requirement_spans}
 use Rattle.spdx_parser.specs.Faults.{IsFaultOf, HasNoTree}
 
 -- a listed licence has a row of the catalogue, which stands at its own index

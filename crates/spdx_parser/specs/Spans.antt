@@ -1,17 +1,9 @@
 -- Where the words of a text and the nodes of an expression stand.
 use Rattle.std.specs.Prelude.{List, [], ◌∷◌, Option, Some, None, map, if◌then◌else◌}
 use Rattle.spdx_lexer.specs.Code.{span_of}
-use Rattle.spdx_lexer.specs.Words.{Word, Span}
+use Rattle.spdx_lexer.specs.Words.{Word, Span, Placed}
 use Rattle.spdx_parser.specs.declared.node.ExprNode.{ExprNode}
 use Rattle.spdx_parser.specs.Last.{Last, next_last, is_license}
-
--- a word and where it stands
-abbrev pub Placed : Type 0
-Placed = Word × Span
-
--- the words without their places
-abbrev pub words : List Placed → List Word
-words read = map (λ (p : Placed). p.0) read
 
 -- the spans of the licences, from left to right, among the words that come behind such a one
 abbrev pub license_spans : Last → List Placed → List Span

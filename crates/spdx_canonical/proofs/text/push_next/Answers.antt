@@ -13,5 +13,5 @@ returns-in_err-push_license-clause-err c =
     let w = word_of c.args.token in
     let r = id_row c.in-Some.id in
     let before : Some r ≡ option_map id_row c.args.before = sym (ap (option_map id_row) c.in-Some.is) in
-    let off = subst (λ b. IsOff d (license_text b r)) c.is_plus.ensures c.in_err-push_license.ensures.err in
+    let off = subst (λ b. IsOff d (license_text b r)) c.is_plus_word.ensures c.in_err-push_license.ensures.err in
     err_any c.from_residual.result (subst (λ (o : Option LicenseRow). IsOff d (next_text o w)) before (off_more d _ (own_text w) off))

@@ -3,13 +3,13 @@ use Rattle.std.proofs.lemmas.Bool.{cond-true, cond-false}
 use Rattle.spdx.specs.Failures.{IfRefused}
 use Rattle.spdx.specs.LexerCode.{span_of}
 use Rattle.spdx.specs.Words.{Span}
-use Rattle.spdx.specs.Written.{Placed, placed_of, nows}
+use Rattle.spdx.specs.Written.{PlacedRequirement, placed_of, nows}
 use Rattle.spdx.specs.declared.expression.ExpressionReq.{ExpressionReq}
 use Rattle.spdx.proofs.Leaves.{if_ok}
 use Rattle.spdx_uses.specs.Policy.{accepts}
 use Rattle.spdx_uses.proofs.explainer.refused_places.Goals as goal
 
-places_are : (rs : List ExpressionReq) → map {A = Placed} {B = Span} (λ p. p.1) (map placed_of rs) ≡ map (λ r. span_of r.span) rs
+places_are : (rs : List ExpressionReq) → map {A = PlacedRequirement} {B = Span} (λ p. p.1) (map placed_of rs) ≡ map (λ r. span_of r.span) rs
 places_are [] = refl
 places_are (r ∷ rs) = ap (λ (z : List Span). span_of r.span ∷ z) (places_are rs)
 

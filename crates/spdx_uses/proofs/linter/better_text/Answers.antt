@@ -1,3 +1,4 @@
+use Rattle.spdx.specs.Words.{words}
 use Rattle.std.proofs.Common.{◌≡◌, ◌∙◌, ℕ, List, map, Result, Ok, Err, IfErr, sym, ap, subst}
 use Rattle.std.specs.Result.{IsErrAnd}
 use Rattle.spdx.specs.declared.Failure.{Failure}
@@ -15,7 +16,6 @@ use Rattle.spdx.specs.Parsed.{IsReadFrom}
 use Rattle.spdx.specs.ParserParsed.{IsRefused}
 use Rattle.spdx.specs.Reading.{said}
 use Rattle.spdx.specs.Rows.{Rows}
-use Rattle.spdx.specs.Spans.{words}
 use Rattle.spdx.specs.Written.{Written}
 use Rattle.spdx.proofs.Leaves.{said_words}
 use Rattle.spdx_uses.proofs.linter.better_text.Goals as goal

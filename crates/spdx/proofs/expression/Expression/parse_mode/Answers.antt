@@ -1,7 +1,7 @@
+use Rattle.spdx_lexer.specs.Words.{words}
 use Rattle.std.proofs.Common.{◌≡◌, sym, ◌∙◌, ap, subst, rules}
 use Rattle.spdx_parser.specs.Tree.{Tree, postfix}
 use Rattle.spdx_parser.specs.Grammar.{IsTheTree}
-use Rattle.spdx_parser.specs.Spans.{words}
 use Rattle.spdx_parser.specs.Parsed.{IsOfRows}
 use Rattle.spdx.specs.Written.{tree_of}
 use Rattle.spdx.specs.Coding.{tree_of_postfix}
