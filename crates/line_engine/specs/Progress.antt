@@ -2,7 +2,7 @@
 use Rattle.std.specs.Prelude.{◌≡◌, ℕ, Bool, true, Option, Some, List, [], ◌∷◌, ◌++◌}
 use Rattle.std.specs.Io.KnownBytes.{Appends, Consumes, IsAtEnd}
 use Rattle.line_engine.specs.declared.lines.Summary.{Summary}
-use Rattle.line_engine.specs.Device.{Told, Devices}
+use Rattle.line_engine.specs.Device.{Devices}
 use Rattle.line_engine.specs.Rule.{Rule}
 use Rattle.line_engine.specs.Cut.{cut, lines_of, IsCut}
 use Rattle.line_engine.specs.Output.{text_of, output_of, output_so_far, summary_of, count_line}
@@ -14,31 +14,36 @@ pub record AppendsBeginning (old new : Option (List ℕ)) (bytes : List ℕ) : T
   pub whole : bytes ≡ begun ++ others
   pub appended : Appends old new begun
 
--- which lines may be answered so far, what the output tells, and the counts
+-- which lines may be answered so far, the answers that are not yet written, and the counts
 pub record State : Type 1 where
   pub HasAnswered : List (List ℕ) → Type 0
-  pub output : Told
+  pub answers : List ℕ
   pub summary : Summary
 
-abbrev pub state : (List (List ℕ) → Type 0) → Told → Summary → State
-state HasAnswered output summary = record { HasAnswered = HasAnswered; output = output; summary = summary }
+abbrev pub state : (List (List ℕ) → Type 0) → List ℕ → Summary → State
+state HasAnswered answers summary = record { HasAnswered = HasAnswered; answers = answers; summary = summary }
 
--- one more line is answered, written and counted
+-- one more line is answered and counted
 pub record HasPut (rule : Rule) (line : List ℕ) (old new : State) : Type 0 where
-  pub written : Appends old.output.bytes new.output.bytes (rule.text line)
+  pub text : new.answers ≡ old.answers ++ rule.text line
   pub counted : new.summary ≡ count_line old.summary (rule.refuses line)
   pub answered : (lines : List (List ℕ)) → old.HasAnswered lines → new.HasAnswered (lines ++ line ∷ [])
 
--- these lines are answered, written and counted, from an output that told these bytes on
-pub record HasPutAll (rule : Rule) (lines : List (List ℕ)) (start : Option (List ℕ)) (now : State) : Type 0 where
-  pub written : Appends start now.output.bytes (text_of rule lines)
+-- these lines are answered and counted: the first of the answers are written, the others are not yet
+pub record HasPutAll (rule : Rule) (lines : List (List ℕ)) (written : List ℕ) (now : State) : Type 0 where
+  pub text : written ++ now.answers ≡ text_of rule lines
   pub counted : now.summary ≡ summary_of rule lines
   pub answered : now.HasAnswered lines
 
--- of the bytes read so far each whole line is answered, written and counted, and the incomplete one is kept
-pub record HasKept (rule : Rule) (bytes : List ℕ) (start : Option (List ℕ)) (kept : List ℕ) (now : State) : Type 0 where
-  pub put : HasPutAll rule (cut bytes).whole start now
+-- of the bytes read so far each whole line is answered and counted, and the incomplete one is kept
+pub record HasKept (rule : Rule) (bytes written kept : List ℕ) (now : State) : Type 0 where
+  pub put : HasPutAll rule (cut bytes).whole written now
   pub rest : kept ≡ (cut bytes).rest
+
+-- these bytes are the whole input: its output is what is written and these answers, and these are its counts
+pub record HasEnded (rule : Rule) (bytes written answers : List ℕ) (summary : Summary) : Type 0 where
+  pub output : written ++ answers ≡ output_of rule bytes
+  pub counted : summary ≡ summary_of rule (lines_of bytes)
 
 -- all of the input was read and cut into its lines, its output was written and nothing else, and these are its counts
 pub record HasRun (rule : Rule) (d : Devices) (summary : Summary) : Type 0 where

@@ -1,11 +1,11 @@
 // Lines in, answers out, a piece of the input at a time.
 
-ghost use Rattle.std.specs.Prelude.{◌≡◌, ℕ, ◌<◌, ◌++◌, ◌∷◌, [], List, length, true, false, IfSome, IsNone, Option, OnOk, OnErr, IsErrOf};
+ghost use Rattle.std.specs.Prelude.{◌≡◌, ℕ, ◌<◌, ◌++◌, ◌∷◌, [], List, length, true, false, IfSome, IsNone, Option, OnOk, OnErr, IsErrOf, if◌then◌else◌};
 ghost use Rattle.std.specs.Io.KnownBytes.{Appends};
-ghost use Rattle.line_engine.specs.Cut.{cut, lines_of, HasNoNewline};
+ghost use Rattle.line_engine.specs.Cut.{lines_of, HasNoNewline};
 ghost use Rattle.line_engine.specs.Device.{devices};
-ghost use Rattle.line_engine.specs.Output.{count_line, text_of, output_of};
-ghost use Rattle.line_engine.specs.Progress.{AppendsBeginning, state, HasPut, HasPutAll, HasKept};
+ghost use Rattle.line_engine.specs.Output.{count_line};
+ghost use Rattle.line_engine.specs.Progress.{AppendsBeginning, state, HasPut, HasPutAll, HasKept, HasEnded};
 ghost use Rattle.line_engine.specs.Runs.{Runs};
 ghost use Rattle.line_engine.specs.declared.lines.RunFault.TheVariants.{Memory as MemoryFault};
 
@@ -13,6 +13,12 @@ use crate::device::{Failed, Sink, Source};
 use crate::verdicts::Verdicts;
 use memchr::memchr;
 use std::alloc::{AllocError, AllocFailed, Global};
+
+#[cfg(test)]
+mod tests;
+
+// How long a piece of the input is in bytes: what a pipe holds.
+const PIECE: usize = 65_536;
 
 /// How many lines were read, and how many of them were refused. A count at `u64::MAX` stays there.
 #[derive(Clone, Copy, PartialEq, Eq, Debug)]
@@ -59,10 +65,10 @@ impl Summary {
     }
 }
 
-// Room for one answer, which all lines share, and the counts of the lines that are answered.
+// The answers that are not yet written, and the counts of the lines that are answered.
 #[derive(Drop)]
 struct Tally {
-    answer: Vec<u8>,
+    answers: Vec<u8>,
     summary: Summary,
 }
 
@@ -98,154 +104,119 @@ fn split_line(bytes: &[u8]) -> Option<(&[u8], &[u8])>
     Some((&bytes[..end], &bytes[end + 1..]))
 }
 
-// Answers a line, and writes the answer.
-fn put_line<V: Verdicts, O: Sink>(
-    alloc: Global,
-    verdicts: &mut V,
-    output: &mut O,
-    tally: &mut Tally,
-    line: &[u8],
-) -> Result<(), RunFault>
-    ensures put { OnOk result (HasPut (V.rule verdicts.old) line.now
-        (state (V.HasAnswered verdicts.old) (O.told output.old) tally.old.summary)
-        (state (V.HasAnswered verdicts.new) (O.told output.new) tally.new.summary)) }
+// Writes the answers, and keeps none of them.
+fn write_out<O: Sink>(output: &mut O, answers: &mut Vec<u8>) -> Result<(), RunFault>
+    ensures all { OnOk result (
+        Appends (O.told output.old).bytes (O.told output.new).bytes answers.old.items) }
+    ensures emptied { OnOk result (answers.new.items ≡ []) }
     ensures begun { OnErr result (
-        AppendsBeginning (O.told output.old).bytes (O.told output.new).bytes
-        ((V.rule verdicts.old).text line.now)) }
-    ensures rule { V.rule verdicts.new ≡ V.rule verdicts.old }
+        AppendsBeginning (O.told output.old).bytes (O.told output.new).bytes answers.old.items) }
     ensures no_read { IsErrOf result RunFault.Read → ⊥ }
     ensures write { IsErrOf result RunFault.Write → (O.told output.new).has_failed ≡ true }
 {
-    tally.answer.clear();
-    let is_refused = verdicts.answer(alloc, line, &mut tally.answer)?;
-    match write_all(output, &tally.answer) {
+    match write_all(output, answers) {
         Ok(()) => {
-            tally.summary.count(is_refused);
+            answers.clear();
             Ok(())
         }
         Err(Failed) => Err(RunFault::Write),
     }
 }
 
-// Takes the end of a line. A line that is whole in one piece is answered where it lies.
-fn end_line<V: Verdicts, O: Sink>(
+// Answers a line, behind the answers that are not yet written.
+fn put_line<V: Verdicts>(
     alloc: Global,
     verdicts: &mut V,
-    output: &mut O,
+    tally: &mut Tally,
+    line: &[u8],
+) -> Result<(), AllocError>
+    ensures put { OnOk result (HasPut (V.rule verdicts.old) line.now
+        (state (V.HasAnswered verdicts.old) tally.old.answers.items tally.old.summary)
+        (state (V.HasAnswered verdicts.new) tally.new.answers.items tally.new.summary)) }
+    ensures rule { V.rule verdicts.new ≡ V.rule verdicts.old }
+{
+    let is_refused = verdicts.answer(alloc, line, &mut tally.answers)?;
+    tally.summary.count(is_refused);
+    Ok(())
+}
+
+// Takes the end of a line. A line that is whole in one piece is answered where it lies.
+fn end_line<V: Verdicts>(
+    alloc: Global,
+    verdicts: &mut V,
     kept: &mut Kept,
     end: &[u8],
-) -> Result<(), RunFault>
+) -> Result<(), AllocError>
     ensures put { OnOk result (HasPut (V.rule verdicts.old) (kept.old.line.items ++ end.now)
-        (state (V.HasAnswered verdicts.old) (O.told output.old) kept.old.tally.summary)
-        (state (V.HasAnswered verdicts.new) (O.told output.new) kept.new.tally.summary)) }
+        (state (V.HasAnswered verdicts.old) kept.old.tally.answers.items kept.old.tally.summary)
+        (state (V.HasAnswered verdicts.new) kept.new.tally.answers.items kept.new.tally.summary)) }
     ensures emptied { OnOk result (kept.new.line.items ≡ []) }
-    ensures begun { OnErr result (
-        AppendsBeginning (O.told output.old).bytes (O.told output.new).bytes
-        ((V.rule verdicts.old).text (kept.old.line.items ++ end.now))) }
     ensures rule { V.rule verdicts.new ≡ V.rule verdicts.old }
-    ensures no_read { IsErrOf result RunFault.Read → ⊥ }
-    ensures write { IsErrOf result RunFault.Write → (O.told output.new).has_failed ≡ true }
 {
     if kept.line.is_empty() {
-        return put_line(alloc, verdicts, output, &mut kept.tally, end);
+        return put_line(alloc, verdicts, &mut kept.tally, end);
     }
     kept.line.extend_from_slice(end)?;
-    put_line(alloc, verdicts, output, &mut kept.tally, &kept.line)?;
+    put_line(alloc, verdicts, &mut kept.tally, &kept.line)?;
     kept.line.clear();
     Ok(())
 }
 
 // Answers the lines that end in the next piece of the input, and keeps what stands behind them.
-fn take_piece<V: Verdicts, O: Sink>(
+fn take_piece<V: Verdicts>(
     alloc: Global,
     verdicts: &mut V,
-    output: &mut O,
     kept: &mut Kept,
     piece: &[u8],
-) -> Result<(), RunFault>
-    ensures ok { OnOk result ((bytes : List ℕ) (start : Option (List ℕ)) →
-        HasKept (V.rule verdicts.old) bytes start kept.old.line.items
-        (state (V.HasAnswered verdicts.old) (O.told output.old) kept.old.tally.summary) →
-        HasKept (V.rule verdicts.old) (bytes ++ piece.now) start kept.new.line.items
-        (state (V.HasAnswered verdicts.new) (O.told output.new) kept.new.tally.summary)) }
-    ensures begun { OnErr result ((bytes : List ℕ) (start : Option (List ℕ)) →
-        HasKept (V.rule verdicts.old) bytes start kept.old.line.items
-        (state (V.HasAnswered verdicts.old) (O.told output.old) kept.old.tally.summary) →
-        AppendsBeginning start (O.told output.new).bytes
-        (text_of (V.rule verdicts.old) (cut (bytes ++ piece.now)).whole)) }
+) -> Result<(), AllocError>
+    ensures ok { OnOk result ((bytes written : List ℕ) →
+        HasKept (V.rule verdicts.old) bytes written kept.old.line.items
+        (state (V.HasAnswered verdicts.old) kept.old.tally.answers.items kept.old.tally.summary) →
+        HasKept (V.rule verdicts.old) (bytes ++ piece.now) written kept.new.line.items
+        (state (V.HasAnswered verdicts.new) kept.new.tally.answers.items kept.new.tally.summary)) }
     ensures rule { V.rule verdicts.new ≡ V.rule verdicts.old }
-    ensures no_read { IsErrOf result RunFault.Read → ⊥ }
-    ensures write { IsErrOf result RunFault.Write → (O.told output.new).has_failed ≡ true }
 {
     let mut rest = piece;
     while let Some((end, behind)) = split_line(rest) {
-        end_line(alloc, verdicts, output, kept, end)?;
+        end_line(alloc, verdicts, kept, end)?;
         rest = behind;
     }
     kept.line.extend_from_slice(rest)?;
     Ok(())
 }
 
-// Answers what is kept as the last line, if it is one.
-fn put_last<V: Verdicts, O: Sink>(
-    alloc: Global,
-    verdicts: &mut V,
-    output: &mut O,
-    kept: &mut Kept,
-) -> Result<(), RunFault>
-    ensures ok { OnOk result ((bytes : List ℕ) (start : Option (List ℕ)) →
-        HasKept (V.rule verdicts.old) bytes start kept.old.line.items
-        (state (V.HasAnswered verdicts.old) (O.told output.old) kept.old.tally.summary) →
-        HasPutAll (V.rule verdicts.old) (lines_of bytes) start
-        (state (V.HasAnswered verdicts.new) (O.told output.new) kept.new.tally.summary)) }
-    ensures begun { OnErr result ((bytes : List ℕ) (start : Option (List ℕ)) →
-        HasKept (V.rule verdicts.old) bytes start kept.old.line.items
-        (state (V.HasAnswered verdicts.old) (O.told output.old) kept.old.tally.summary) →
-        AppendsBeginning start (O.told output.new).bytes (output_of (V.rule verdicts.old) bytes)) }
+// Answers what is kept as the last line, if it is one, and puts behind it what stands behind all answers.
+fn put_end<V: Verdicts>(alloc: Global, verdicts: &mut V, kept: &mut Kept) -> Result<(), AllocError>
+    ensures ok { OnOk result ((bytes written : List ℕ) →
+        HasKept (V.rule verdicts.old) bytes written kept.old.line.items
+        (state (V.HasAnswered verdicts.old) kept.old.tally.answers.items kept.old.tally.summary) →
+        HasEnded (V.rule verdicts.old) bytes written
+        kept.new.tally.answers.items kept.new.tally.summary) }
     ensures rule { V.rule verdicts.new ≡ V.rule verdicts.old }
-    ensures no_read { IsErrOf result RunFault.Read → ⊥ }
-    ensures write { IsErrOf result RunFault.Write → (O.told output.new).has_failed ≡ true }
+{
+    put_last(alloc, verdicts, kept)?;
+    verdicts.close(alloc, &mut kept.tally.answers)
+}
+
+// Answers what is kept as the last line, if it is one.
+fn put_last<V: Verdicts>(alloc: Global, verdicts: &mut V, kept: &mut Kept) -> Result<(), AllocError>
+    ensures ok { OnOk result ((bytes written : List ℕ) →
+        HasKept (V.rule verdicts.old) bytes written kept.old.line.items
+        (state (V.HasAnswered verdicts.old) kept.old.tally.answers.items kept.old.tally.summary) →
+        HasPutAll (V.rule verdicts.old) (lines_of bytes) written
+        (state (V.HasAnswered verdicts.new) kept.new.tally.answers.items kept.new.tally.summary)) }
+    ensures rule { V.rule verdicts.new ≡ V.rule verdicts.old }
 {
     if kept.line.is_empty() {
         Ok(())
     } else {
-        put_line(alloc, verdicts, output, &mut kept.tally, &kept.line)
+        put_line(alloc, verdicts, &mut kept.tally, &kept.line)
     }
 }
 
-// Writes what stands behind all answers, and flushes.
-fn write_end<V: Verdicts, O: Sink>(
-    alloc: Global,
-    verdicts: &mut V,
-    output: &mut O,
-    text: &mut Vec<u8>,
-) -> Result<(), RunFault>
-    ensures written { OnOk result ((lines : List (List ℕ)) → V.HasAnswered verdicts.old lines →
-        Appends (O.told output.old).bytes (O.told output.new).bytes
-        ((V.rule verdicts.old).closing lines)) }
-    ensures begun { OnErr result ((lines : List (List ℕ)) → V.HasAnswered verdicts.old lines →
-        AppendsBeginning (O.told output.old).bytes (O.told output.new).bytes
-        ((V.rule verdicts.old).closing lines)) }
-    ensures sound { OnOk result ((O.told output.new).has_failed ≡ false) }
-    ensures rule { V.rule verdicts.new ≡ V.rule verdicts.old }
-    ensures no_read { IsErrOf result RunFault.Read → ⊥ }
-    ensures write { IsErrOf result RunFault.Write → (O.told output.new).has_failed ≡ true }
-{
-    text.clear();
-    verdicts.close(alloc, text)?;
-    match write_all(output, text) {
-        Ok(()) => {}
-        Err(Failed) => return Err(RunFault::Write),
-    }
-    match output.flush() {
-        Ok(()) => Ok(()),
-        Err(Failed) => Err(RunFault::Write),
-    }
-}
-
-/// Answers each line of the input and writes the answers, each once its line is whole, and at last flushes the output.
-/// The input is read by pieces as long as the buffer, and cut after each newline; a last piece without one is a line if
-/// it is not empty.
+/// Answers each line of the input, and at last flushes the output. The input is read by pieces as long as the buffer,
+/// and cut after each newline; a last piece without one is a line if it is not empty. The answers to the lines that end
+/// in a piece are written together, in one write if the output takes it, before the input is read on.
 ///
 /// `Read` comes exactly where the input has failed, and `Write` only where the output has. After a fault, also one of
 /// memory, what was written is a beginning of the answers to the lines that were read whole; after `Read` it is all of
@@ -267,7 +238,7 @@ pub fn run_in<V: Verdicts, I: Source, O: Sink>(
     let mut kept = Kept {
         line: Vec::new(alloc),
         tally: Tally {
-            answer: Vec::new(alloc),
+            answers: Vec::new(alloc),
             summary: Summary {
                 lines: 0,
                 refused: 0,
@@ -278,15 +249,33 @@ pub fn run_in<V: Verdicts, I: Source, O: Sink>(
         match input.read(buffer) {
             Err(Failed) => return Err(RunFault::Read),
             Ok(0) => break,
-            Ok(count) => take_piece(alloc, verdicts, output, &mut kept, &buffer[..count])?,
+            Ok(count) => {
+                take_piece(alloc, verdicts, &mut kept, &buffer[..count])?;
+                write_out(output, &mut kept.tally.answers)?;
+            }
         }
     }
-    put_last(alloc, verdicts, output, &mut kept)?;
-    write_end(alloc, verdicts, output, &mut kept.tally.answer)?;
-    Ok(kept.tally.summary)
+    put_end(alloc, verdicts, &mut kept)?;
+    write_out(output, &mut kept.tally.answers)?;
+    match output.flush() {
+        Ok(()) => Ok(kept.tally.summary),
+        Err(Failed) => Err(RunFault::Write),
+    }
 }
 
-/// `run_in` with a buffer of 4,096 bytes.
+// The fault of a run that found no memory before it could read.
+fn unread<I: Source>(input: &I) -> RunFault
+    ensures { result ≡ (if (I.told input.now).has_failed then RunFault.Read else RunFault.Memory) }
+{
+    if input.failed() {
+        RunFault::Read
+    } else {
+        RunFault::Memory
+    }
+}
+
+/// `run_in` with a buffer of 65,536 bytes, which is let go at the end. Where no memory is found for it, nothing is read:
+/// that is `Memory`, unless the input has failed before.
 pub fn run<V: Verdicts, I: Source, O: Sink>(
     alloc: Global,
     verdicts: &mut V,
@@ -299,6 +288,8 @@ pub fn run<V: Verdicts, I: Source, O: Sink>(
         result }
     ensures rule { V.rule verdicts.new ≡ V.rule verdicts.old }
 {
-    let mut buffer = [0u8; 4096];
+    let Ok(mut buffer) = vec![in alloc; 0u8; PIECE] else {
+        return Err(unread(input));
+    };
     run_in(alloc, verdicts, input, output, &mut buffer)
 }

@@ -13,8 +13,18 @@ use std::test::Fail;
 
 // Refuses empty lines, and says at the end how the lines begin.
 #[derive(Drop)]
-struct Beginnings {
+pub(crate) struct Beginnings {
     firsts: Vec<u8>,
+}
+
+impl Beginnings {
+    pub(crate) fn new(alloc: Global) -> Beginnings
+        ensures { result.firsts.items ≡ [] }
+    {
+        Beginnings {
+            firsts: Vec::new(alloc),
+        }
+    }
 }
 
 impl Verdicts for Beginnings {
@@ -134,7 +144,7 @@ pub(crate) const INPUT: &[u8] = b"abc\n\nde\r\nf";
 
 const OUTPUT: &[u8] = b"ok abc\nrefused\nok de\r\nok f\n=adf\n";
 
-const COUNTS: Summary = Summary {
+pub(crate) const COUNTS: Summary = Summary {
     lines: 4,
     refused: 1,
 };
@@ -155,9 +165,7 @@ pub(crate) fn play_over(
 ) -> Played
     requires { 0 < length buffer.old }
 {
-    let mut beginnings = Beginnings {
-        firsts: Vec::new(alloc),
-    };
+    let mut beginnings = Beginnings::new(alloc);
     let mut output = Output::new(tray);
     let result = run_in(alloc, &mut beginnings, input, &mut output, buffer);
     (result, output.into_inner())
@@ -178,9 +186,7 @@ fn every_buffer_gives_the_same(rt: HostRuntime) -> Result<(), Fail> {
         }
     }
     let mut output = Output::new(Tray::new(alloc));
-    let mut beginnings = Beginnings {
-        firsts: Vec::new(alloc),
-    };
+    let mut beginnings = Beginnings::new(alloc);
     let result = run(
         alloc,
         &mut beginnings,
@@ -267,9 +273,7 @@ fn a_failed_input_is_not_asked_again(rt: HostRuntime) -> Result<(), Fail> {
     feed.until_failure = 5;
     let mut input = Input::new(feed);
     for _ in 0..2 {
-        let mut beginnings = Beginnings {
-            firsts: Vec::new(alloc),
-        };
+        let mut beginnings = Beginnings::new(alloc);
         let mut output = Output::new(Tray::new(alloc));
         let result = run(alloc, &mut beginnings, &mut input, &mut output);
         assert_eq!(rt; result, Err(RunFault::Read));

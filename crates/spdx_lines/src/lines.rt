@@ -43,10 +43,11 @@ impl LineMode {
 /// `refused`, the place of its fault in bytes as `S..E`, and the fault; or `bad-utf8`, which counts as refused. A newline
 /// is not part of its line, a carriage return is; a last line without a newline is a line if it is not empty.
 ///
-/// The input is read by pieces as long as the buffer; each answer is written once its line is whole, and the output is
-/// flushed once, at the end. `Read` comes only where the input has failed, and `Write` only where the output has. After
-/// a fault, also one of memory, what was written is a beginning of the answers to the lines that were read whole; after
-/// `Read` it is all of them. An input that is cut behind newlines is answered piece by piece (`splits`).
+/// The input is read by pieces as long as the buffer; the answers to the lines that end in a piece are written together
+/// before the input is read on, and the output is flushed once, at the end. `Read` comes only where the input has
+/// failed, and `Write` only where the output has. After a fault, also one of memory, what was written is a beginning of
+/// the answers to the lines that were read whole; after `Read` it is all of them. An input that is cut behind newlines
+/// is answered piece by piece (`splits`).
 pub fn run_in<'c, I: Source, O: Sink>(
     alloc: Global,
     cat: &'c Catalogue,
@@ -71,7 +72,8 @@ pub fn run_in<'c, I: Source, O: Sink>(
     engine::run_in(alloc, &mut each, input, output, buffer)
 }
 
-/// `run_in` with a buffer of 4,096 bytes.
+/// `run_in` with a buffer of 65,536 bytes, which is let go at the end. Where no memory is found for it, nothing is
+/// read: that is `Memory`, unless the input has failed before.
 pub fn run<'c, I: Source, O: Sink>(
     alloc: Global,
     cat: &'c Catalogue,
@@ -126,7 +128,8 @@ pub fn run_all_in<'c, I: Source, O: Sink>(
     engine::run_in(alloc, &mut all, input, output, buffer)
 }
 
-/// `run_all_in` with a buffer of 4,096 bytes.
+/// `run_all_in` with a buffer of 65,536 bytes, which is let go at the end. Where no memory is found for it, nothing is
+/// read: that is `Memory`, unless the input has failed before.
 pub fn run_all<'c, I: Source, O: Sink>(
     alloc: Global,
     cat: &'c Catalogue,

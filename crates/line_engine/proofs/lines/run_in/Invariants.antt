@@ -1,5 +1,7 @@
 use Rattle.std.proofs.Common.{◌≡◌, ℕ, List}
-use Rattle.std.specs.Io.KnownBytes.{Consumes}
+use Rattle.std.specs.Io.KnownBytes.{Appends, Consumes}
+use Rattle.line_engine.specs.Cut.{cut}
+use Rattle.line_engine.specs.Output.{text_of}
 use Rattle.line_engine.specs.Progress.{state, HasKept}
 use Rattle.line_engine.proofs.lines.run_in.Given as goal
 
@@ -7,7 +9,8 @@ abbrev pub invariant-loop-kept : goal.invariant-loop-kept
 invariant-loop-kept g l = record {
   rule : g.V.Verdicts.rule l.verdicts ≡ g.V.Verdicts.rule l.initial.verdicts;
   bytes : (bytes : List ℕ) × Consumes (g.I.Source.told l.initial.input).bytes (g.I.Source.told l.input).bytes bytes
-      × HasKept (g.V.Verdicts.rule l.initial.verdicts) bytes (g.O.Sink.told l.initial.output).bytes l.kept.line.items (state (g.V.Verdicts.HasAnswered l.verdicts) (g.O.Sink.told l.output) l.kept.tally.summary);
+      × Appends (g.O.Sink.told l.initial.output).bytes (g.O.Sink.told l.output).bytes (text_of (g.V.Verdicts.rule l.initial.verdicts) (cut bytes).whole)
+      × HasKept (g.V.Verdicts.rule l.initial.verdicts) bytes (text_of (g.V.Verdicts.rule l.initial.verdicts) (cut bytes).whole) l.kept.line.items (state (g.V.Verdicts.HasAnswered l.verdicts) l.kept.tally.answers.items l.kept.tally.summary);
 }
 
 abbrev pub decreases-loop-kept : goal.decreases-loop-kept
