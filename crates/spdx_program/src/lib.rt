@@ -4,13 +4,13 @@
 use spdx_lines::program::serve;
 use spdx_lines::{Input as Lines, Output, write_all};
 use std::alloc::{AllocError, Global};
-use std::io::{self, BufWriter, ErrorKind, Write};
+use std::io::{self, ErrorKind, Write};
 use std::process::ExitCode;
 use std::rt::{Env, Files};
 use std::{env, fs};
 
 /// Serves the arguments of the process. The first names the catalogue's file; the lines come from standard input. The
-/// answers go to `output` through a buffer, and the line that tells of a fault to `faults`.
+/// answers go to `output`, and the line that tells of a fault to `faults`.
 pub fn start<R: Env + Files + Input + AllocGlobal, O: Write + Drop, F: Write + Drop>(
     rt: &R,
     output: O,
@@ -26,7 +26,7 @@ pub fn start<R: Env + Files + Input + AllocGlobal, O: Write + Drop, F: Write + D
     }
 }
 
-// Serves what the arguments say. The output is written out by the run at its end, or else when it is let go.
+// Serves what the arguments say.
 fn answer<R: Env + Files + Input + AllocGlobal, O: Write + Drop, F: Write>(
     rt: &R,
     output: O,
@@ -34,10 +34,7 @@ fn answer<R: Env + Files + Input + AllocGlobal, O: Write + Drop, F: Write>(
 ) -> Result<u8, AllocError> {
     let alloc = rt.alloc();
     let mut input = Lines::new(rt.reader());
-    let Ok(writer) = BufWriter::new(alloc, output) else {
-        return Err(AllocError);
-    };
-    let mut output = Output::new(writer);
+    let mut output = Output::new(output);
     let Some(words) = arguments(rt)? else {
         return Ok(serve(alloc, None, None, &mut input, &mut output, faults));
     };
