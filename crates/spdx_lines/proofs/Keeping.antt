@@ -1,10 +1,10 @@
 -- What is kept of the trees of accepted lines, and what stands behind all of them.
-use Rattle.std.proofs.Common.{◌≡◌, ℕ, ◌<◌, Result, Ok, Err, OnOk, length, get_or, map, codes, append_assoc, List, [], ◌∷◌, ◌++◌, ◌⊎◌, inl, inr, All, refl, sym, ◌∙◌, ap, subst, append-nil, arith}
-use Rattle.std.specs.Prelude.{◌↔◌, Contains}
+use Rattle.std.proofs.Common.{◌≡◌, ℕ, ◌<◌, Result, Ok, Err, OnOk, length, get_or, map, codes, append_assoc, List, [], ◌∷◌, ◌++◌, inl, inr, All, sym, ◌∙◌, ap, subst, append-nil, arith}
+use Rattle.std.specs.Prelude.{Contains}
 use Rattle.std.specs.List.{flat_map}
 use Rattle.std.proofs.lemmas.List.{length-map, get_or-map}
 use Rattle.std.proofs.lemmas.Grind.{flat_map-append}
-use Rattle.std.proofs.lemmas.List.Elements.{All-nil, All-push, Contains-append_left, Contains-append_right, Contains-append_cases, Contains-push, Contains-push_cases, Contains-get_or}
+use Rattle.std.proofs.lemmas.List.Elements.{All-nil, All-push, Contains-append_left, Contains-append_right, Contains-append_cases, Contains-push, Contains-push_cases}
 use Rattle.spdx_catalogue.specs.Rows.{Rows}
 use Rattle.spdx_catalogue.specs.Items.{Requirement}
 use Rattle.spdx_parser.specs.Tree.{Tree}
@@ -13,7 +13,7 @@ use Rattle.spdx.specs.Choice.{Choice, choice_of}
 use Rattle.spdx.specs.Doubles.{SameMembers}
 use Rattle.spdx.proofs.Doubles.{choice_same}
 use Rattle.spdx_lines.specs.declared.lines.LineMode.{LineMode}
-use Rattle.spdx_lines.specs.Verdict.{Verdict, Accepted, verdict, tree_in, accepted_trees, choice_text, all_text}
+use Rattle.spdx_lines.specs.Verdict.{Accepted, verdict, tree_in, accepted_trees, choice_text, all_text}
 use Rattle.spdx_lines.specs.Lines.{rule_of_all, ClosesAlike}
 use Rattle.spdx_lines.specs.Answer.{AreKept}
 

@@ -1,5 +1,5 @@
 -- The verdict that is found is the one that the definitions give.
-use Rattle.std.proofs.Common.{◌≡◌, ℕ, Bool, true, false, cond, List, [], ◌∷◌, map, Result, Ok, Err, refl, sym, ◌∙◌, ap, subst}
+use Rattle.std.proofs.Common.{◌≡◌, ℕ, Bool, true, false, cond, List, [], map, Ok, Err, refl, sym, ◌∙◌, ap}
 use Rattle.std.specs.Prelude.{unwrap_or, IsUtf8}
 use Rattle.std.specs.Str.{is_utf8}
 use Rattle.std.specs.Result.{result_ok}

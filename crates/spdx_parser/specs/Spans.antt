@@ -1,7 +1,7 @@
 -- Where the words of a text and the nodes of an expression stand.
-use Rattle.std.specs.Prelude.{List, [], ◌∷◌, Option, Some, None, map, if◌then◌else◌}
+use Rattle.std.specs.Prelude.{List, [], ◌∷◌, Option, Some, None, if◌then◌else◌}
 use Rattle.spdx_lexer.specs.Code.{span_of}
-use Rattle.spdx_lexer.specs.Words.{Word, Span, Placed}
+use Rattle.spdx_lexer.specs.Words.{Span, Placed}
 use Rattle.spdx_parser.specs.declared.node.ExprNode.{ExprNode}
 use Rattle.spdx_parser.specs.Last.{Last, next_last, is_license}
 
