@@ -1,6 +1,6 @@
 // The program, apart from its arguments and files.
 
-ghost use Rattle.std.specs.Prelude.{◌≡◌, ℕ, ◌++◌, List, IfOk, IfErr, OnOk, Ok};
+ghost use Rattle.std.specs.Prelude.{◌≡◌, ℕ, ◌++◌, List, IfOk, IfErr, OnOk, Ok, is_some};
 ghost use Rattle.line_engine.specs.Device.{devices};
 ghost use Rattle.line_engine.specs.Runs.{Runs};
 ghost use Rattle.spdx_catalogue.specs.Rows.{Rows};
@@ -230,6 +230,14 @@ fn status(stop: &Stop<'_>) -> u8
         Stop::Run(_) => 3,
         _ => 2,
     }
+}
+
+/// Whether the words name a catalogue and say how the lines are read. Where they don't, `serve` tells of the usage
+/// whatever the catalogue holds, so nobody has to read it.
+pub fn are_understood(words: &[&str]) -> bool
+    ensures { result ≡ is_some (task_in (texts_of words.now)) }
+{
+    task_of(words).is_some()
 }
 
 /// Serves a program `spdx_lines CATALOGUE strict|lax|strict-all|lax-all|normal [LICENSEE]..`, apart from its arguments and

@@ -1,7 +1,7 @@
 //! The program over the system: its arguments, the catalogue's file and standard input. The outputs are handed in.
 #![tactic(auto)]
 
-use spdx_lines::program::serve;
+use spdx_lines::program::{are_understood, serve};
 use spdx_lines::{Input as Lines, Output, write_all};
 use std::alloc::{AllocError, Global};
 use std::io::{self, ErrorKind, Write};
@@ -26,7 +26,8 @@ pub fn start<R: Env + Files + Input + AllocGlobal, O: Write + Drop, F: Write + D
     }
 }
 
-// Serves what the arguments say.
+// Serves what the arguments say. The catalogue is read only where they are understood: its file may be a pipe that
+// nobody writes to.
 fn answer<R: Env + Files + Input + AllocGlobal, O: Write + Drop, F: Write>(
     rt: &R,
     output: O,
@@ -38,8 +39,12 @@ fn answer<R: Env + Files + Input + AllocGlobal, O: Write + Drop, F: Write>(
     let Some(words) = arguments(rt)? else {
         return Ok(serve(alloc, None, None, &mut input, &mut output, faults));
     };
-    let bytes = bytes_of(rt, words.first())?;
     let texts = texts(alloc, &words)?;
+    let bytes = if are_understood(texts.as_slice()) {
+        bytes_of(rt, words.first())?
+    } else {
+        None
+    };
     let bytes = match &bytes {
         Some(bytes) => Some(bytes.as_slice()),
         None => None,
