@@ -1,6 +1,6 @@
 // Lines in, answers out, a piece of the input at a time.
 
-ghost use Rattle.std.specs.Prelude.{◌≡◌, ℕ, ◌<◌, ◌++◌, ◌∷◌, [], List, length, true, false, IfSome, IsNone, Option, OnOk, OnErr, IsErrOf, if◌then◌else◌};
+ghost use Rattle.std.specs.Prelude.{◌≡◌, ℕ, ◌<◌, ◌++◌, ◌∷◌, [], List, length, true, false, IfSome, IsNone, IfOk, Option, OnOk, OnErr, IsErrOf, if◌then◌else◌};
 ghost use Rattle.std.specs.Io.KnownBytes.{Appends};
 ghost use Rattle.line_engine.specs.Cut.{lines_of, HasNoNewline};
 ghost use Rattle.line_engine.specs.Device.{devices};
@@ -263,7 +263,14 @@ pub fn run_in<V: Verdicts, I: Source, O: Sink>(
     }
 }
 
-// The fault of a run that found no memory before it could read.
+// Room for a piece of the input.
+fn room(alloc: Global) -> Result<Vec<u8>, AllocError>
+    ensures { IfOk result (λ buffer. 0 < length buffer.items) }
+{
+    vec![in alloc; 0u8; PIECE]
+}
+
+// The fault of a run that found no such room: `Read` has to come if the input has failed before.
 fn unread<I: Source>(input: &I) -> RunFault
     ensures { result ≡ (if (I.told input.now).has_failed then RunFault.Read else RunFault.Memory) }
 {
@@ -288,7 +295,7 @@ pub fn run<V: Verdicts, I: Source, O: Sink>(
         result }
     ensures rule { V.rule verdicts.new ≡ V.rule verdicts.old }
 {
-    let Ok(mut buffer) = vec![in alloc; 0u8; PIECE] else {
+    let Ok(mut buffer) = room(alloc) else {
         return Err(unread(input));
     };
     run_in(alloc, verdicts, input, output, &mut buffer)
