@@ -10,6 +10,12 @@ use crate::lexeme::Found;
 use crate::run::{split_name, strip};
 use crate::token::Token;
 
+const DOCUMENT: &str = "DocumentRef-";
+
+const LICENSE: &str = "LicenseRef-";
+
+const ADDITION: &str = "AdditionRef-";
+
 // The name behind the prefix.
 fn name_behind<'t>(prefix: &str, run: &'t str) -> Option<&'t str>
     ensures value { option_copied result ≡ spec.name_behind prefix.now run.now }
@@ -25,7 +31,7 @@ fn names_behind<'t>(prefix: &str, run: &'t str) -> Option<(&'t str, &'t str)>
     ensures len { IfSome result (λ names.
         13 + (length names.0.now + (length prefix.now + length names.1.now)) ≤ length run.now) }
 {
-    let rest = strip("DocumentRef-", run)?;
+    let rest = strip(DOCUMENT, run)?;
     let (document, rest) = split_name(rest);
     let rest = strip(":", rest)?;
     let name = name_behind(prefix, rest)?;
@@ -36,38 +42,40 @@ fn license_reference<'c, 't>(run: &'t str) -> Found<'c, 't>
     ensures value { option_map found_of result ≡ groups.license_reference run.now }
     ensures len { IfSome result (λ f. f.1 ≤ length run.now) }
 {
-    if let Some((document, lic_ref)) = names_behind("LicenseRef-", run) {
+    if let Some((document, lic_ref)) = names_behind(LICENSE, run) {
         let token = Token::LicenseRef {
             doc_ref: Some(document),
             lic_ref,
         };
-        return Some((token, document.len() + lic_ref.len() + 24));
+        let joined = DOCUMENT.len() + document.len() + ":".len();
+        return Some((token, joined + LICENSE.len() + lic_ref.len()));
     }
-    let lic_ref = name_behind("LicenseRef-", run)?;
+    let lic_ref = name_behind(LICENSE, run)?;
     let token = Token::LicenseRef {
         doc_ref: None,
         lic_ref,
     };
-    Some((token, lic_ref.len() + 11))
+    Some((token, LICENSE.len() + lic_ref.len()))
 }
 
 fn addition_reference<'c, 't>(run: &'t str) -> Found<'c, 't>
     ensures value { option_map found_of result ≡ groups.addition_reference run.now }
     ensures len { IfSome result (λ f. f.1 ≤ length run.now) }
 {
-    if let Some((document, add_ref)) = names_behind("AdditionRef-", run) {
+    if let Some((document, add_ref)) = names_behind(ADDITION, run) {
         let token = Token::AdditionRef {
             doc_ref: Some(document),
             add_ref,
         };
-        return Some((token, document.len() + add_ref.len() + 25));
+        let joined = DOCUMENT.len() + document.len() + ":".len();
+        return Some((token, joined + ADDITION.len() + add_ref.len()));
     }
-    let add_ref = name_behind("AdditionRef-", run)?;
+    let add_ref = name_behind(ADDITION, run)?;
     let token = Token::AdditionRef {
         doc_ref: None,
         add_ref,
     };
-    Some((token, add_ref.len() + 12))
+    Some((token, ADDITION.len() + add_ref.len()))
 }
 
 // A reference, of a licence or else of an addition.
