@@ -7,10 +7,6 @@ mod each_line;
 mod kept;
 pub mod lines;
 pub mod program;
-#[cfg(test)]
-mod row_tests;
-#[cfg(test)]
-mod tests;
 mod text;
 
 pub use crate::lines::{LineMode, run, run_all, run_all_in, run_in};

@@ -1,7 +1,7 @@
 // Catalogues that are read from JSON.
 
 use crate::answer::{Answer, NoAnswer};
-use crate::written_out::number;
+use row_texts::number;
 use spdx::{Catalogue, Failure};
 use std::alloc::{AllocError, Global};
 

@@ -18,7 +18,6 @@ mod licensees;
 mod parsing;
 mod printing;
 mod rows;
-mod written_out;
 
 use crate::catalogues::Catalogues;
 use crate::rows::Tally;

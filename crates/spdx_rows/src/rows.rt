@@ -2,8 +2,8 @@
 
 use crate::answer::{Answer, NoAnswer, two_parts};
 use crate::catalogues::Catalogues;
-use crate::written_out::written_out;
 use crate::{canonical, choice, copies, evaluation, json, lexing, licensees, parsing, printing};
+use row_texts::written_out;
 use spdx::Catalogue;
 use std::alloc::{AllocError, Global};
 

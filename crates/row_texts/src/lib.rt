@@ -1,4 +1,5 @@
-// Short forms for long texts.
+//! Short forms for the long texts of rows.
+#![tactic(auto)]
 
 use std::alloc::{AllocError, Global};
 
