@@ -3,9 +3,9 @@ use Rattle.std.proofs.Common.{◌≡◌, ℕ, ◌+◌, nat_eq, Bool, true, false
 use Rattle.std.specs.Prelude.{count_by}
 use Rattle.std.proofs.lemmas.Grind.{common_steps, flat_map-append}
 use Rattle.line_engine.specs.Rule.{Rule}
-use Rattle.line_engine.specs.Cut.{Cut, cut, before_cut, onto_first, last_line, lines_of}
+use Rattle.line_engine.specs.Lines.{Cut, cut, before_cut, onto_first, last_line, lines_of}
 use Rattle.line_engine.specs.Output.{text_of, output_of}
-use Rattle.line_engine.specs.Split.{EndsLine, SplitsAtLines}
+use Rattle.line_engine.specs.Pieces.{EndsLine, SplitsAtLines}
 use Rattle.line_engine.proofs.Cutting.{cut-newline}
 
 -- more lines before a cut

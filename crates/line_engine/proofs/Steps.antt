@@ -4,10 +4,10 @@ use Rattle.std.specs.Io.KnownBytes.{Appends, Consumes, Keeps, IsAtEnd}
 use Rattle.std.proofs.lemmas.Grind.{common_steps, flat_map-append}
 use Rattle.line_engine.specs.declared.lines.Summary.{Summary}
 use Rattle.line_engine.specs.Rule.{Rule}
-use Rattle.line_engine.specs.Cut.{Cut, cut, lines_of, HasNoNewline}
+use Rattle.line_engine.specs.Lines.{Cut, cut, lines_of, HasNoNewline}
 use Rattle.line_engine.specs.Output.{text_of, summary_of, count_line}
 use Rattle.line_engine.specs.Device.{Devices}
-use Rattle.line_engine.specs.Progress.{AppendsBeginning, State, state, HasPut, HasPutAll, HasKept, HasEnded, HasRun, HasBegun}
+use Rattle.line_engine.specs.Progress.{AppendsBeginning, Progress, state, HasPut, HasPutAll, HasKept, HasEnded, HasRun, HasBegun}
 use Rattle.line_engine.proofs.Known.{Appends-then, Appends-Keeps, Consumes-then, AppendsBeginning-then, AppendsBeginning-more, AppendsBeginning-all}
 use Rattle.line_engine.proofs.Cutting.{cut-newline, cut-plain, cut-more}
 use Rattle.line_engine.proofs.Dividing.{cut_is}
@@ -19,7 +19,7 @@ summary_of-one : (rule : Rule) (lines : List (List ℕ)) (line : List ℕ) → s
 summary_of-one rule lines line = grind (arith, common_steps)
 
 -- one more line
-put_more : (rule : Rule) (lines : List (List ℕ)) (line written : List ℕ) (old new : State) →
+put_more : (rule : Rule) (lines : List (List ℕ)) (line written : List ℕ) (old new : Progress) →
     HasPutAll rule lines written old → HasPut rule line old new → HasPutAll rule (lines ++ line ∷ []) written new
 put_more rule lines line written old new d p = record {
   text =
@@ -30,7 +30,7 @@ put_more rule lines line written old new d p = record {
 }
 
 -- bytes without a newline are kept
-pub plain_step : (rule : Rule) (bytes xs written kept : List ℕ) (now : State) → HasNoNewline xs →
+pub plain_step : (rule : Rule) (bytes xs written kept : List ℕ) (now : Progress) → HasNoNewline xs →
     HasKept rule bytes written kept now → HasKept rule (bytes ++ xs) written (kept ++ xs) now
 plain_step rule bytes xs written kept now n h =
     let e = cut-plain bytes xs n in
@@ -40,7 +40,7 @@ plain_step rule bytes xs written kept now n h =
     }
 
 -- a newline ends the line that is kept
-newline_step : (rule : Rule) (bytes written kept : List ℕ) (old new : State) →
+newline_step : (rule : Rule) (bytes written kept : List ℕ) (old new : Progress) →
     HasKept rule bytes written kept old → HasPut rule kept old new → HasKept rule (bytes ++ 10 ∷ []) written [] new
 newline_step rule bytes written kept old new h p =
     let e = cut-newline bytes in
@@ -63,7 +63,7 @@ done_parts done end behind rest piece e d =
     append_assoc (done ++ end) (10 ∷ []) behind ∙ append_assoc done end (10 ∷ behind) ∙ ap (λ (xs : List ℕ). done ++ xs) (sym e) ∙ d
 
 -- the next line of a piece
-pub line_step : (rule rule' : Rule) (bytes done end written kept kept' : List ℕ) (old new : State) → rule' ≡ rule → HasNoNewline end → kept' ≡ [] →
+pub line_step : (rule rule' : Rule) (bytes done end written kept kept' : List ℕ) (old new : Progress) → rule' ≡ rule → HasNoNewline end → kept' ≡ [] →
     HasPut rule' (kept ++ end) old new →
     HasKept rule (bytes ++ done) written kept old → HasKept rule (bytes ++ (done ++ end ++ 10 ∷ [])) written kept' new
 line_step rule rule' bytes done end written kept kept' old new r n k p h =
@@ -74,7 +74,7 @@ line_step rule rule' bytes done end written kept kept' old new r n k p h =
     subst (λ (line : List ℕ). HasKept rule (bytes ++ (done ++ end ++ 10 ∷ [])) written line new) (sym k) v
 
 -- the end of a piece
-pub rest_step : (rule : Rule) (bytes done rest piece written kept : List ℕ) (now : State) → HasNoNewline rest → done ++ rest ≡ piece →
+pub rest_step : (rule : Rule) (bytes done rest piece written kept : List ℕ) (now : Progress) → HasNoNewline rest → done ++ rest ≡ piece →
     HasKept rule (bytes ++ done) written kept now → HasKept rule (bytes ++ piece) written (kept ++ rest) now
 rest_step rule bytes done rest piece written kept now n d h =
     subst (λ (xs : List ℕ). HasKept rule (bytes ++ xs) written (kept ++ rest) now) d
@@ -82,7 +82,7 @@ rest_step rule bytes done rest piece written kept now n d h =
     (plain_step rule (bytes ++ done) rest written kept now n h))
 
 -- what stands behind all answers
-pub end_step : (rule rule' : Rule) (bytes written answers : List ℕ) (all : State) → rule' ≡ rule →
+pub end_step : (rule rule' : Rule) (bytes written answers : List ℕ) (all : Progress) → rule' ≡ rule →
     HasPutAll rule (lines_of bytes) written all →
     ((lines : List (List ℕ)) → all.HasAnswered lines → answers ≡ all.answers ++ rule'.closing lines) → HasEnded rule bytes written answers all.summary
 end_step rule rule' bytes written answers all r p close =
@@ -104,7 +104,7 @@ read_end input input' input'' bytes count buffer z c d =
 -- ---- a run of these devices, whose output told so much once the answers to the whole lines of these bytes were written
 
 module _ (rule rule' : Rule) (d : Devices) (now : Option (List ℕ)) (bytes : List ℕ) (written : Appends d.output.bytes now (text_of rule (cut bytes).whole))
-    (kept : List ℕ) (before : State) (h : HasKept rule bytes (text_of rule (cut bytes).whole) kept before) (same : rule' ≡ rule) where
+    (kept : List ℕ) (before : Progress) (h : HasKept rule bytes (text_of rule (cut bytes).whole) kept before) (same : rule' ≡ rule) where
   -- one more piece was read
   module _ (middle : Option (List ℕ)) (piece : List ℕ) (read : Consumes d.input.bytes middle bytes) (more : Consumes middle d.input'.bytes piece) where
     read_piece : Consumes d.input.bytes d.input'.bytes (bytes ++ piece)
@@ -119,7 +119,7 @@ module _ (rule rule' : Rule) (d : Devices) (now : Option (List ℕ)) (bytes : Li
         begun_piece (begun_more rule bytes piece d.output.bytes d.output'.bytes
         (AppendsBeginning-all d.output.bytes d.output'.bytes _ (subst (λ (xs : Option (List ℕ)). Appends d.output.bytes xs (text_of rule (cut bytes).whole)) e written)))
 
-    module _ (kept' : List ℕ) (after : State) (f : (xs done : List ℕ) → HasKept rule' xs done kept before → HasKept rule' (xs ++ piece) done kept' after) where
+    module _ (kept' : List ℕ) (after : Progress) (f : (xs done : List ℕ) → HasKept rule' xs done kept before → HasKept rule' (xs ++ piece) done kept' after) where
       taken : HasKept rule (bytes ++ piece) (text_of rule (cut bytes).whole) kept' after
       taken =
           let F : Rule → Type 0 = λ r. HasKept r bytes (text_of rule (cut bytes).whole) kept before → HasKept r (bytes ++ piece) (text_of rule (cut bytes).whole) kept' after in

@@ -1,7 +1,7 @@
-pub mod Cut
+pub mod Lines
 pub mod Device
 pub mod Output
 pub mod Progress
 pub mod Rule
 pub mod Runs
-pub mod Split
+pub mod Pieces

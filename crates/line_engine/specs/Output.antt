@@ -3,7 +3,7 @@ use Rattle.std.specs.Prelude.{ℕ, ◌-◌, ◌^◌, ◌+◌, min, if◌then◌e
 use Rattle.std.specs.List.{flat_map}
 use Rattle.line_engine.specs.declared.lines.Summary.{Summary}
 use Rattle.line_engine.specs.Rule.{Rule}
-use Rattle.line_engine.specs.Cut.{cut, lines_of}
+use Rattle.line_engine.specs.Lines.{cut, lines_of}
 
 -- what is written for lines
 abbrev pub text_of : Rule → List (List ℕ) → List ℕ

@@ -4,7 +4,7 @@ use Rattle.std.specs.Io.KnownBytes.{Appends, Consumes, IsAtEnd}
 use Rattle.line_engine.specs.declared.lines.Summary.{Summary}
 use Rattle.line_engine.specs.Device.{Devices}
 use Rattle.line_engine.specs.Rule.{Rule}
-use Rattle.line_engine.specs.Cut.{cut, lines_of, IsCut}
+use Rattle.line_engine.specs.Lines.{cut, lines_of, IsCut}
 use Rattle.line_engine.specs.Output.{text_of, output_of, output_so_far, summary_of, count_line}
 
 -- a beginning of these bytes was taken
@@ -15,28 +15,28 @@ pub record AppendsBeginning (old new : Option (List ℕ)) (bytes : List ℕ) : T
   pub appended : Appends old new begun
 
 -- which lines may be answered so far, the answers that are not yet written, and the counts
-pub record State : Type 1 where
+pub record Progress : Type 1 where
   pub HasAnswered : List (List ℕ) → Type 0
   pub answers : List ℕ
   pub summary : Summary
 
-abbrev pub state : (List (List ℕ) → Type 0) → List ℕ → Summary → State
+abbrev pub state : (List (List ℕ) → Type 0) → List ℕ → Summary → Progress
 state HasAnswered answers summary = record { HasAnswered = HasAnswered; answers = answers; summary = summary }
 
 -- one more line is answered and counted
-pub record HasPut (rule : Rule) (line : List ℕ) (old new : State) : Type 0 where
+pub record HasPut (rule : Rule) (line : List ℕ) (old new : Progress) : Type 0 where
   pub text : new.answers ≡ old.answers ++ rule.text line
   pub counted : new.summary ≡ count_line old.summary (rule.refuses line)
   pub answered : (lines : List (List ℕ)) → old.HasAnswered lines → new.HasAnswered (lines ++ line ∷ [])
 
 -- these lines are answered and counted: the first of the answers are written, the others are not yet
-pub record HasPutAll (rule : Rule) (lines : List (List ℕ)) (written : List ℕ) (now : State) : Type 0 where
+pub record HasPutAll (rule : Rule) (lines : List (List ℕ)) (written : List ℕ) (now : Progress) : Type 0 where
   pub text : written ++ now.answers ≡ text_of rule lines
   pub counted : now.summary ≡ summary_of rule lines
   pub answered : now.HasAnswered lines
 
 -- of the bytes read so far each whole line is answered and counted, and the incomplete one is kept
-pub record HasKept (rule : Rule) (bytes written kept : List ℕ) (now : State) : Type 0 where
+pub record HasKept (rule : Rule) (bytes written kept : List ℕ) (now : Progress) : Type 0 where
   pub put : HasPutAll rule (cut bytes).whole written now
   pub rest : kept ≡ (cut bytes).rest
 

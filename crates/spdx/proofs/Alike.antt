@@ -5,11 +5,11 @@ use Rattle.std.proofs.lemmas.Bool.Decides.{same_from_decides}
 use Rattle.spdx_parser.specs.declared.node.Operator.{Operator}
 use Rattle.spdx_parser.specs.Tree.{Tree, Leaf, Join, Node, Op, Req, postfix}
 use Rattle.std.proofs.lemmas.List.{append-nil}
-use Rattle.spdx.specs.Written.{join_trees, trees_behind}
-use Rattle.spdx.specs.Coding.{trees_behind_postfix}
-use Rattle.spdx_licensee.specs.Alike.{same_requirement}
-use Rattle.spdx_licensee.specs.Equality.{both_true, true_both}
-use Rattle.spdx.specs.Alike.{same_operator, same_node, same_tree}
+use Rattle.spdx.specs.Value.{join_trees, trees_behind}
+use Rattle.spdx.specs.CodeLaws.{trees_behind_postfix}
+use Rattle.spdx_licensee.specs.Equality.{same_requirement}
+use Rattle.spdx_licensee.specs.EqualityLaws.{both_true, true_both}
+use Rattle.spdx.specs.Equality.{same_operator, same_node, same_tree}
 
 joins_same : (o p : Operator) (ss ts : List Tree) → same_operator o p ≡ true → pointwise same_tree ss ts ≡ true → pointwise same_tree (join_trees o ss) (join_trees p ts) ≡ true
 joins_same o p [] [] e h = refl

@@ -10,7 +10,7 @@ use Rattle.spdx.specs.ByRequirement.{AnswersBy, FailsBy}
 use Rattle.spdx.specs.Calls.{CallsGive, AsksFor, refused, Evaluates, EvaluatesToFalse}
 use Rattle.spdx.specs.Choice.{holds}
 use Rattle.spdx.specs.Truth.{truth_of}
-use Rattle.spdx.specs.Written.{Written, PlacedRequirement, placed}
+use Rattle.spdx.specs.Value.{Written, PlacedRequirement, placed}
 
 -- a requirement is kept exactly if its answer is false
 keeps : (b : Bool) (x : PlacedRequirement) (xs : List PlacedRequirement) (bs : List Bool) (kept : List PlacedRequirement) → refused xs bs ≡ kept → refused (x ∷ xs) (b ∷ bs) ≡ cond (not b) (x ∷ kept) kept

@@ -1,13 +1,13 @@
 -- What holds after some of the nodes of an expression were read, where the answers to its requirements are known.
 use Rattle.std.proofs.Common.{◌≡◌, ℕ, ◌+◌, ◌-◌, ◌<◌, ◌≤◌, Bool, false, List, [], ◌∷◌, ◌++◌, length, drop, map, sym, ◌∙◌, ap, subst, arith, get_or}
 use Rattle.std.proofs.lemmas.List.{append-nil, drop_more, drop_all, length-map}
-use Rattle.spdx_truths.specs.Truths.{Stack, join_newest}
+use Rattle.bit_stack.specs.Truths.{Stack, join_newest}
 use Rattle.spdx_parser.specs.declared.node.Operator.{Operator}
 use Rattle.spdx_parser.specs.declared.node.ExpressionReq.{ExpressionReq}
 use Rattle.spdx_parser.specs.declared.node.ExprNode.{ExprNode}
 use Rattle.spdx_parser.specs.Tree.{Tree, Node, Op, postfix, leaves, node_of}
 use Rattle.spdx.specs.Truth.{joined, truth_of}
-use Rattle.spdx.specs.Written.{requirements_in}
+use Rattle.spdx.specs.Value.{requirements_in}
 use Rattle.spdx.proofs.Nodes.{requirement_at, requirements_of_tree}
 use Rattle.spdx.proofs.Machine.{stack_behind, LeavesOne, stack_behind_postfix, leaves_one_postfix}
 

@@ -8,9 +8,9 @@ use Rattle.spdx_catalogue.specs.Items.{Requirement, requirement_of}
 use Rattle.spdx_parser.specs.declared.node.ExpressionReq.{ExpressionReq}
 use Rattle.spdx_parser.specs.declared.node.ExprNode.{ExprNode}
 use Rattle.spdx_parser.specs.Tree.{Tree, postfix, leaves, node_of}
-use Rattle.spdx_choice.specs.Selection.{IsLeast, NoneSuffices}
-use Rattle.spdx_licensee.specs.Alike.{same_requirement}
-use Rattle.spdx.specs.Written.{requirements_in}
+use Rattle.least_selection.specs.Selection.{IsLeast, NoneSuffices}
+use Rattle.spdx_licensee.specs.Equality.{same_requirement}
+use Rattle.spdx.specs.Value.{requirements_in}
 use Rattle.spdx.specs.Choice.{first_ones, suffices_for, chosen_of, chosen, unmet, choice_among, choice_by, too_many, least_of}
 use Rattle.spdx.proofs.Nodes.{requirement_at, requirements_of_tree}
 use Rattle.spdx.proofs.Selections.{IsLeast-least_of, none_found}

@@ -3,13 +3,13 @@ use Rattle.std.proofs.Common.{◌≡◌, ℕ, suc, ◌+◌, ◌-◌, ◌<◌, �
 use Rattle.std.proofs.lemmas.List.{append-nil, append_assoc, drop_more, take_more, take_all, drop_all, length-map}
 use Rattle.spdx_catalogue.specs.declared.requirement.LicenseReq.{LicenseReq}
 use Rattle.spdx_catalogue.specs.Items.{Requirement}
-use Rattle.spdx_truths.specs.Truths.{Stack, join_newest}
+use Rattle.bit_stack.specs.Truths.{Stack, join_newest}
 use Rattle.spdx_parser.specs.declared.node.Operator.{Operator}
 use Rattle.spdx_parser.specs.declared.node.ExpressionReq.{ExpressionReq}
 use Rattle.spdx_parser.specs.declared.node.ExprNode.{ExprNode}
 use Rattle.spdx_parser.specs.Tree.{Tree, Node, Op, postfix, leaves, node_of}
 use Rattle.spdx.specs.Truth.{joined, truth_of}
-use Rattle.spdx.specs.Written.{requirements_in}
+use Rattle.spdx.specs.Value.{requirements_in}
 use Rattle.spdx.specs.Calls.{CallsGive, AsksFor, Evaluates}
 use Rattle.spdx.proofs.Nodes.{requirement_at, requirements_of_tree, requirements_in-append}
 use Rattle.spdx.proofs.Machine.{stack_behind, LeavesOne, stack_behind_postfix, leaves_one_postfix}

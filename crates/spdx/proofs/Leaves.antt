@@ -1,7 +1,7 @@
 -- The tree of a text that was read strictly is strict, and the printed text of each of its requirements is read back.
 use Rattle.std.proofs.Common.{◌≡◌, ℕ, List, [], ◌∷◌, map, Result, Ok, Err, IfOk, IfErr, refl, ◌∙◌, ap, IsTrue}
 use Rattle.spdx_catalogue.specs.Rows.{Rows}
-use Rattle.spdx_catalogue.specs.WellFormed.{is_well_formed}
+use Rattle.spdx_catalogue.specs.RowRules.{is_well_formed}
 use Rattle.spdx_catalogue.specs.declared.error.Failure.{Failure}
 use Rattle.spdx_catalogue.specs.declared.error.Failure.TheVariants.{Refused, Memory}
 use Rattle.spdx_catalogue.specs.Failures.{IfRefused}
@@ -12,8 +12,8 @@ use Rattle.spdx_parser.specs.Tree.{Tree, Leaf, Join}
 use Rattle.spdx_normal.specs.Law.{EachLeaf, IsStrict}
 use Rattle.spdx_normal.proofs.Leaves.{IsGood}
 use Rattle.spdx_normal.proofs.Laws.{good, good_reads}
-use Rattle.spdx.specs.Written.{Written}
-use Rattle.spdx.specs.Parsed.{IsReadFrom, ReadsBack}
+use Rattle.spdx.specs.Value.{Written}
+use Rattle.spdx.specs.Meaning.{IsReadFrom, ReadsBack}
 
 -- ---- answers
 

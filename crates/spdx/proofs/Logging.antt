@@ -2,11 +2,11 @@
 use Rattle.std.proofs.Common.{◌≡◌, ℕ, ◌≤◌, Bool, true, false, List, [], ◌∷◌, ◌++◌, length, map, refl, sym, ◌∙◌, ap}
 use Rattle.std.proofs.lemmas.List.{append_assoc, append-nil}
 use Rattle.spdx_catalogue.specs.declared.requirement.LicenseReq.{LicenseReq}
-use Rattle.spdx_truths.specs.Truths.{Stack}
+use Rattle.bit_stack.specs.Truths.{Stack}
 use Rattle.spdx_parser.specs.declared.node.ExpressionReq.{ExpressionReq}
 use Rattle.spdx_parser.specs.declared.node.ExprNode.{ExprNode}
 use Rattle.spdx_parser.specs.Tree.{Tree, postfix, node_of}
-use Rattle.spdx.specs.Written.{Written, placed_of, placed, requirements_in, placed_in, kept_if_false}
+use Rattle.spdx.specs.Value.{Written, placed_of, placed, requirements_in, placed_in, kept_if_false}
 use Rattle.spdx.specs.Calls.{CallsGive, EvaluatesToFalse, refused}
 use Rattle.spdx.proofs.Evaluating.{Evaluating, Evaluated, finishes, asks_of_tree, CallsOn}
 

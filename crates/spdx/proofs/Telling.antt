@@ -5,8 +5,8 @@ use Rattle.spdx_parser.specs.Tree.{Tree}
 use Rattle.spdx_normal.specs.Normal.{normal_text}
 use Rattle.spdx_normal.specs.Law.{IsStrict}
 use Rattle.spdx_normal.proofs.Laws as Laws
-use Rattle.spdx.specs.Alike.{same_tree, tree_key}
-use Rattle.spdx.specs.Equality.{trees_decide, tree_told}
+use Rattle.spdx.specs.Equality.{same_tree, tree_key}
+use Rattle.spdx.specs.EqualityLaws.{trees_decide, tree_told}
 
 pub tells : (c : Rows) (t u : Tree) (text : List ℕ) → text ≡ normal_text t → IsStrict c t → IsStrict c u → (text ≡ normal_text u) ↔ IsTrue (same_tree t u)
 tells c t u text e s r =

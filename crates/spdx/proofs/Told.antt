@@ -10,10 +10,10 @@ use Rattle.std.specs.declared.cmp.Ordering.{Ordering}
 use Rattle.std.specs.declared.cmp.Ordering.TheVariants.{Less, Equal, Greater}
 use Rattle.std.proofs.lemmas.Map.Text.{is_eq-slice_cmp}
 use Rattle.spdx_catalogue.specs.declared.requirement.LicenseReq.{LicenseReq}
-use Rattle.spdx_catalogue.specs.Items.{Reference, Licence, listed, referred, Addition, excepted, added, Requirement, requirement_of}
-use Rattle.spdx_catalogue.specs.Orders.{option_cmp, mark_cmp, reference_cmp, licence_cmp, addition_cmp, requirement_cmp}
+use Rattle.spdx_catalogue.specs.Items.{Reference, LicenseTerm, listed, referred, Addition, excepted, added, Requirement, requirement_of}
+use Rattle.spdx_catalogue.specs.Orders.{option_cmp, mark_cmp, reference_cmp, license_cmp, addition_cmp, requirement_cmp}
 use Rattle.spdx_catalogue.specs.contracts.requirement.LicenseReqOrd.TheImpl as req_ord
-use Rattle.spdx_licensee.specs.Alike.{same_reference, same_licence, same_addition, same_requirement}
+use Rattle.spdx_licensee.specs.Equality.{same_reference, same_license, same_addition, same_requirement}
 
 both_tied : (a b : Ordering) (x y : Bool) → is_eq a ≡ x → is_eq b ≡ y → is_eq (ordering_then a b) ≡ (x && y)
 both_tied Less b x y e f = ap (λ (z : Bool). z && y) e
@@ -35,11 +35,11 @@ options_tied cmp same h (Some x) (Some y) = h x y
 references_tied : (x y : Reference) → is_eq (reference_cmp x y) ≡ same_reference x y
 references_tied x y = both_tied _ _ _ _ (options_tied (slice_cmp nat_cmp) bytes_eq is_eq-slice_cmp x.document y.document) (is_eq-slice_cmp x.name y.name)
 
-licences_tied : (x y : Licence) → is_eq (licence_cmp x y) ≡ same_licence x y
-licences_tied (listed r m) (listed s n) = both_tied _ _ _ _ (unsigned_tied r.index s.index) (marks_tied m n)
-licences_tied (listed r m) (referred y) = refl
-licences_tied (referred x) (listed s n) = refl
-licences_tied (referred x) (referred y) = references_tied x y
+licenses_tied : (x y : LicenseTerm) → is_eq (license_cmp x y) ≡ same_license x y
+licenses_tied (listed r m) (listed s n) = both_tied _ _ _ _ (unsigned_tied r.index s.index) (marks_tied m n)
+licenses_tied (listed r m) (referred y) = refl
+licenses_tied (referred x) (listed s n) = refl
+licenses_tied (referred x) (referred y) = references_tied x y
 
 additions_tied : (x y : Addition) → is_eq (addition_cmp x y) ≡ same_addition x y
 additions_tied (excepted r) (excepted s) = unsigned_tied r.index s.index
@@ -48,7 +48,7 @@ additions_tied (added x) (excepted s) = refl
 additions_tied (added x) (added y) = references_tied x y
 
 requirements_tied : (x y : Requirement) → is_eq (requirement_cmp x y) ≡ same_requirement x y
-requirements_tied x y = both_tied _ _ _ _ (licences_tied x.licence y.licence) (options_tied addition_cmp same_addition additions_tied x.addition y.addition)
+requirements_tied x y = both_tied _ _ _ _ (licenses_tied x.license y.license) (options_tied addition_cmp same_addition additions_tied x.addition y.addition)
 
 cmp_is : (x y : LicenseReq) → req_ord.ghosts.cmp x y ≡ requirement_cmp (requirement_of x) (requirement_of y)
 cmp_is x y = search rules

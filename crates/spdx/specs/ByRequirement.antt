@@ -4,7 +4,7 @@ use Rattle.std.specs.List.{filter}
 use Rattle.spdx_catalogue.specs.declared.requirement.LicenseReq.{LicenseReq}
 use Rattle.spdx_catalogue.specs.Items.{Requirement, requirement_of}
 use Rattle.spdx.specs.Choice.{holds}
-use Rattle.spdx.specs.Written.{Written, PlacedRequirement, placed}
+use Rattle.spdx.specs.Value.{Written, PlacedRequirement, placed}
 
 -- a call in state f answers what h says of the requirement, and leaves the closure as it was
 abbrev pub AnswersBy : {F : Type 0} → (F → LicenseReq → Bool → F → Type 0) → F → (Requirement → Bool) → Type 0

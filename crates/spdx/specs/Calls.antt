@@ -3,7 +3,7 @@ use Rattle.std.specs.Prelude.{◌≡◌, Bool, true, false, List, [], ◌∷◌}
 use Rattle.spdx_catalogue.specs.declared.requirement.LicenseReq.{LicenseReq}
 use Rattle.spdx_catalogue.specs.Items.{Requirement, requirement_of}
 use Rattle.spdx_parser.specs.Tree.{Tree, leaves}
-use Rattle.spdx.specs.Written.{Written, PlacedRequirement, placed}
+use Rattle.spdx.specs.Value.{Written, PlacedRequirement, placed}
 use Rattle.spdx.specs.Truth.{truth_of}
 
 -- Called at each of xs in order, each call in the state that the one before left, a closure that was in state f answered bs

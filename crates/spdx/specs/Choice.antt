@@ -4,8 +4,8 @@ use Rattle.std.specs.List.{filter, find, list_all, list_any}
 use Rattle.spdx_catalogue.specs.Items.{Requirement}
 use Rattle.spdx_parser.specs.Tree.{Tree, leaves}
 use Rattle.spdx_licensee.specs.Satisfies.{satisfies}
-use Rattle.spdx_choice.specs.Selection.{IsLeast, NeedsEach}
-use Rattle.spdx_licensee.specs.Alike.{same_requirement}
+use Rattle.least_selection.specs.Selection.{IsLeast, NeedsEach}
+use Rattle.spdx_licensee.specs.Equality.{same_requirement}
 use Rattle.spdx.specs.Truth.{truth_of}
 
 -- those that are the same as none before them

@@ -1,96 +1,35 @@
--- Trees are the same exactly where their keys are equal; and over one catalogue that is equality of the trees.
-use Rattle.std.specs.Prelude.{◌≡◌, ℕ, true, false, Option, Some, None, option_map, slice_get}
-use Rattle.std.specs.Bool.{Decides}
-use Rattle.std.specs.Cmp.{IsPartialEquivalence}
-use Rattle.std.proofs.Common.{refl, sym, ◌∙◌, ap}
-use Rattle.std.proofs.lemmas.Bool.Decides.{same_from_decides}
-use Rattle.spdx_catalogue.specs.Rows.{Rows}
-use Rattle.spdx_catalogue.specs.Items.{Licence, listed, referred, Addition, excepted, added}
-use Rattle.spdx_catalogue.specs.Keys.{RequirementKey, licence_key, addition_key, requirement_key}
-use Rattle.spdx_licensee.specs.Equality.{both_true, true_both, requirements_decide}
+-- Equality of trees, whose rows are told apart by their index alone.
+use Rattle.std.specs.Prelude.{Bool, true, false, ◌&&◌}
+use Rattle.spdx_catalogue.specs.Keys.{RequirementKey, requirement_key}
+use Rattle.spdx_licensee.specs.Equality.{same_requirement}
 use Rattle.spdx_parser.specs.declared.node.Operator.{Operator}
 use Rattle.spdx_parser.specs.declared.node.Operator.TheVariants.{And, Or}
-use Rattle.spdx_parser.specs.Tree.{Tree, Leaf, Join}
-use Rattle.spdx_parser.specs.Parsed.{IsLicenceOf, IsAdditionOf, IsOfRows}
-use Rattle.spdx.specs.Alike.{same_operator, same_tree, leaf_key, tree_key}
+use Rattle.spdx_parser.specs.Tree.{Tree, Leaf, Join, Node, Op, Req}
 
-pub operators_decide : (o p : Operator) → Decides (same_operator o p) (o ≡ p)
-operators_decide And And = ((λ e. refl), (λ e. refl))
-operators_decide Or Or = ((λ e. refl), (λ e. refl))
-operators_decide And Or = ((λ e. let bad : false ≡ true = e in cc), (λ e. cc))
-operators_decide Or And = ((λ e. let bad : false ≡ true = e in cc), (λ e. cc))
+abbrev pub same_operator : Operator → Operator → Bool
+same_operator And And = true
+same_operator Or Or = true
+same_operator And Or = false
+same_operator Or And = false
 
-pub trees_decide : (a b : Tree) → Decides (same_tree a b) (tree_key a ≡ tree_key b)
-trees_decide (Leaf r) (Leaf s) = (
-  (λ e. ap leaf_key ((requirements_decide r s).0 e)),
-  (λ e. let same : requirement_key r ≡ requirement_key s = cc in (requirements_decide r s).1 same),
-)
-trees_decide (Join o l r) (Join p t u) = (
-  (λ e.
-      let both = both_true _ _ e in
-      let sides = both_true _ _ both.1 in
-      let operator : o ≡ p = (operators_decide o p).0 both.0 in
-      let left : tree_key l ≡ tree_key t = (trees_decide l t).0 sides.0 in
-      let right : tree_key r ≡ tree_key u = (trees_decide r u).0 sides.1 in
-      cc),
-  (λ e.
-      let operator : o ≡ p = cc in
-      let left : tree_key l ≡ tree_key t = cc in
-      let right : tree_key r ≡ tree_key u = cc in
-      true_both _ _ ((operators_decide o p).1 operator) (true_both _ _ ((trees_decide l t).1 left) ((trees_decide r u).1 right))),
-)
-trees_decide (Leaf r) (Join p t u) = ((λ e. let bad : false ≡ true = e in cc), (λ e. cc))
-trees_decide (Join o l r) (Leaf s) = ((λ e. let bad : false ≡ true = e in cc), (λ e. cc))
+abbrev pub same_node : Node → Node → Bool
+same_node (Op o) (Op p) = same_operator o p
+same_node (Req r) (Req s) = same_requirement r s
+same_node (Op o) (Req s) = false
+same_node (Req r) (Op p) = false
 
--- so it is symmetric and transitive
-pub same_tree_laws : IsPartialEquivalence same_tree
-same_tree_laws = record {
-  symm = λ a b.
-      let there = trees_decide a b in
-      let back = trees_decide b a in
-      same_from_decides (same_tree a b) (same_tree b a) there ((λ e. sym (back.0 e)), (λ e. back.1 (sym e)));
-  trans = λ a b c e f. (trees_decide a c).1 ((trees_decide a b).0 e ∙ (trees_decide b c).0 f);
-}
+-- one shape, with the same operators and the same requirements
+abbrev pub same_tree : Tree → Tree → Bool
+same_tree (Leaf r) (Leaf s) = same_requirement r s
+same_tree (Join o l r) (Join p t u) = same_operator o p && (same_tree l t && same_tree r u)
+same_tree (Leaf r) (Join p t u) = false
+same_tree (Join o l r) (Leaf s) = false
 
--- Over one catalogue a row is told by its index.
+-- What equality sees of a tree: its shape, its operators and the keys of its requirements, in which a row is its index.
+pub data TreeKey : Type 0 where
+  leaf_key : RequirementKey → TreeKey
+  join_key : Operator → TreeKey → TreeKey → TreeKey
 
-licence_told : (c : Rows) (x y : Licence) → IsLicenceOf c x → IsLicenceOf c y → licence_key x ≡ licence_key y → x ≡ y
-licence_told c (listed r m) (listed s n) h k e =
-    let index : r.index ≡ s.index = cc in
-    let mark : m ≡ n = cc in
-    let found : Some r ≡ Some s = sym h ∙ ap (λ (i : ℕ). slice_get c.licenses i) index ∙ k in
-    let row : r ≡ s = cc in
-    cc
-licence_told c (referred x) (referred y) h k e = cc
-licence_told c (listed r m) (referred y) h k e = cc
-licence_told c (referred x) (listed s n) h k e = cc
-
-addition_told : (c : Rows) (x y : Option Addition) → IsAdditionOf c x → IsAdditionOf c y → option_map addition_key x ≡ option_map addition_key y → x ≡ y
-addition_told c None None h k e = refl
-addition_told c None (Some y) h k e = cc
-addition_told c (Some x) None h k e = cc
-addition_told c (Some (excepted r)) (Some (excepted s)) h k e =
-    let index : r.index ≡ s.index = cc in
-    let found : Some r ≡ Some s = sym h ∙ ap (λ (i : ℕ). slice_get c.exceptions i) index ∙ k in
-    let row : r ≡ s = cc in
-    cc
-addition_told c (Some (added x)) (Some (added y)) h k e = cc
-addition_told c (Some (excepted r)) (Some (added y)) h k e = cc
-addition_told c (Some (added x)) (Some (excepted s)) h k e = cc
-
-pub tree_told : (c : Rows) (a b : Tree) → IsOfRows c a → IsOfRows c b → tree_key a ≡ tree_key b → a ≡ b
-tree_told c (Leaf r) (Leaf s) h k e =
-    let same : requirement_key r ≡ requirement_key s = cc in
-    let licence : r.licence ≡ s.licence = licence_told c r.licence s.licence h.0 k.0 (ap (λ (z : RequirementKey). z.licence) same) in
-    let addition : r.addition ≡ s.addition = addition_told c r.addition s.addition h.1 k.1 (ap (λ (z : RequirementKey). z.addition) same) in
-    ap (λ (l : Licence). Leaf (record { licence = l; addition = r.addition })) licence
-    ∙ ap (λ (a : Option Addition). Leaf (record { licence = s.licence; addition = a })) addition
-tree_told c (Join o l r) (Join p t u) h k e =
-    let operator : o ≡ p = cc in
-    let lefts : tree_key l ≡ tree_key t = cc in
-    let rights : tree_key r ≡ tree_key u = cc in
-    let left : l ≡ t = tree_told c l t h.0 k.0 lefts in
-    let right : r ≡ u = tree_told c r u h.1 k.1 rights in
-    cc
-tree_told c (Leaf r) (Join p t u) h k e = cc
-tree_told c (Join o l r) (Leaf s) h k e = cc
+abbrev pub tree_key : Tree → TreeKey
+tree_key (Leaf r) = leaf_key (requirement_key r)
+tree_key (Join o l r) = join_key o (tree_key l) (tree_key r)

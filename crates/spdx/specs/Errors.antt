@@ -9,14 +9,14 @@ use Rattle.spdx_lexer.specs.Faults as lexer
 use Rattle.spdx.specs.declared.expression.minimize.MinimizeError.{MinimizeError}
 use Rattle.spdx.specs.declared.error.Error.{Error}
 use Rattle.spdx.specs.declared.error.Error.TheVariants.{Catalogue, Parse, Minimize, Memory}
-use Rattle.spdx.specs.Minimized.{refusal_text}
+use Rattle.spdx.specs.MinimizeFaults.{minimize_text}
 
 -- the text of what was refused
-abbrev pub error_text : Error → List ℕ
-error_text (Catalogue fault) = read_text fault
-error_text (Parse e) = lexer.error_text e
-error_text (Minimize e) = refusal_text e
-error_text (Memory e) = codes "out of memory"
+abbrev pub library_text : Error → List ℕ
+library_text (Catalogue fault) = read_text fault
+library_text (Parse e) = lexer.error_text e
+library_text (Minimize e) = minimize_text e
+library_text (Memory e) = codes "out of memory"
 
 -- a refusal in its variant, and want of memory in its own
 abbrev pub error_of : {E : Type 0} → (E → Error) → Failure E → Error

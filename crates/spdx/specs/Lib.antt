@@ -1,19 +1,19 @@
-pub mod Written
-pub mod Coding
-pub mod Inside
+pub mod Value
+pub mod CodeLaws
+pub mod ExpressionModel
 pub mod Iterators
 pub mod Truth
 pub mod Calls
-pub mod Alike
 pub mod Equality
-pub mod Parsed
+pub mod EqualityLaws
+pub mod Meaning
 pub mod Choice
-pub mod Growing
-pub mod Judged
-pub mod Judging
+pub mod GrowthLaws
+pub mod Places
+pub mod JudgeModel
 pub mod Laws
 pub mod Doubles
-pub mod Minimized
+pub mod MinimizeFaults
 pub mod Errors
 pub mod ByRequirement
 -- What contracts of this crate's calls cite of the crates below, so that callers name this crate alone. Where two
@@ -34,26 +34,26 @@ pub use Rattle.spdx_catalogue.specs.Rows
 pub use Rattle.spdx_catalogue.specs.Shape
 pub use Rattle.spdx_catalogue.specs.Texts
 pub use Rattle.spdx_catalogue.specs.Versions
-pub use Rattle.spdx_catalogue.specs.WellFormed
-pub use Rattle.spdx_choice.specs.Selection
+pub use Rattle.spdx_catalogue.specs.RowRules
+pub use Rattle.least_selection.specs.Selection
 pub use Rattle.spdx_lexer.specs.Code as LexerCode
 pub use Rattle.spdx_lexer.specs.Faults as LexerFaults
-pub use Rattle.spdx_lexer.specs.Laid
-pub use Rattle.spdx_lexer.specs.Left as LexerLeft
+pub use Rattle.spdx_lexer.specs.Layout
+pub use Rattle.spdx_lexer.specs.Remainder as LexerRemainder
 pub use Rattle.spdx_lexer.specs.Lexeme
 pub use Rattle.spdx_lexer.specs.Modes
 pub use Rattle.spdx_lexer.specs.Reading
 pub use Rattle.spdx_lexer.specs.Text
 pub use Rattle.spdx_lexer.specs.Words
-pub use Rattle.spdx_licensee.specs.Alike as LicenseeAlike
+pub use Rattle.spdx_licensee.specs.Equality as LicenseeEquality
 pub use Rattle.spdx_licensee.specs.Answers
-pub use Rattle.spdx_licensee.specs.Named
+pub use Rattle.spdx_licensee.specs.LicenseeText
 pub use Rattle.spdx_licensee.specs.Satisfies
 pub use Rattle.spdx_licensee.specs.Version
 pub use Rattle.spdx_parser.specs.Faults as ParserFaults
 pub use Rattle.spdx_parser.specs.Grammar
 pub use Rattle.spdx_parser.specs.Nodes
-pub use Rattle.spdx_parser.specs.Parsed as ParserParsed
+pub use Rattle.spdx_parser.specs.Meaning as ParserMeaning
 pub use Rattle.spdx_parser.specs.Spans
 pub use Rattle.spdx_parser.specs.Tree
 pub use Rattle.spdx_canonical.specs.Canonical

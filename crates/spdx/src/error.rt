@@ -3,7 +3,7 @@
 ghost use Rattle.std.specs.Prelude.{◌≡◌, Some, alloc_error};
 ghost use Rattle.spdx_catalogue.specs.declared.error.ReadFault.TheVariants as read;
 ghost use Rattle.spdx.specs.declared.error.Error.TheVariants as variant;
-ghost use Rattle.spdx.specs.Errors.{error_text, error_of};
+ghost use Rattle.spdx.specs.Errors.{library_text, error_of};
 
 pub use crate::expression::MinimizeError;
 pub use spdx_catalogue::{CatalogueError, Failure, Field, List, ReadFault};
@@ -29,7 +29,7 @@ pub enum Error<'t> {
 }
 
 impl fmt::Display for Error<'_> {
-    ghost output = { λ e. Some (error_text e) };
+    ghost output = { λ e. Some (library_text e) };
 
     fn fmt<W: fmt::Write>(&self, f: &mut fmt::Formatter<W>) -> fmt::Result {
         match self {

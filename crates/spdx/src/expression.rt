@@ -3,7 +3,7 @@
 ghost use Rattle.std.specs.Prelude.{◌≡◌, ◌<◌, ◌^◌, IfOk, List, length, map, string_bytes};
 ghost use Rattle.spdx_parser.specs.Tree.{Tree, postfix, leaves, node_of};
 ghost use Rattle.spdx_parser.specs.Spans.{requirement_spans};
-ghost use Rattle.spdx.specs.Written.{Written, IsPostfix, tree_of, placed, placed_of, placed_in};
+ghost use Rattle.spdx.specs.Value.{Written, IsPostfix, tree_of, placed, placed_of, placed_in};
 ghost use Rattle.spdx.specs.Iterators.{nodes_left, placed_nodes, requirements_left};
 
 use smallvec::SmallVec;
@@ -41,15 +41,15 @@ pub struct Expression<'c> {
 }
 
 impl<'c> Model for Expression<'c> {
-    ghost use Rattle.spdx.specs.Written.{Written};
+    ghost use Rattle.spdx.specs.Value.{Written};
     ghost use Rattle.std.specs.Coded.{codes};
-    ghost use Rattle.spdx.specs.Coding.{tree_code};
+    ghost use Rattle.spdx.specs.CodeLaws.{tree_code};
 
     ghost Value = { Written };
 
     ghost coded = { Prim.hlevel (codes, tree_code (Prim.hlevel codes)) };
 
-    ghost use Rattle.spdx.specs.Inside.{written, IsWritten};
+    ghost use Rattle.spdx.specs.ExpressionModel.{written, IsWritten};
 
     ghost view = { written };
 

@@ -20,6 +20,6 @@ pub use spdx_catalogue::{
     AdditionItem, AdditionRef, Catalogue, Exception, ExceptionId, ImpreciseName, License,
     LicenseId, LicenseItem, LicenseRef, LicenseReq, flags,
 };
-pub use spdx_choice::{Sufficiency, least_selection};
+pub use least_selection::{Sufficiency, select_least};
 pub use spdx_lexer::token::ParseMode;
 pub use spdx_licensee::Licensee;

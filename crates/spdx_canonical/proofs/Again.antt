@@ -3,7 +3,7 @@ use Rattle.std.proofs.Common.{◌≡◌, ℕ, Bool, true, false, List, [], ◌�
 use Rattle.spdx_catalogue.specs.Rows.{LicenseRow, Rows}
 use Rattle.spdx_catalogue.specs.Flags.{is_gnu}
 use Rattle.spdx_catalogue.specs.LookUps.{listed}
-use Rattle.spdx_catalogue.specs.WellFormed.{is_well_formed}
+use Rattle.spdx_catalogue.specs.RowRules.{is_well_formed}
 use Rattle.spdx_lexer.specs.Words.{Word, Spdx, LicenseRef, Exception, AdditionRef, Unknown, Plus, OpenParen, CloseParen, With, And, Or}
 use Rattle.spdx_canonical.specs.Canonical.{is_spdx, gnu_name, written_name, plus_follows, word_text, text_behind, canonical_row, words_by}
 use Rattle.spdx_canonical.specs.Law.{EachName}

@@ -2,14 +2,14 @@
 use Rattle.std.proofs.Common.{◌≡◌, ℕ, Bool, true, false, cond, List, [], ◌∷◌, ◌++◌, Option, Some, None, Result, Ok, Err, refl, sym, ◌∙◌, ap, append_assoc, append-nil, is_some, option_map, suc, arith}
 use Rattle.std.specs.Prelude.{codes}
 use Rattle.std.specs.List.{All}
-use Rattle.spdx_lexer.specs.Laid.{IsPlace, place_of}
+use Rattle.spdx_lexer.specs.Layout.{IsPlace, place_of}
 use Rattle.spdx_catalogue.specs.Rows.{LicenseRow}
 use Rattle.spdx_catalogue.specs.Flags.{is_gnu}
 use Rattle.spdx_lexer.specs.Words.{Word, Spdx, Plus, Fault, Span, Item, Unexpected}
 use Rattle.spdx_canonical.specs.Canonical.{gnu_name, written_name, word_text, text_behind, is_spdx, is_misplaced, canonical_fault, words_of, unless}
-use Rattle.spdx_canonical.specs.Drafted.{Drafted, extended, IsOff}
+use Rattle.spdx_canonical.specs.Draft.{Drafted, extended, IsOff}
 use Rattle.spdx_canonical.proofs.Drafts.{not_off_text}
-use Rattle.spdx_canonical.specs.Pending.{marked_name, license_text, is_plus_word, decided_text, own_text, next_text, waiting}
+use Rattle.spdx_canonical.specs.NextText.{marked_name, license_and_plus, is_plus_word, decided_text, own_text, next_text, waiting}
 
 -- the words, where a licence waits before them
 abbrev pub waiting_words : Option LicenseRow → List Word → List Word
@@ -20,7 +20,7 @@ abbrev pub continued : Drafted → Option LicenseRow → List Item → Result (L
 continued d before items = unless (canonical_fault (is_some before) items) (d.bytes ++ text_behind false (waiting_words before (words_of items)))
 
 -- a licence and its plus
-marked_text : (r : LicenseRow) (ws : List Word) → text_behind false (Spdx r ∷ Plus ∷ ws) ≡ license_text true r ++ text_behind false ws
+marked_text : (r : LicenseRow) (ws : List Word) → text_behind false (Spdx r ∷ Plus ∷ ws) ≡ license_and_plus true r ++ text_behind false ws
 marked_text r ws = each (is_gnu r.flags)
   where
     each : (g : Bool) → cond g (gnu_name true r.name) r.name ++ text_behind g (Plus ∷ ws) ≡ cond g (gnu_name true r.name) (marked_name true r.name) ++ text_behind false ws
@@ -28,7 +28,7 @@ marked_text r ws = each (is_gnu r.flags)
     each false = sym (append_assoc r.name (codes "+") (text_behind false ws))
 
 -- a licence without one
-bare_name : (r : LicenseRow) → written_name false r ≡ license_text false r
+bare_name : (r : LicenseRow) → written_name false r ≡ license_and_plus false r
 bare_name r = refl
 
 -- what a word adds, behind a licence or none
@@ -36,9 +36,9 @@ adds : (before : Option LicenseRow) (w : Word) (ws : List Word) → is_misplaced
 adds None (Plus) ws h = absurd cc
 adds None (Spdx r) ws h = refl
 adds None w ws h = refl
-adds (Some r) Plus ws h = marked_text r ws ∙ ap (λ (t : List ℕ). t ++ text_behind false ws) (sym (append-nil (license_text true r)))
-adds (Some r) (Spdx s) ws h = ap (λ (t : List ℕ). t ++ text_behind false (Spdx s ∷ ws)) (sym (append-nil (license_text false r)))
-adds (Some r) w ws h = sym (append_assoc (license_text false r) (word_text w) (text_behind false ws))
+adds (Some r) Plus ws h = marked_text r ws ∙ ap (λ (t : List ℕ). t ++ text_behind false ws) (sym (append-nil (license_and_plus true r)))
+adds (Some r) (Spdx s) ws h = ap (λ (t : List ℕ). t ++ text_behind false (Spdx s ∷ ws)) (sym (append-nil (license_and_plus false r)))
+adds (Some r) w ws h = sym (append_assoc (license_and_plus false r) (word_text w) (text_behind false ws))
 
 spdx_waits : (w : Word) → is_spdx w ≡ is_some (waiting w)
 spdx_waits (Spdx r) = refl
@@ -60,7 +60,7 @@ refused d before w s items h = ap (λ b. unless (cond b (Some (Unexpected (codes
 -- the end
 pub ended : (d : Drafted) (before : Option LicenseRow) → continued d before [] ≡ Ok (d.bytes ++ decided_text before false)
 ended d None = refl
-ended d (Some r) = ap (λ (t : List ℕ). let x : Result (List ℕ) (Fault × Span) = Ok (d.bytes ++ t) in x) (append-nil (license_text false r))
+ended d (Some r) = ap (λ (t : List ℕ). let x : Result (List ℕ) (Fault × Span) = Ok (d.bytes ++ t) in x) (append-nil (license_and_plus false r))
 
 pub is_some-map : {A B : Type 0} (f : A → B) (o : Option A) → is_some (option_map f o) ≡ is_some o
 is_some-map f None = refl
@@ -78,12 +78,12 @@ never_off d before w s items text t h o e =
     let more = text_behind false (waiting_words (waiting w) (words_of items)) in
     not_off_text d piece more o (t ∙ sym (all_of (canonical_fault (is_some (waiting w)) items) ((d.bytes ++ piece) ++ more) text (sym (step d before w s items h) ∙ e)))
 
-pub never_off_at_end : (d : Drafted) (before : Option LicenseRow) (r : LicenseRow) (text : List ℕ) → d.text ≡ text → before ≡ Some r → IsOff d (license_text false r) → continued d before [] ≡ Ok text → ⊥
+pub never_off_at_end : (d : Drafted) (before : Option LicenseRow) (r : LicenseRow) (text : List ℕ) → d.text ≡ text → before ≡ Some r → IsOff d (license_and_plus false r) → continued d before [] ≡ Ok text → ⊥
 never_off_at_end d before r text t b o e =
-    let written : Result (List ℕ) (Fault × Span) = Ok (d.bytes ++ license_text false r) in
+    let written : Result (List ℕ) (Fault × Span) = Ok (d.bytes ++ license_and_plus false r) in
     let same : written ≡ Ok text = sym (ended d (Some r)) ∙ ap (λ (x : Option LicenseRow). continued d x []) (sym b) ∙ e in
-    let whole : d.bytes ++ license_text false r ≡ text = cc in
-    not_off_text d (license_text false r) [] o (t ∙ sym whole ∙ sym (append-nil (d.bytes ++ license_text false r)))
+    let whole : d.bytes ++ license_and_plus false r ≡ text = cc in
+    not_off_text d (license_and_plus false r) [] o (t ∙ sym whole ∙ sym (append-nil (d.bytes ++ license_and_plus false r)))
 
 -- ---- the places of what is left
 

@@ -6,7 +6,7 @@ use Rattle.std.proofs.lemmas.Slice.Eq.{bytes_eq-Decides, starts_is}
 use Rattle.std.proofs.lemmas.Bool.Decides.{Decides-eqb}
 use Rattle.std.proofs.Math.Seq.{take-append_seam, take-length}
 use Rattle.spdx_catalogue.proofs.Caseless.{bytes_same}
-use Rattle.spdx_canonical.specs.Drafted.{Drafted, extended, IsOff}
+use Rattle.spdx_canonical.specs.Draft.{Drafted, extended, IsOff}
 
 abbrev pub Off : List ℕ → List ℕ → Type 0
 Off text w = starts_with nat_eq text w ≡ false

@@ -3,7 +3,7 @@ use Rattle.std.proofs.Common.{◌≡◌, ℕ, true, false, List, Some, ◌∙◌
 use Rattle.spdx_catalogue.specs.Rows.{LicenseRow, ExceptionRow, Rows}
 use Rattle.spdx_catalogue.specs.Names.{is_name, is_operator}
 use Rattle.spdx_catalogue.specs.LookUps.{listed, listed_exception, listed_caseless, listed_exception_caseless}
-use Rattle.spdx_catalogue.specs.WellFormed.{is_well_formed}
+use Rattle.spdx_catalogue.specs.RowRules.{is_well_formed}
 use Rattle.spdx_catalogue.proofs.Listed.{license_is_named, license_own_name, listed_is_license, listed_name, caseless_is_license, exception_is_named, exception_own_name, listed_is_exception, listed_exception_name, caseless_is_exception}
 
 pub record IsNamed (row t : List ℕ) : Type 0 where

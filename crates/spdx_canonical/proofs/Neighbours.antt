@@ -6,13 +6,13 @@ use Rattle.spdx_catalogue.specs.Rows.{Rows}
 use Rattle.spdx_catalogue.specs.Flags.{is_gnu}
 use Rattle.spdx_catalogue.specs.Names.{is_name_byte}
 use Rattle.spdx_catalogue.specs.LookUps as LookUps
-use Rattle.spdx_catalogue.specs.Items.{Licence, Addition, Requirement}
+use Rattle.spdx_catalogue.specs.Items.{LicenseTerm, Addition, Requirement}
 use Rattle.spdx_lexer.specs.declared.token.ParseMode.{ParseMode}
 use Rattle.spdx_lexer.specs.Words.{Word, Spdx, LicenseRef, Exception, AdditionRef, Unknown, Plus, OpenParen, CloseParen, With, And, Or}
 use Rattle.spdx_lexer.specs.Lexeme.{reference_run}
 use Rattle.spdx_parser.specs.Tree.{Tree}
 use Rattle.spdx_parser.specs.Grammar.{may_stand, Derives}
-use Rattle.spdx_parser.proofs.Threaded.{LicenceOf, plain, marked, later, named, unknown, AdditionOf, exception, named_addition, unknown_addition, LeafOf, alone, joined, PrimaryOf, leaf, group, AndOf, one_primary, and_more, OrOf, one_and, or_more, threaded}
+use Rattle.spdx_parser.proofs.Threaded.{LicenseOf, plain, marked, later, named, unknown, AdditionOf, exception, named_addition, unknown_addition, LeafOf, alone, joined, PrimaryOf, leaf, group, AndOf, one_primary, and_more, OrOf, one_and, or_more, threaded}
 use Rattle.spdx_canonical.specs.Canonical.{is_spdx}
 
 -- whether a name may not stand next
@@ -107,7 +107,7 @@ module _ (c : Rows) (m : ParseMode) where
   takes_no_end Or h = refl
   takes_no_end _ h = absurd cc
 
-  license_apart : {ws rest : List Word} {l : Licence} → LicenceOf c m ws l rest → Follows rest → (last : Word) → takes_license last ≡ true → AreApart last ws
+  license_apart : {ws rest : List Word} {l : LicenseTerm} → LicenseOf c m ws l rest → Follows rest → (last : Word) → takes_license last ≡ true → AreApart last ws
   license_apart (plain {r = r} p) f last n = (n, f (Spdx r) refl)
   license_apart (marked {r = r} p e) f last n = (n, (refl, f Plus refl))
   license_apart (later {r = r} p e q s l) f last n = (n, (refl, f Plus refl))
@@ -141,7 +141,7 @@ module _ (c : Rows) (m : ParseMode) where
 
   -- ---- and each of its licences may stand
 
-  license_stands : {ws rest : List Word} {l : Licence} → LicenceOf c m ws l rest → MayStand m rest → MayStand m ws
+  license_stands : {ws rest : List Word} {l : LicenseTerm} → LicenseOf c m ws l rest → MayStand m rest → MayStand m ws
   license_stands (plain p) f = (p, f)
   license_stands (marked p e) f = (p, f)
   license_stands (later p e q s l) f = (p, f)

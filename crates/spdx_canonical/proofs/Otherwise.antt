@@ -8,8 +8,8 @@ use Rattle.spdx_catalogue.specs.Rows.{LicenseRow, ExceptionRow, Rows}
 use Rattle.spdx_catalogue.specs.Flags.{is_gnu, is_deprecated}
 use Rattle.spdx_catalogue.specs.Names.{is_name_byte, is_name, is_operator, or_later, without_only}
 use Rattle.spdx_catalogue.specs.LookUps as LookUps
-use Rattle.spdx_catalogue.specs.Items.{Licence, listed, referred}
-use Rattle.spdx_catalogue.specs.WellFormed.{is_well_formed}
+use Rattle.spdx_catalogue.specs.Items.{LicenseTerm, listed, referred}
+use Rattle.spdx_catalogue.specs.RowRules.{is_well_formed}
 use Rattle.spdx_lexer.specs.Modes.{strict, lax}
 use Rattle.spdx_lexer.specs.Words.{Word, Spdx, LicenseRef, Exception, AdditionRef, Unknown, Plus, OpenParen, CloseParen, With, And, Or, Fault, UnknownTerm}
 use Rattle.spdx_lexer.specs.Text.{is_run_byte, name_at, strip}
@@ -17,7 +17,7 @@ use Rattle.spdx_lexer.specs.Lexeme.{Found, first_of, reference_run, name_behind,
 use Rattle.spdx_lexer.specs.Groups.{license_reference, addition_reference}
 use Rattle.spdx_parser.specs.Tree.{Tree}
 use Rattle.spdx_parser.specs.Grammar.{may_stand}
-use Rattle.spdx_parser.proofs.Threaded.{LicenceOf, plain, marked, named}
+use Rattle.spdx_parser.proofs.Threaded.{LicenseOf, plain, marked, named}
 use Rattle.spdx_canonical.proofs.Lexed.{lexeme_none}
 use Rattle.spdx_canonical.specs.Canonical.{is_spdx, written_name, plus_follows, text_behind, canonical_text, words_by}
 use Rattle.spdx_canonical.specs.Law.{EachName, is_good, IsReferenceName, tree_by, Accepts}
@@ -92,14 +92,14 @@ module _ (c : Rows) (well : IsTrue (is_well_formed c)) where
           let f = first_of_name t n in
           let L = codes "LicenseRef-" in
           let A = codes "AdditionRef-" in
-          let licence : license_reference t ≡ None =
+          let license : license_reference t ≡ None =
           ap (λ o. first_of (option_map (λ (x : List ℕ × List ℕ). (LicenseRef (Some x.0) x.1, length (reference_run L (Some x.0) x.1))) o ∷ reference L LicenseRef t ∷ [])) (names_behind_none L t a)
           ∙ ap (λ (x : Found). first_of (x ∷ [])) (unprefixed L LicenseRef t p) in
           let addition : addition_reference t ≡ None =
           ap (λ o. first_of (option_map (λ (x : List ℕ × List ℕ). (AdditionRef (Some x.0) x.1, length (reference_run A (Some x.0) x.1))) o ∷ reference A AdditionRef t ∷ [])) (names_behind_none A t a)
           ∙ ap (λ (x : Found). first_of (x ∷ [])) (unprefixed A AdditionRef t q) in
           lexeme_none c strict (t ++ rest) (no_sign c well strict t rest f) t (front_whole is_run_byte t rest (all_run t a) s) (some_length t f) (no_row c well strict t (no_operator c well strict t o) l e)
-          (ap (λ (x : Found). first_of (x ∷ addition_reference t ∷ [])) licence ∙ ap (λ (x : Found). first_of (x ∷ [])) addition) refl
+          (ap (λ (x : Found). first_of (x ∷ addition_reference t ∷ [])) license ∙ ap (λ (x : Found). first_of (x ∷ [])) addition) refl
 
       on_addition : LookUps.listed c.licenses t ≡ None → LookUps.listed_exception c.exceptions t ≡ None → starts_with nat_eq t (codes "LicenseRef-") ≡ false → (b : Bool) → starts_with nat_eq t (codes "AdditionRef-") ≡ b → NameCase t
       on_addition l e p true q = let A = codes "AdditionRef-" in an_addition (drop 12 t) (subst (λ (x : List ℕ). IsTerm c well strict x (AdditionRef None (drop 12 t))) (sym (prefixed A t q)) (addition_ref_term c well strict None (drop 12 t) (own_reference A t (bytes_of_name t n) q l e)))
@@ -173,8 +173,8 @@ module _ (c : Rows) (well : IsTrue (is_well_formed c)) where
       strictly false h = h
 
   -- a licence, in whose place something is said
-  licence_step : (r : LicenseRow) (ws : List Word) → LookUps.listed c.licenses r.name ≡ Some r → AreApart (Spdx r) ws → Behind (Spdx r) ws → (last other : Word) → takes_license last ≡ true → is_with last ≡ is_with other → (vs : List Word) (at : ℕ) → says c well strict at (text_behind false (Spdx r ∷ ws)) ≡ map Ok vs → AreApart other vs → MayStand strict vs → EachName Fits (Spdx r ∷ ws)
-  licence_step r ws d a b last other k w vs at e x m = each (name_case t (written_is_name c well p r d) (written_no_operator c well p r d))
+  license_goes : (r : LicenseRow) (ws : List Word) → LookUps.listed c.licenses r.name ≡ Some r → AreApart (Spdx r) ws → Behind (Spdx r) ws → (last other : Word) → takes_license last ≡ true → is_with last ≡ is_with other → (vs : List Word) (at : ℕ) → says c well strict at (text_behind false (Spdx r ∷ ws)) ≡ map Ok vs → AreApart other vs → MayStand strict vs → EachName Fits (Spdx r ∷ ws)
+  license_goes r ws d a b last other k w vs at e x m = each (name_case t (written_is_name c well p r d) (written_no_operator c well p r d))
     where
       p : Bool
       p = plus_follows ws
@@ -227,7 +227,7 @@ module _ (c : Rows) (well : IsTrue (is_well_formed c)) where
       (ap (λ (xs : List (Result Word Fault)). Ok And ∷ xs) (sym (skips c well strict ((at + 1) + 3) (text_behind false ws) (opens c well strict And ws refl a.1 d.1))) ∙ sym (reads_spaced c well strict at 65 (78 ∷ 68 ∷ []) (32 ∷ text_behind false ws) And (lit< tt) refl refl refl) ∙ e) x m
   told last (Or ∷ ws) a d = λ other w vs at e x m. step Or Or ws refl (told Or ws a.1 d.1) other vs (((at + 1) + 2) + 1)
       (ap (λ (xs : List (Result Word Fault)). Ok Or ∷ xs) (sym (skips c well strict ((at + 1) + 2) (text_behind false ws) (opens c well strict Or ws refl a.1 d.1))) ∙ sym (reads_spaced c well strict at 79 (82 ∷ []) (32 ∷ text_behind false ws) Or (lit< tt) refl refl refl) ∙ e) x m
-  told last (Spdx r ∷ ws) a d = λ other w vs at e x m. licence_step r ws d.0 a.1 (told (Spdx r) ws a.1 d.1) last other a.0 w vs at e x m
+  told last (Spdx r ∷ ws) a d = λ other w vs at e x m. license_goes r ws d.0 a.1 (told (Spdx r) ws a.1 d.1) last other a.0 w vs at e x m
   told last (LicenseRef i y ∷ ws) a d = λ other w vs at e x m.
       let t = reference_run (codes "LicenseRef-") i y in
       let term = license_ref_term c well strict i y d.0 in
@@ -248,17 +248,17 @@ module _ (c : Rows) (well : IsTrue (is_well_formed c)) where
   word_by (Some row) t = Spdx row
   word_by None t = LicenseRef None (drop 11 t)
 
-  abbrev licence_by : Option LicenseRow → List ℕ → Licence
-  licence_by (Some row) t = listed row false
-  licence_by None t = referred (record { document = None; name = drop 11 t })
+  abbrev license_by : Option LicenseRow → List ℕ → LicenseTerm
+  license_by (Some row) t = listed row false
+  license_by None t = referred (record { document = None; name = drop 11 t })
 
   abbrev strict_word : Bool → LicenseRow → Word
   strict_word p r = word_by (LookUps.listed c.licenses (written_name p r)) (written_name p r)
 
-  abbrev strict_licence : Licence → Licence
-  strict_licence (listed r true) = listed r true
-  strict_licence (listed r false) = licence_by (LookUps.listed c.licenses (written_name false r)) (written_name false r)
-  strict_licence (referred x) = referred x
+  abbrev strict_license : LicenseTerm → LicenseTerm
+  strict_license (listed r true) = listed r true
+  strict_license (listed r false) = license_by (LookUps.listed c.licenses (written_name false r)) (written_name false r)
+  strict_license (referred x) = referred x
 
   fits_none : (t : List ℕ) → LookUps.listed c.licenses t ≡ None → Fits t → IsReferenceName c t
   fits_none t e f = f (ap (λ (o : Option LicenseRow). option_map_or (λ (r : LicenseRow). not (is_deprecated r.flags)) o false) e)
@@ -293,30 +293,30 @@ module _ (c : Rows) (well : IsTrue (is_well_formed c)) where
 
   -- ---- and their tree
 
-  bare_kept : (t : List ℕ) → Fits t → (rest : List Word) → LicenceOf c strict (word_by (LookUps.listed c.licenses t) t ∷ rest) (licence_by (LookUps.listed c.licenses t) t) rest
+  bare_kept : (t : List ℕ) → Fits t → (rest : List Word) → LicenseOf c strict (word_by (LookUps.listed c.licenses t) t ∷ rest) (license_by (LookUps.listed c.licenses t) t) rest
   bare_kept t f rest = go (LookUps.listed c.licenses t) refl
     where
-      go : (o : Option LicenseRow) → LookUps.listed c.licenses t ≡ o → LicenceOf c strict (word_by (LookUps.listed c.licenses t) t ∷ rest) (licence_by (LookUps.listed c.licenses t) t) rest
-      go (Some row) e = subst (λ (o : Option LicenseRow). LicenceOf c strict (word_by o t ∷ rest) (licence_by o t) rest) (sym e) (plain (undeprecated c well t row e (fits_some t row e f)))
-      go None e = subst (λ (o : Option LicenseRow). LicenceOf c strict (word_by o t ∷ rest) (licence_by o t) rest) (sym e) named
+      go : (o : Option LicenseRow) → LookUps.listed c.licenses t ≡ o → LicenseOf c strict (word_by (LookUps.listed c.licenses t) t ∷ rest) (license_by (LookUps.listed c.licenses t) t) rest
+      go (Some row) e = subst (λ (o : Option LicenseRow). LicenseOf c strict (word_by o t ∷ rest) (license_by o t) rest) (sym e) (plain (undeprecated c well t row e (fits_some t row e f)))
+      go None e = subst (λ (o : Option LicenseRow). LicenseOf c strict (word_by o t ∷ rest) (license_by o t) rest) (sym e) named
 
-  strict_kept : (p : Bool) (r : LicenseRow) → LookUps.listed c.licenses r.name ≡ Some r → Fits (written_name p r) → Keeps c lax strict strict_word strict_licence (λ _. refl) p r
+  strict_kept : (p : Bool) (r : LicenseRow) → LookUps.listed c.licenses r.name ≡ Some r → Fits (written_name p r) → Keeps c lax strict strict_word strict_license (λ _. refl) p r
   strict_kept false r d f = bare_kept (written_name false r) f
   strict_kept true r d f =
       let t = written_name true r in
       record {
         marks = λ e rest.
             let own : LookUps.listed c.licenses t ≡ Some r = ap (LookUps.listed c.licenses) (plain_name c well true r e) ∙ d in
-            subst (λ (o : Option LicenseRow). LicenceOf c strict (word_by o t ∷ Plus ∷ rest) (listed r true) rest) (sym own) (marked (undeprecated c well t r own (fits_some t r own f)) e);
+            subst (λ (o : Option LicenseRow). LicenseOf c strict (word_by o t ∷ Plus ∷ rest) (listed r true) rest) (sym own) (marked (undeprecated c well t r own (fits_some t r own f)) e);
         names = λ e next l rest.
             let joined : LookUps.listed c.licenses t ≡ Some next = ap (LookUps.listed c.licenses) (gnu_written c well true r e) ∙ l in
             let same = (license_named c well (without_only r.name ++ or_later) next l).same in
             let again : LookUps.listed c.licenses (written_name false next) ≡ Some next = ap (LookUps.listed c.licenses) (stays (is_gnu next.flags) true r.name next.name same) ∙ license_itself c well (without_only r.name ++ or_later) next l in
-            subst (λ (o : Option LicenseRow). LicenceOf c strict (word_by o t ∷ rest) (strict_licence (listed next false)) rest) (sym joined)
-            (subst (λ (o : Option LicenseRow). LicenceOf c strict (Spdx next ∷ rest) (licence_by o (written_name false next)) rest) (sym again) (plain (undeprecated c well t next joined (fits_some t next joined f))));
+            subst (λ (o : Option LicenseRow). LicenseOf c strict (word_by o t ∷ rest) (strict_license (listed next false)) rest) (sym joined)
+            (subst (λ (o : Option LicenseRow). LicenseOf c strict (Spdx next ∷ rest) (license_by o (written_name false next)) rest) (sym again) (plain (undeprecated c well t next joined (fits_some t next joined f))));
       }
 
-  all_kept : (ws : List Word) → AreRead c ws → EachName Fits ws → EachKept c lax strict strict_word strict_licence (λ _. refl) ws
+  all_kept : (ws : List Word) → AreRead c ws → EachName Fits ws → EachKept c lax strict strict_word strict_license (λ _. refl) ws
   all_kept [] d f = tt
   all_kept (Spdx r ∷ ws) d f = (strict_kept (plus_follows ws) r d.0 f.0, all_kept ws d.1 f.1)
   all_kept (LicenseRef x y ∷ ws) d f = all_kept ws d.1 f
@@ -339,7 +339,7 @@ module _ (c : Rows) (well : IsTrue (is_well_formed c)) where
         (λ (vs, u, other). told OpenParen ws a known OpenParen refl vs 0 other.read (apart c strict vs u other.meant) (stand c strict vs u other.meant)),
         (λ fits. (
           words_by strict_word false ws,
-          tree_by strict_licence t,
-          record { read = spells c well strict strict_word OpenParen ws a known (strict_terms ws known fits) 0; meant = keeps c lax strict strict_word strict_licence (λ _. refl) ws t s.meant (all_kept ws known fits) },
+          tree_by strict_license t,
+          record { read = spells c well strict strict_word OpenParen ws a known (strict_terms ws known fits) 0; meant = keeps c lax strict strict_word strict_license (λ _. refl) ws t s.meant (all_kept ws known fits) },
         )),
       )

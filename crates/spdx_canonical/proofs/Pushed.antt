@@ -4,11 +4,11 @@ use Rattle.spdx_catalogue.specs.Rows.{LicenseRow}
 use Rattle.spdx_catalogue.specs.Flags.{is_gnu}
 use Rattle.spdx_catalogue.specs.Names.{only, has_suffix}
 use Rattle.spdx_canonical.specs.Canonical.{gnu_name}
-use Rattle.spdx_canonical.specs.Pending.{marked_name, license_text}
+use Rattle.spdx_canonical.specs.NextText.{marked_name, license_and_plus}
 use Rattle.spdx_canonical.proofs.Drafts.{still_off, off_more, off_same}
 use Rattle.std.specs.Prelude.{codes}
 use Rattle.spdx_lexer.specs.Lexeme.{reference_run}
-use Rattle.spdx_canonical.specs.Drafted.{Drafted, extended, IsOff}
+use Rattle.spdx_canonical.specs.Draft.{Drafted, extended, IsOff}
 
 -- a reference into a document
 pub extended-document : (d : Drafted) (x p n : List ℕ) → extended (extended (extended d (codes "DocumentRef-" ++ x)) (codes ":")) (p ++ n) ≡ extended d (reference_run p (Some x) n)
@@ -31,21 +31,21 @@ off_colon d e x p n s o =
 
 -- ---- a licence
 
-pub plain_text : (plus : Bool) (r : LicenseRow) → is_gnu r.flags ≡ false → license_text plus r ≡ marked_name plus r.name
+pub plain_text : (plus : Bool) (r : LicenseRow) → is_gnu r.flags ≡ false → license_and_plus plus r ≡ marked_name plus r.name
 plain_text plus r e = ap (λ g. cond g (gnu_name plus r.name) (marked_name plus r.name)) e
 
-pub gnu_text : (plus : Bool) (r : LicenseRow) → is_gnu r.flags ≡ true → license_text plus r ≡ gnu_name plus r.name
+pub gnu_text : (plus : Bool) (r : LicenseRow) → is_gnu r.flags ≡ true → license_and_plus plus r ≡ gnu_name plus r.name
 gnu_text plus r e = ap (λ g. cond g (gnu_name plus r.name) (marked_name plus r.name)) e
 
-pub off_plain : (d : Drafted) (plus : Bool) (r : LicenseRow) → is_gnu r.flags ≡ false → IsOff d r.name → IsOff d (license_text plus r)
+pub off_plain : (d : Drafted) (plus : Bool) (r : LicenseRow) → is_gnu r.flags ≡ false → IsOff d r.name → IsOff d (license_and_plus plus r)
 off_plain d plus r e o = subst (IsOff d) (sym (plain_text plus r e)) (each plus)
   where
     each : (plus : Bool) → IsOff d (marked_name plus r.name)
     each true = off_more d r.name (codes "+") o
     each false = o
 
-pub off_gnu : (d : Drafted) (plus : Bool) (r : LicenseRow) → is_gnu r.flags ≡ true → plus ≡ false → IsOff d r.name → IsOff d (license_text plus r)
-off_gnu d plus r e p o = subst (IsOff d) (sym (ap (λ b. license_text b r) p ∙ gnu_text false r e)) (each (has_suffix r.name))
+pub off_gnu : (d : Drafted) (plus : Bool) (r : LicenseRow) → is_gnu r.flags ≡ true → plus ≡ false → IsOff d r.name → IsOff d (license_and_plus plus r)
+off_gnu d plus r e p o = subst (IsOff d) (sym (ap (λ b. license_and_plus b r) p ∙ gnu_text false r e)) (each (has_suffix r.name))
   where
     each : (b : Bool) → IsOff d (cond b r.name (r.name ++ only))
     each true = o

@@ -8,17 +8,17 @@ use Rattle.spdx_catalogue.specs.Flags.{is_gnu, is_deprecated}
 use Rattle.spdx_catalogue.specs.Names.{only, or_later, has_suffix, without_only}
 use Rattle.spdx_catalogue.specs.LookUps as LookUps
 use Rattle.spdx_catalogue.specs.Items.{listed}
-use Rattle.spdx_catalogue.specs.WellFormed.{is_well_formed}
+use Rattle.spdx_catalogue.specs.RowRules.{is_well_formed}
 use Rattle.spdx_lexer.specs.declared.token.ParseMode.{ParseMode}
 use Rattle.spdx_lexer.specs.Modes.{strict, lax}
 use Rattle.spdx_lexer.specs.Words.{Word, Spdx, LicenseRef, Exception, AdditionRef, Unknown, Plus, OpenParen, CloseParen, With, And, Or, Fault, Item, Unexpected}
 use Rattle.spdx_lexer.specs.Reading.{said, reading, Spells}
 use Rattle.spdx_parser.specs.Tree.{Tree}
 use Rattle.spdx_parser.specs.Grammar.{may_stand, later_row}
-use Rattle.spdx_parser.proofs.Threaded.{LicenceOf, plain, marked}
+use Rattle.spdx_parser.proofs.Threaded.{LicenseOf, plain, marked}
 use Rattle.spdx_parser.proofs.Complete.{the_only}
 use Rattle.spdx_canonical.specs.Canonical.{is_spdx, is_misplaced, canonical_fault, words_of, unless, canonical_of, gnu_name, written_name, plus_follows, canonical_text, only_row, canonical_row, canonical_words}
-use Rattle.spdx_canonical.specs.Law.{EachName, is_good, only_licence, only_tree, Accepts, IsSound, IsFaithful}
+use Rattle.spdx_canonical.specs.Law.{EachName, is_good, only_license, only_tree, Accepts, IsSound, IsFaithful}
 use Rattle.spdx_canonical.proofs.Known.{license_named}
 use Rattle.spdx_canonical.proofs.Neighbours.{may_follow, AreApart, AreRead, apart}
 use Rattle.spdx_canonical.proofs.Terms.{license_term}
@@ -115,7 +115,7 @@ module _ (c : Rows) (well : IsTrue (is_well_formed c)) where
       each false = refl
 
   abbrev KeptBy : Bool → LicenseRow → Type 0
-  KeptBy p r = Keeps c lax strict (canonical_word c well) (only_licence c) (λ _. refl) p r
+  KeptBy p r = Keeps c lax strict (canonical_word c well) (only_license c) (λ _. refl) p r
 
   kept_one : (p : Bool) (r : LicenseRow) → LookUps.listed c.licenses r.name ≡ Some r → IsTrue (is_good c (written_name p r)) → KeptBy p r
   kept_one false r d g = λ rest. plain (stands false r d g)
@@ -123,16 +123,16 @@ module _ (c : Rows) (well : IsTrue (is_well_formed c)) where
     marks = λ e rest.
         let own = plain_row c well true r e in
         let bare = plain_row c well false r e in
-        subst (λ (x : LicenseRow). LicenceOf c strict (Spdx x ∷ Plus ∷ rest) (listed (only_row c r) true) rest) (sym own)
-        (subst (λ (x : LicenseRow). LicenceOf c strict (Spdx r ∷ Plus ∷ rest) (listed x true) rest) (sym bare) (marked (ap (may_stand strict) (sym own) ∙ stands true r d g) e));
+        subst (λ (x : LicenseRow). LicenseOf c strict (Spdx x ∷ Plus ∷ rest) (listed (only_row c r) true) rest) (sym own)
+        (subst (λ (x : LicenseRow). LicenseOf c strict (Spdx r ∷ Plus ∷ rest) (listed x true) rest) (sym bare) (marked (ap (may_stand strict) (sym own) ∙ stands true r d g) e));
     names = λ e next l rest.
         let row : canonical_row c true r ≡ next = ap (λ b. cond b (unwrap_or (later_row c r) r) r) e ∙ ap (λ (o : Option LicenseRow). unwrap_or o r) l in
         let stays = only_stays true r.name next (license_named c well (without_only r.name ++ or_later) next l).same in
-        subst (λ (x : LicenseRow). LicenceOf c strict (Spdx x ∷ rest) (listed (only_row c next) false) rest) (sym row)
-        (subst (λ (x : LicenseRow). LicenceOf c strict (Spdx next ∷ rest) (listed x false) rest) (sym stays) (plain (ap (may_stand strict) (sym row) ∙ stands true r d g)));
+        subst (λ (x : LicenseRow). LicenseOf c strict (Spdx x ∷ rest) (listed (only_row c next) false) rest) (sym row)
+        (subst (λ (x : LicenseRow). LicenseOf c strict (Spdx next ∷ rest) (listed x false) rest) (sym stays) (plain (ap (may_stand strict) (sym row) ∙ stands true r d g)));
   }
 
-  kept : (ws : List Word) → AreRead c ws → EachName (λ name. IsTrue (is_good c name)) ws → EachKept c lax strict (canonical_word c well) (only_licence c) (λ _. refl) ws
+  kept : (ws : List Word) → AreRead c ws → EachName (λ name. IsTrue (is_good c name)) ws → EachKept c lax strict (canonical_word c well) (only_license c) (λ _. refl) ws
   kept [] d g = tt
   kept (Spdx r ∷ ws) d g = (kept_one (plus_follows ws) r d.0 g.0, kept ws d.1 g.1)
   kept (LicenseRef x y ∷ ws) d g = kept ws d.1 g
@@ -157,7 +157,7 @@ module _ (c : Rows) (well : IsTrue (is_well_formed c)) where
       let known = are_read c well lax refl OpenParen ws a 0 text s.accepted.read in
       let names = good_listed ws s.good in
       let spelt = λ (m : ParseMode). spells c well m (canonical_word c well) OpenParen ws a known (terms m ws known names) 0 in
-      let derived = keeps c lax strict (canonical_word c well) (only_licence c) (λ _. refl) ws t s.accepted.meant (kept ws known s.good) in
+      let derived = keeps c lax strict (canonical_word c well) (only_license c) (λ _. refl) ws t s.accepted.meant (kept ws known s.good) in
       let written = again c well OpenParen ws a known names in
       record {
         read = spelt strict;

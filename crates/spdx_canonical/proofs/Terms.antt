@@ -10,7 +10,7 @@ use Rattle.std.proofs.Math.Nat as nat
 use Rattle.spdx_catalogue.specs.Rows.{LicenseRow, ExceptionRow, Rows}
 use Rattle.spdx_catalogue.specs.Names.{is_name_byte, is_name, is_operator}
 use Rattle.spdx_catalogue.specs.LookUps.{listed, listed_exception}
-use Rattle.spdx_catalogue.specs.WellFormed.{is_well_formed}
+use Rattle.spdx_catalogue.specs.RowRules.{is_well_formed}
 use Rattle.spdx_lexer.specs.declared.token.ParseMode.{ParseMode}
 use Rattle.spdx_lexer.specs.Words.{Word, Spdx, LicenseRef, Exception, AdditionRef, Plus, OpenParen, CloseParen, With, And, Or, Fault, SeparatedPlus, span}
 use Rattle.spdx_lexer.specs.Text.{white, is_run_byte, name_at, strip}

@@ -9,7 +9,7 @@ use Rattle.spdx_catalogue.specs.Rows.{LicenseRow, Rows}
 use Rattle.spdx_catalogue.specs.Flags.{is_gnu}
 use Rattle.spdx_catalogue.specs.Names.{is_name_byte, is_name, is_operator, only, or_later, ends_only, ends_or_later, has_suffix, without_only}
 use Rattle.spdx_catalogue.specs.LookUps.{listed}
-use Rattle.spdx_catalogue.specs.WellFormed.{is_well_formed}
+use Rattle.spdx_catalogue.specs.RowRules.{is_well_formed}
 use Rattle.spdx_canonical.proofs.Lexed.{and_both}
 use Rattle.spdx_catalogue.proofs.Caseless.{bytes_same}
 use Rattle.spdx_canonical.specs.Canonical.{gnu_name, written_name, canonical_row}

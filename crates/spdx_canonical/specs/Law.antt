@@ -5,7 +5,7 @@ use Rattle.std.specs.Option.{option_map_or}
 use Rattle.spdx_catalogue.specs.Rows.{Rows, LicenseRow}
 use Rattle.spdx_catalogue.specs.Flags.{is_deprecated}
 use Rattle.spdx_catalogue.specs.LookUps as LookUps
-use Rattle.spdx_catalogue.specs.Items.{Licence, listed, referred}
+use Rattle.spdx_catalogue.specs.Items.{LicenseTerm, listed, referred}
 use Rattle.spdx_lexer.specs.declared.token.ParseMode.{ParseMode}
 use Rattle.spdx_lexer.specs.Modes.{strict, lax}
 use Rattle.spdx_lexer.specs.Words.{Word, Spdx}
@@ -35,18 +35,18 @@ pub record IsReferenceName (c : Rows) (name : List ℕ) : Type 0 where
 -- ---- the tree
 
 -- the tree with f of each licence in it
-abbrev pub tree_by : (Licence → Licence) → Tree → Tree
-tree_by f (Leaf r) = Leaf (record { licence = f r.licence; addition = r.addition })
+abbrev pub tree_by : (LicenseTerm → LicenseTerm) → Tree → Tree
+tree_by f (Leaf r) = Leaf (record { license = f r.license; addition = r.addition })
 tree_by f (Join o l r) = Join o (tree_by f l) (tree_by f r)
 
 -- a listed licence whose row `only_row` says; a reference stays
-abbrev pub only_licence : Rows → Licence → Licence
-only_licence c (listed r marked) = listed (only_row c r) marked
-only_licence c (referred r) = referred r
+abbrev pub only_license : Rows → LicenseTerm → LicenseTerm
+only_license c (listed r marked) = listed (only_row c r) marked
+only_license c (referred r) = referred r
 
 -- each bare GNU licence made `-only`
 abbrev pub only_tree : Rows → Tree → Tree
-only_tree c t = tree_by (only_licence c) t
+only_tree c t = tree_by (only_license c) t
 
 -- ---- the laws
 

@@ -1,6 +1,6 @@
 pub mod Canonical
 pub mod Law
-pub mod Drafted
-pub mod Pending
+pub mod Draft
+pub mod NextText
 pub mod Code
-pub mod Shown
+pub mod DraftModel

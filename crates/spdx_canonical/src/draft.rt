@@ -1,7 +1,7 @@
 // A text that is written beside another one, and kept only where the two differ.
 
 ghost use Rattle.std.specs.Prelude.{◌≡◌, ◌++◌, ◌-◌, [], ◌∷◌, length, take, drop, false, bytes_eq, IfOk, IfErr, option_map, string_bytes};
-ghost use Rattle.spdx_canonical.specs.Drafted.{extended, IsOff, difference};
+ghost use Rattle.spdx_canonical.specs.Draft.{extended, IsOff, difference};
 
 use std::alloc::{AllocError, Global};
 use std::marker::Model;
@@ -35,13 +35,13 @@ pub(crate) struct Draft<'t> {
 }
 
 impl<'t> Model for Draft<'t> {
-    ghost use Rattle.spdx_canonical.specs.Drafted.{Drafted};
+    ghost use Rattle.spdx_canonical.specs.Draft.{Drafted};
 
     ghost Value = { Drafted };
 
-    ghost use Rattle.spdx_canonical.specs.Shown.{shown, IsDraft};
+    ghost use Rattle.spdx_canonical.specs.DraftModel.{draft_shown, IsDraft};
 
-    ghost view = { shown };
+    ghost view = { draft_shown };
 
     ghost invariant = { IsDraft };
 }

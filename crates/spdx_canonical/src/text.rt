@@ -5,11 +5,11 @@ ghost use Rattle.spdx_catalogue.specs.Ids.{id_row};
 ghost use Rattle.spdx_catalogue.specs.Names as Names;
 ghost use Rattle.spdx_lexer.specs.Lexeme.{reference_run};
 ghost use Rattle.spdx_lexer.specs.Code.{word_of, document_of, span_of};
-ghost use Rattle.spdx_lexer.specs.Laid.{IsPlace};
+ghost use Rattle.spdx_lexer.specs.Layout.{IsPlace};
 ghost use Rattle.spdx_canonical.specs.Canonical.{word_text, is_misplaced, canonical_of, answer_to};
 ghost use Rattle.spdx_canonical.specs.Law.{CanonicalLaws};
-ghost use Rattle.spdx_canonical.specs.Drafted.{extended, IsOff};
-ghost use Rattle.spdx_canonical.specs.Pending.{license_text, is_plus_word, next_text, own_text, waiting};
+ghost use Rattle.spdx_canonical.specs.Draft.{extended, IsOff};
+ghost use Rattle.spdx_canonical.specs.NextText.{license_and_plus, is_plus_word, next_text, own_text, waiting};
 ghost use Rattle.spdx_catalogue.specs.Failures.{IfRefused};
 ghost use Rattle.spdx_canonical.specs.Code.{placed_fault};
 
@@ -38,8 +38,8 @@ fn push_license(
     plus: bool,
 ) -> Result<(), AllocError>
     ensures ok { IfOk result (λ _. draft.new
-        ≡ extended draft.old (license_text plus (id_row id.entry))) }
-    ensures err { IfErr result (λ _. IsOff draft.old (license_text plus (id_row id.entry))) }
+        ≡ extended draft.old (license_and_plus plus (id_row id.entry))) }
+    ensures err { IfErr result (λ _. IsOff draft.old (license_and_plus plus (id_row id.entry))) }
 {
     let name = id.license().name.as_str();
     if !id.is_gnu() {

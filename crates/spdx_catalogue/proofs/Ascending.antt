@@ -13,16 +13,16 @@ use Rattle.spdx_catalogue.specs.declared.error.List as kind
 use Rattle.spdx_catalogue.specs.declared.error.List.TheVariants.{Licenses, Exceptions}
 use Rattle.spdx_catalogue.specs.declared.error.CatalogueError.TheVariants.{BadName, OperatorName, NotAscending, BadIndex, TwoSuffixes, EmptyPrefix, UnlistedTarget}
 use Rattle.spdx_catalogue.specs.Flags.{is_gnu}
-use Rattle.spdx_catalogue.specs.WellFormed.{Rule, first_broken, all_below, before, name_rules, license_row_rules, exception_row_rules, imprecise_row_rules, license_rules, exception_rules, imprecise_rules, is_listed, first_fault, is_well_formed}
+use Rattle.spdx_catalogue.specs.RowRules.{RowRule, first_broken, all_below, before, name_rules, license_row_rules, exception_row_rules, imprecise_row_rules, license_rules, exception_rules, imprecise_rules, is_listed, first_fault, is_well_formed}
 use Rattle.spdx_catalogue.proofs.First.{none_front, none_back, below_each}
-use Rattle.spdx_catalogue.specs.Ascends.{Ascends}
+use Rattle.spdx_catalogue.specs.Ascent.{Ascends}
 use Rattle.spdx_catalogue.proofs.Sorted.{get_is}
 
 none_is : (o : Option CatalogueError) → is_none o ≡ true → o ≡ None
 none_is None h = refl
 none_is (Some e) h = absurd cc
 
-later : (r : Rule) (rs : List Rule) → first_broken (r ∷ rs) ≡ None → (r.0 ≡ false) × (first_broken rs ≡ None)
+later : (r : RowRule) (rs : List RowRule) → first_broken (r ∷ rs) ≡ None → (r.0 ≡ false) × (first_broken rs ≡ None)
 later r rs h = pick r.0 h
   where
     pick : (b : Bool) → cond b (Some r.1) (first_broken rs) ≡ None → (b ≡ false) × (first_broken rs ≡ None)
@@ -47,9 +47,9 @@ pub record KeepsNameRules (previous : Option (List ℕ)) (name : List ℕ) (inde
 
 keeps_name : (list : kind.List) (name : List ℕ) (previous : Option (List ℕ)) (index row : ℕ) → first_broken (name_rules list name previous index row) ≡ None → KeepsNameRules previous name index row
 keeps_name list name previous index row h =
-    let fourth : List Rule = (not (index == row), BadIndex list row) ∷ [] in
-    let third : List Rule = (not (is_above previous name), NotAscending list row) ∷ fourth in
-    let second : List Rule = (is_operator name, OperatorName list row) ∷ third in
+    let fourth : List RowRule = (not (index == row), BadIndex list row) ∷ [] in
+    let third : List RowRule = (not (is_above previous name), NotAscending list row) ∷ fourth in
+    let second : List RowRule = (is_operator name, OperatorName list row) ∷ third in
     let a = later (not (is_name name), BadName list row) second h in
     let b = later (is_operator name, OperatorName list row) third a.1 in
     let c = later (not (is_above previous name), NotAscending list row) fourth b.1 in
@@ -60,8 +60,8 @@ module _ (l : List LicenseRow) (keep : first_broken (all_below (license_rules l)
   pub license_kept : (i : ℕ) (r : LicenseRow) → i < length l → slice_get l i ≡ Some r → KeepsNameRules (option_map license_name (before l i)) r.name r.index i × ((is_gnu r.flags && has_two_suffixes r.name) ≡ false)
   license_kept i r lt at =
       let previous : Option (List ℕ) = option_map license_name (before l i) in
-      let names : List Rule = name_rules Licenses r.name previous r.index i in
-      let ending : List Rule = (is_gnu r.flags && has_two_suffixes r.name, TwoSuffixes i) ∷ [] in
+      let names : List RowRule = name_rules Licenses r.name previous r.index i in
+      let ending : List RowRule = (is_gnu r.flags && has_two_suffixes r.name, TwoSuffixes i) ∷ [] in
       let here : first_broken (names ++ ending) ≡ None = subst (λ o. first_broken (option_map_or (license_row_rules previous i) o []) ≡ None) at (below_each (license_rules l) (length l) i lt keep) in
       (keeps_name Licenses r.name previous r.index i (none_front names ending here), (later (is_gnu r.flags && has_two_suffixes r.name, TwoSuffixes i) [] (none_back names ending here)).0)
 
@@ -90,19 +90,19 @@ module _ (l : List ExceptionRow) (keep : first_broken (all_below (exception_rule
 module _ (l : List LicenseRow) (ms : List ImpreciseRow) (keep : first_broken (all_below (imprecise_rules l ms) (length ms)) ≡ None) where
   pub imprecise_row_kept : (i : ℕ) (r : ImpreciseRow) → i < length ms → slice_get ms i ≡ Some r → ((length r.prefix == 0) ≡ false) × (is_listed l r.name ≡ true)
   imprecise_row_kept i r lt at =
-      let target : List Rule = (not (is_listed l r.name), UnlistedTarget i) ∷ [] in
+      let target : List RowRule = (not (is_listed l r.name), UnlistedTarget i) ∷ [] in
       let a = later (length r.prefix == 0, EmptyPrefix i) target (subst (λ o. first_broken (option_map_or (imprecise_row_rules l i) o []) ≡ None) at (below_each (imprecise_rules l ms) (length ms) i lt keep)) in
       (a.0, not_false (is_listed l r.name) (later (not (is_listed l r.name), UnlistedTarget i) [] a.1).0)
 
 -- each list of a well-formed catalogue keeps its rules
 module _ (c : Rows) (well : is_well_formed c ≡ true) where
-  abbrev names : List Rule
+  abbrev names : List RowRule
   names = all_below (license_rules c.licenses) (length c.licenses)
 
-  abbrev excepted : List Rule
+  abbrev excepted : List RowRule
   excepted = all_below (exception_rules c.exceptions) (length c.exceptions)
 
-  abbrev spelled : List Rule
+  abbrev spelled : List RowRule
   spelled = all_below (imprecise_rules c.licenses c.imprecise) (length c.imprecise)
 
   pub licenses_keep : first_broken (all_below (license_rules c.licenses) (length c.licenses)) ≡ None

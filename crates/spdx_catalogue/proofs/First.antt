@@ -1,9 +1,9 @@
 -- The first rule that is broken, in parts of the table.
 use Rattle.std.proofs.Common.{◌≡◌, ℕ, zero, suc, ◌+◌, ◌<◌, ◌≤◌, ◌⊎◌, inl, inr, Bool, true, false, cond, List, [], ◌∷◌, ◌++◌, Option, Some, None, refl, sym, ◌∙◌, subst, arith, add-one}
-use Rattle.spdx_catalogue.specs.WellFormed.{Rule, first_broken, all_below}
+use Rattle.spdx_catalogue.specs.RowRules.{RowRule, first_broken, all_below}
 use Rattle.spdx_catalogue.specs.declared.error.CatalogueError.{CatalogueError}
 
-pub first_some : (xs ys : List Rule) (e : CatalogueError) → first_broken xs ≡ Some e → first_broken (xs ++ ys) ≡ Some e
+pub first_some : (xs ys : List RowRule) (e : CatalogueError) → first_broken xs ≡ Some e → first_broken (xs ++ ys) ≡ Some e
 first_some [] ys e h = absurd cc
 first_some (x ∷ xs) ys e h = pick x.0 (first_some xs ys e) h
   where
@@ -11,7 +11,7 @@ first_some (x ∷ xs) ys e h = pick x.0 (first_some xs ys e) h
     pick true rest g = g
     pick false rest g = rest g
 
-pub first_none : (xs ys : List Rule) → first_broken xs ≡ None → first_broken (xs ++ ys) ≡ first_broken ys
+pub first_none : (xs ys : List RowRule) → first_broken xs ≡ None → first_broken (xs ++ ys) ≡ first_broken ys
 first_none [] ys h = refl
 first_none (x ∷ xs) ys h = pick x.0 (first_none xs ys) h
   where
@@ -20,7 +20,7 @@ first_none (x ∷ xs) ys h = pick x.0 (first_none xs ys) h
     pick false rest g = rest g
 
 -- nothing broken in the whole, so nothing in the parts
-pub none_front : (xs ys : List Rule) → first_broken (xs ++ ys) ≡ None → first_broken xs ≡ None
+pub none_front : (xs ys : List RowRule) → first_broken (xs ++ ys) ≡ None → first_broken xs ≡ None
 none_front [] ys h = refl
 none_front (x ∷ xs) ys h = pick x.0 (none_front xs ys) h
   where
@@ -28,10 +28,10 @@ none_front (x ∷ xs) ys h = pick x.0 (none_front xs ys) h
     pick true rest g = g
     pick false rest g = rest g
 
-pub none_back : (xs ys : List Rule) → first_broken (xs ++ ys) ≡ None → first_broken ys ≡ None
+pub none_back : (xs ys : List RowRule) → first_broken (xs ++ ys) ≡ None → first_broken ys ≡ None
 none_back xs ys h = sym (first_none xs ys (none_front xs ys h)) ∙ h
 
-pub below_each : (f : ℕ → List Rule) (n i : ℕ) → i < n → first_broken (all_below f n) ≡ None → first_broken (f i) ≡ None
+pub below_each : (f : ℕ → List RowRule) (n i : ℕ) → i < n → first_broken (all_below f n) ≡ None → first_broken (f i) ≡ None
 below_each f zero i lt h = absurd (omega arith)
 below_each f (suc n) i lt h = split (reached i n lt) (λ l. below_each f n i l (none_front (all_below f n) (f n) h))
   where
@@ -43,10 +43,10 @@ below_each f (suc n) i lt h = split (reached i n lt) (λ l. below_each f n i l (
     split (inr s) rest = subst (λ k. first_broken (f k) ≡ None) (sym s) (none_back (all_below f n) (f n) h)
 
 -- one more number, with nothing broken so far
-pub below_next : (f : ℕ → List Rule) (i : ℕ) (o : Option CatalogueError) → first_broken (all_below f i) ≡ None → o ≡ first_broken (f i) → first_broken (all_below f (i + 1)) ≡ o
+pub below_next : (f : ℕ → List RowRule) (i : ℕ) (o : Option CatalogueError) → first_broken (all_below f i) ≡ None → o ≡ first_broken (f i) → first_broken (all_below f (i + 1)) ≡ o
 below_next f i o none here = rw add-one (first_none (all_below f i) (f i) none ∙ sym here)
 
-pub below_more : (f : ℕ → List Rule) (m n : ℕ) (e : CatalogueError) → m ≤ n → first_broken (all_below f m) ≡ Some e → first_broken (all_below f n) ≡ Some e
+pub below_more : (f : ℕ → List RowRule) (m n : ℕ) (e : CatalogueError) → m ≤ n → first_broken (all_below f m) ≡ Some e → first_broken (all_below f n) ≡ Some e
 below_more f m zero e le h = let z : m ≡ zero = omega arith in subst (λ k. first_broken (all_below f k) ≡ Some e) z h
 below_more f m (suc n) e le h = split (reached m n le) (λ l. first_some (all_below f n) (f n) e (below_more f m n e l h))
   where

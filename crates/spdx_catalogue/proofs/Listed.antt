@@ -16,8 +16,8 @@ use Rattle.spdx_catalogue.specs.Rows.{Rows, LicenseRow, ExceptionRow, ImpreciseR
 use Rattle.spdx_catalogue.specs.declared.row.ImpreciseName.{ImpreciseName}
 use Rattle.std.specs.Option.{option_copied}
 use Rattle.spdx_catalogue.specs.LookUps.{listed, listed_exception, listed_caseless, listed_exception_caseless, imprecise_row, imprecise_license, gnu_listed}
-use Rattle.spdx_catalogue.specs.WellFormed.{is_well_formed}
-use Rattle.spdx_catalogue.specs.Ascends.{Ascends}
+use Rattle.spdx_catalogue.specs.RowRules.{is_well_formed}
+use Rattle.spdx_catalogue.specs.Ascent.{Ascends}
 use Rattle.spdx_catalogue.proofs.Sorted.{finds}
 use Rattle.spdx_catalogue.proofs.Caseless.{find_passes, bytes_same}
 use Rattle.spdx_catalogue.proofs.Ascending.{license_kept, exception_kept, imprecise_row_kept, licenses_ascend, exceptions_ascend, licenses_keep, exceptions_keep, imprecise_keep}

@@ -7,7 +7,7 @@ use Rattle.std.specs.Ordering.{nat_cmp}
 use Rattle.std.specs.declared.cmp.Ordering.TheVariants.{Less, Equal, Greater}
 use Rattle.std.specs.Cmp.Lexicographic.{slice_cmp}
 use Rattle.std.proofs.lemmas.Option.{slice_get-map}
-use Rattle.spdx_catalogue.specs.Ascends.{Ascends}
+use Rattle.spdx_catalogue.specs.Ascent.{Ascends}
 use Rattle.spdx_catalogue.proofs.Sorted.{finds_here, finds_none}
 
 pub find_map : {A B : Type 0} (p : B → Bool) (f : A → B) (xs : List A) → find p (map f xs) ≡ option_map f (find (λ x. p (f x)) xs)
@@ -27,7 +27,7 @@ get_map f [] i d = refl
 get_map f (x ∷ xs) zero d = refl
 get_map f (x ∷ xs) (suc i) d = get_map f xs i d
 
--- what a search by halving finds in rows whose shown keys ascend is what a walk finds in what they show
+-- what a search by halving finds in rows whose rows_shown keys ascend is what a walk finds in what they show
 module _ {A B : Type 0} (show : A → B) (key : B → List ℕ) where
   pub shown_ascends : (rows : List A) → Ascends key (map show rows) → Ascends (λ r. key (show r)) rows
   unfolding Ascends

@@ -7,7 +7,7 @@ use Rattle.std.specs.declared.cmp.Ordering.TheVariants.{Less, Equal, Greater}
 use Rattle.std.specs.Cmp.Lexicographic.{slice_cmp}
 use Rattle.std.specs.List.Sorted.{IsNonDecreasingBy, IsPartitionPoint}
 use Rattle.std.specs.List.{HoldsAt}
-use Rattle.spdx_catalogue.specs.Ascends.{Ascends}
+use Rattle.spdx_catalogue.specs.Ascent.{Ascends}
 use Rattle.std.proofs.lemmas.Cmp.{nat_list_cmp_total, alike_right}
 use Rattle.std.proofs.lemmas.Map.Text.{is_eq-slice_cmp}
 

@@ -16,9 +16,9 @@ pub record Reference : Type 0 where
   pub name : List ℕ
 
 -- a row with its mark, or a reference
-pub data Licence : Type 0 where
-  listed : LicenseRow → Bool → Licence
-  referred : Reference → Licence
+pub data LicenseTerm : Type 0 where
+  listed : LicenseRow → Bool → LicenseTerm
+  referred : Reference → LicenseTerm
 
 -- a row, or a reference
 pub data Addition : Type 0 where
@@ -27,7 +27,7 @@ pub data Addition : Type 0 where
 
 -- a licence, and the addition that it has, if any
 pub record Requirement : Type 0 where
-  pub licence : Licence
+  pub license : LicenseTerm
   pub addition : Option Addition
 
 -- the texts of a reference to a licence
@@ -39,9 +39,9 @@ abbrev pub addition_reference_of : AdditionRef → Reference
 addition_reference_of r = record { document = option_map string_bytes r.doc_ref; name = string_bytes r.add_ref }
 
 -- a licence as its row and its mark, or as a reference
-abbrev pub licence_of : LicenseItem → Licence
-licence_of (item.Spdx id or_later) = listed (id_row id) or_later
-licence_of (item.Other r) = referred (license_reference_of r.value)
+abbrev pub license_of : LicenseItem → LicenseTerm
+license_of (item.Spdx id or_later) = listed (id_row id) or_later
+license_of (item.Other r) = referred (license_reference_of r.value)
 
 -- an addition as its row, or as a reference
 abbrev pub addition_of : AdditionItem → Addition
@@ -50,12 +50,12 @@ addition_of (addition.Other r) = added (addition_reference_of r.value)
 
 -- a requirement as rows and texts
 abbrev pub requirement_of : LicenseReq → Requirement
-requirement_of r = record { licence = licence_of r.license; addition = option_map addition_of r.addition }
+requirement_of r = record { license = license_of r.license; addition = option_map addition_of r.addition }
 
 -- the row of a listed one
-abbrev pub licence_row : Licence → Option LicenseRow
-licence_row (listed r mark) = Some r
-licence_row (referred r) = None
+abbrev pub listed_row : LicenseTerm → Option LicenseRow
+listed_row (listed r mark) = Some r
+listed_row (referred r) = None
 
 abbrev pub addition_row : Addition → Option ExceptionRow
 addition_row (excepted r) = Some r

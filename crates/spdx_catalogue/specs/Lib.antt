@@ -2,9 +2,9 @@ pub mod Names
 pub mod Flags
 pub mod Rows
 pub mod LookUps
-pub mod WellFormed
-pub mod Ascends
-pub mod Shown
+pub mod RowRules
+pub mod Ascent
+pub mod CatalogueModel
 pub mod Faults
 pub mod Ids
 pub mod Items

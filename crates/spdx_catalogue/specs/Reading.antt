@@ -4,7 +4,7 @@ use Rattle.serde_json.specs.Data.{Data}
 use Rattle.serde_json.specs.Read.{read}
 use Rattle.serde_json.specs.Written.{has_float}
 use Rattle.spdx_catalogue.specs.Rows.{Rows}
-use Rattle.spdx_catalogue.specs.WellFormed.{first_fault}
+use Rattle.spdx_catalogue.specs.RowRules.{first_fault}
 use Rattle.spdx_catalogue.specs.declared.error.CatalogueError.{CatalogueError}
 use Rattle.spdx_catalogue.specs.Shape.{tables}
 use Rattle.spdx_catalogue.specs.declared.error.Field.{Field}

@@ -2,7 +2,7 @@
 use Rattle.std.specs.Prelude.{ℕ, true, false, List, [], ◌++◌, Option, Some, None, codes, if◌then◌else◌}
 use Rattle.spdx_catalogue.specs.Rows.{LicenseRow}
 use Rattle.spdx_catalogue.specs.Flags.{is_gnu, is_deprecated}
-use Rattle.spdx_catalogue.specs.Items.{Reference, Licence, listed, referred, Addition, excepted, added, Requirement}
+use Rattle.spdx_catalogue.specs.Items.{Reference, LicenseTerm, listed, referred, Addition, excepted, added, Requirement}
 
 abbrev pub license_prefix : List ℕ
 license_prefix = codes "LicenseRef-"
@@ -22,10 +22,10 @@ reference_text prefix r = document_text r.document ++ (prefix ++ r.name)
 abbrev pub mark_text : LicenseRow → List ℕ
 mark_text r = if is_gnu r.flags then (if is_deprecated r.flags then codes "-or-later" else []) else codes "+"
 
-abbrev pub licence_text : Licence → List ℕ
-licence_text (listed r false) = r.name
-licence_text (listed r true) = r.name ++ mark_text r
-licence_text (referred r) = reference_text license_prefix r
+abbrev pub license_text : LicenseTerm → List ℕ
+license_text (listed r false) = r.name
+license_text (listed r true) = r.name ++ mark_text r
+license_text (referred r) = reference_text license_prefix r
 
 abbrev pub addition_text : Addition → List ℕ
 addition_text (excepted r) = r.name
@@ -36,4 +36,4 @@ with_text None = []
 with_text (Some a) = codes " WITH " ++ addition_text a
 
 abbrev pub requirement_text : Requirement → List ℕ
-requirement_text r = licence_text r.licence ++ with_text r.addition
+requirement_text r = license_text r.license ++ with_text r.addition

@@ -3,7 +3,7 @@
 ghost use Rattle.std.specs.Prelude.{◌≡◌, IsTrue, IfOk, string_bytes, map};
 ghost use Rattle.std.specs.Result.{result_err};
 ghost use Rattle.spdx_catalogue.specs.Rows.{row_of, exception_of, imprecise_of, HasTextPrefixes};
-ghost use Rattle.spdx_catalogue.specs.WellFormed.{first_fault, is_well_formed};
+ghost use Rattle.spdx_catalogue.specs.RowRules.{first_fault, is_well_formed};
 
 use crate::checks::first_fault;
 use crate::error::CatalogueError;
@@ -26,9 +26,9 @@ impl Model for Catalogue {
 
     ghost Value = { Rows };
 
-    ghost use Rattle.spdx_catalogue.specs.Shown.{shown, IsWellFormed};
+    ghost use Rattle.spdx_catalogue.specs.CatalogueModel.{rows_shown, IsWellFormed};
 
-    ghost view = { shown };
+    ghost view = { rows_shown };
 
     ghost invariant = { IsWellFormed };
 }

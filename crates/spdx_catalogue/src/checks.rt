@@ -1,10 +1,10 @@
 // The rules of the rows.
 
 ghost use Rattle.std.specs.Prelude.{◌≡◌, ◌+◌, ◌<◌, ◌≤◌, option_map, length, map, slice_get};
-ghost use Rattle.spdx_catalogue.specs.Ascends.{Ascends};
+ghost use Rattle.spdx_catalogue.specs.Ascent.{Ascends};
 ghost use Rattle.std.specs.Option.{option_copied};
 ghost use Rattle.spdx_catalogue.specs.Rows.{row_of, exception_of, imprecise_of, license_name};
-ghost use Rattle.spdx_catalogue.specs.WellFormed.{first_broken, name_rules, license_row_rules, exception_row_rules, imprecise_row_rules, license_rules, exception_rules, imprecise_rules, all_below, is_listed, before, first_fault};
+ghost use Rattle.spdx_catalogue.specs.RowRules.{first_broken, name_rules, license_row_rules, exception_row_rules, imprecise_row_rules, license_rules, exception_rules, imprecise_rules, all_below, is_listed, before, first_fault};
 
 use crate::error::{CatalogueError, List};
 use crate::flags::IS_GNU;

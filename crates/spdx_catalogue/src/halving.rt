@@ -2,7 +2,7 @@
 
 ghost use Rattle.std.specs.Prelude.{◌≡◌, ◌++◌, ◌<◌, option_map, slice_get, map};
 ghost use Rattle.std.specs.Option.{option_copied};
-ghost use Rattle.spdx_catalogue.specs.Ascends.{Ascends};
+ghost use Rattle.spdx_catalogue.specs.Ascent.{Ascends};
 ghost use Rattle.spdx_catalogue.specs.LookUps.{listed, listed_exception};
 ghost use Rattle.spdx_catalogue.specs.Rows.{row_of, exception_of, license_name, exception_name};
 

@@ -3,9 +3,9 @@
 ghost use Rattle.std.specs.Prelude.{◌≡◌, ◌↔◌, IsTrue};
 ghost use Rattle.std.specs.Ordering.{nat_cmp};
 ghost use Rattle.spdx_catalogue.specs.Ids.{id_row, exception_row};
-ghost use Rattle.spdx_catalogue.specs.Items.{license_reference_of, addition_reference_of, licence_of, addition_of, requirement_of};
-ghost use Rattle.spdx_catalogue.specs.Keys.{licence_key, addition_key, requirement_key};
-ghost use Rattle.spdx_catalogue.specs.Orders.{reference_cmp, licence_cmp, addition_cmp, requirement_cmp};
+ghost use Rattle.spdx_catalogue.specs.Items.{license_reference_of, addition_reference_of, license_of, addition_of, requirement_of};
+ghost use Rattle.spdx_catalogue.specs.Keys.{license_key, addition_key, requirement_key};
+ghost use Rattle.spdx_catalogue.specs.Orders.{reference_cmp, license_cmp, addition_cmp, requirement_cmp};
 ghost use Rattle.spdx_catalogue.specs.NameOrders.{IsLicenseNameOrder, IsExceptionNameOrder};
 
 use crate::id::{ExceptionId, LicenseId};
@@ -44,7 +44,7 @@ pub fn compare_addition_refs(a: &AdditionRef, b: &AdditionRef) -> Ordering
 
 /// `cmp` of licence items.
 pub fn compare_licenses(a: &LicenseItem<'_>, b: &LicenseItem<'_>) -> Ordering
-    ensures { result ≡ licence_cmp (licence_of a.now) (licence_of b.now) }
+    ensures { result ≡ license_cmp (license_of a.now) (license_of b.now) }
 {
     LicenseItem::cmp(a, b)
 }
@@ -79,7 +79,7 @@ pub fn are_same_addition_ref(a: &AdditionRef, b: &AdditionRef) -> bool
 
 /// `==` of licence items.
 pub fn are_same_license(a: &LicenseItem<'_>, b: &LicenseItem<'_>) -> bool
-    ensures { IsTrue result ↔ (licence_key (licence_of a.now) ≡ licence_key (licence_of b.now)) }
+    ensures { IsTrue result ↔ (license_key (license_of a.now) ≡ license_key (license_of b.now)) }
 {
     LicenseItem::eq(a, b)
 }

@@ -2,9 +2,9 @@
 
 ghost use Rattle.std.specs.Prelude.{◌≡◌, Some, None, false, IfOk, IsOk, IsSome, option_map};
 ghost use Rattle.spdx_catalogue.specs.Ids.{id_row, exception_row};
-ghost use Rattle.spdx_catalogue.specs.Items.{license_reference_of, addition_reference_of, licence_of, addition_of, requirement_of, licence_row, addition_row};
+ghost use Rattle.spdx_catalogue.specs.Items.{license_reference_of, addition_reference_of, license_of, addition_of, requirement_of, listed_row, addition_row};
 ghost use Rattle.spdx_catalogue.specs.References.{HasNoReference};
-ghost use Rattle.spdx_catalogue.specs.Texts.{license_prefix, addition_prefix, reference_text, licence_text, addition_text, requirement_text};
+ghost use Rattle.spdx_catalogue.specs.Texts.{license_prefix, addition_prefix, reference_text, license_text, addition_text, requirement_text};
 
 use crate::id::{ExceptionId, LicenseId};
 use std::alloc::{AllocError, Global};
@@ -91,7 +91,7 @@ impl fmt::Display for AdditionRef {
 }
 
 impl fmt::Display for LicenseItem<'_> {
-    ghost output = { λ i. Some (licence_text (licence_of i)) };
+    ghost output = { λ i. Some (license_text (license_of i)) };
 
     fn fmt<W: fmt::Write>(&self, f: &mut fmt::Formatter<W>) -> fmt::Result {
         match self {
@@ -171,7 +171,7 @@ impl AdditionRef {
 impl<'c> LicenseItem<'c> {
     /// The id of a listed licence.
     pub fn id(&self) -> Option<LicenseId<'c>>
-        ensures { option_map id_row result ≡ licence_row (licence_of self.now) }
+        ensures { option_map id_row result ≡ listed_row (license_of self.now) }
     {
         match self {
             LicenseItem::Spdx { id, .. } => Some(*id),
@@ -185,8 +185,8 @@ impl<'c> LicenseItem<'c> {
     ///
     /// Memory was refused; a listed licence takes none.
     pub fn try_clone(&self, alloc: Global) -> Result<LicenseItem<'c>, AllocError>
-        ensures copy { IfOk result (λ c. licence_of c ≡ licence_of self.now) }
-        ensures no_memory { IsSome (licence_row (licence_of self.now)) → IsOk result }
+        ensures copy { IfOk result (λ c. license_of c ≡ license_of self.now) }
+        ensures no_memory { IsSome (listed_row (license_of self.now)) → IsOk result }
     {
         match self {
             LicenseItem::Spdx { id, or_later } => Ok(LicenseItem::Spdx {

@@ -87,7 +87,7 @@ fn index_of(id: Option<LicenseId<'_>>) -> Option<usize> {
 }
 
 #[test]
-fn licences_are_looked_up(rt: HostRuntime) -> Result<(), Fail> {
+fn licenses_are_looked_up(rt: HostRuntime) -> Result<(), Fail> {
     let k1 = Catalogue::from_json(rt.alloc(), K1.as_bytes())?;
     assert_eq!(rt; k1.license_version(), "K1");
     for (name, exact, caseless) in [
@@ -126,7 +126,7 @@ fn exceptions_are_looked_up(rt: HostRuntime) -> Result<(), Fail> {
 }
 
 #[test]
-fn gnu_licences_are_looked_up(rt: HostRuntime) -> Result<(), Fail> {
+fn gnu_licenses_are_looked_up(rt: HostRuntime) -> Result<(), Fail> {
     let k1 = Catalogue::from_json(rt.alloc(), K1.as_bytes())?;
     for (base, or_later, found) in [
         ("GPL-3.0", true, Some(11)),
@@ -192,7 +192,7 @@ fn exception_agrees(catalogue: &Catalogue, name: &str) -> bool {
 }
 
 #[test]
-fn halving_licences_agrees_with_a_walk(rt: HostRuntime) -> Result<(), Fail> {
+fn halving_licenses_agrees_with_a_walk(rt: HostRuntime) -> Result<(), Fail> {
     let k1 = Catalogue::from_json(rt.alloc(), K1.as_bytes())?;
     for row in k1.licenses.iter() {
         let longer = format!(in rt.alloc(); "{}0", row.name)?;

@@ -7,7 +7,7 @@ use Rattle.std.proofs.lemmas.Bool.{eqb-true}
 use Rattle.std.proofs.lemmas.Str.{IsUtf8-drop, IsCharBoundary-from_rest, IsCharBoundary-end, IsCharBoundary-start}
 use Rattle.spdx_catalogue.specs.Names.{begins_caseless}
 use Rattle.spdx_catalogue.specs.Rows.{Rows, LicenseRow, ImpreciseRow, HasTextPrefixes}
-use Rattle.spdx_catalogue.specs.WellFormed.{is_well_formed}
+use Rattle.spdx_catalogue.specs.RowRules.{is_well_formed}
 use Rattle.spdx_catalogue.specs.LookUps.{listed, imprecise_row}
 use Rattle.spdx_catalogue.proofs.Caseless.{find_passes, caseless_cut}
 use Rattle.spdx_catalogue.proofs.Listed.{find_place, listed_is_license, listed_name}
@@ -17,7 +17,7 @@ use Rattle.spdx_lexer.specs.Text.{white, run_at, is_run_byte}
 use Rattle.spdx_lexer.specs.Lexeme.{Found, sign, rules, lexeme_of, lexeme}
 use Rattle.spdx_lexer.specs.Groups.{by_run, imprecise, unknown}
 use Rattle.spdx_lexer.specs.Reading.{reading}
-use Rattle.spdx_lexer.specs.Laid.{IsSpelt, IsWhite, between, IsPlace, IsGap, IsLexical, AreLaid, ended, stopped, goes_on, place_of}
+use Rattle.spdx_lexer.specs.Layout.{IsSpelt, IsWhite, between, IsPlace, IsGap, IsLexical, AreLaid, ended, stopped, goes_on, place_of}
 use Rattle.spdx_lexer.proofs.Unfold.{then, behind, reading_is}
 use Rattle.spdx_lexer.proofs.Next.{reading_nil}
 use Rattle.spdx_lexer.proofs.Front.{run_cut, first_cut}

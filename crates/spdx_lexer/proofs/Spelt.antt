@@ -7,7 +7,7 @@ use Rattle.std.proofs.lemmas.List.{take-append-drop}
 use Rattle.std.proofs.Math.Seq.{take-length, take-append_seam}
 use Rattle.spdx_catalogue.specs.Names.{is_name_byte}
 use Rattle.spdx_catalogue.specs.Rows.{Rows}
-use Rattle.spdx_catalogue.specs.WellFormed.{is_well_formed}
+use Rattle.spdx_catalogue.specs.RowRules.{is_well_formed}
 use Rattle.spdx_catalogue.specs.LookUps.{listed, listed_exception, listed_caseless, listed_exception_caseless}
 use Rattle.spdx_catalogue.proofs.Caseless.{bytes_same}
 use Rattle.spdx_catalogue.proofs.Listed.{listed_is_license, listed_name, caseless_is_license, caseless_name, listed_is_exception, listed_exception_name, caseless_is_exception, caseless_exception_name}
@@ -16,7 +16,7 @@ use Rattle.spdx_lexer.specs.Words.{Word, Spdx, LicenseRef, Exception, AdditionRe
 use Rattle.spdx_lexer.specs.Text.{name_at, strip}
 use Rattle.spdx_lexer.specs.Lexeme.{Found, if_allowed, whole, operator, reference_run, name_behind, names_behind, reference, document_reference}
 use Rattle.spdx_lexer.specs.Groups.{license_reference, addition_reference, exact, referred, caseless, by_run, unknown}
-use Rattle.spdx_lexer.specs.Laid.{IsSpelt, IsReference}
+use Rattle.spdx_lexer.specs.Layout.{IsSpelt, IsReference}
 use Rattle.spdx_lexer.proofs.Front.{front_passes}
 use Rattle.spdx_lexer.proofs.Found.{first_all}
 

@@ -4,7 +4,7 @@ use Rattle.std.proofs.Math.Seq.{drop-nil}
 use Rattle.std.proofs.lemmas.List.{drop-drop}
 use Rattle.std.proofs.lemmas.Bool.{le-ltb}
 use Rattle.spdx_catalogue.specs.Rows.{Rows}
-use Rattle.spdx_catalogue.specs.WellFormed.{is_well_formed}
+use Rattle.spdx_catalogue.specs.RowRules.{is_well_formed}
 use Rattle.spdx_lexer.specs.declared.token.ParseMode.{ParseMode}
 use Rattle.spdx_lexer.specs.Text.{white}
 use Rattle.spdx_lexer.specs.Words.{Word, Fault, SeparatedPlus, Item, span}

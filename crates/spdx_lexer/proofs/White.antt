@@ -17,7 +17,7 @@ use Rattle.std.proofs.Math.Seq.{take-append_seam}
 use Rattle.std.proofs.Common.{IsCharBoundary}
 use lib.Utf8.{scalar}
 use Rattle.spdx_lexer.specs.Text.{white}
-use Rattle.spdx_lexer.specs.Laid.{IsWhite}
+use Rattle.spdx_lexer.specs.Layout.{IsWhite}
 use Rattle.spdx_lexer.proofs.Front.{front_passes, and_both}
 
 skips : (cs : List ℕ) → skip_leading_whitespace cs ≡ drop (prefix_len is_whitespace cs) cs

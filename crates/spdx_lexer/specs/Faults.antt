@@ -7,8 +7,8 @@ use Rattle.spdx_lexer.specs.declared.error.ParseError.{ParseError}
 use Rattle.spdx_lexer.specs.Words.{Fault, UnknownLicense, UnknownException, InvalidCharacters, UnclosedParens, UnopenedParens, Empty, Unexpected, SeparatedPlus, UnknownTerm, GnuNoPlus, GnuPlusWithSuffix, DeprecatedLicenseId}
 
 -- the words that were expected
-abbrev pub words_of : List (Bor (List ℕ)) → List (List ℕ)
-words_of words = map (λ (w : Bor (List ℕ)). w.now) words
+abbrev pub terms_of : List (Bor (List ℕ)) → List (List ℕ)
+terms_of words = map (λ (w : Bor (List ℕ)). w.now) words
 
 -- a reason, what it borrows aside
 abbrev pub fault_of : Reason → Fault

@@ -6,5 +6,5 @@ pub mod Reading
 pub mod Faults
 pub mod Modes
 pub mod Code
-pub mod Left
-pub mod Laid
+pub mod Remainder
+pub mod Layout

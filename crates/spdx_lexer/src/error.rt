@@ -1,7 +1,7 @@
 // Why a text is no licence expression, and where.
 
 ghost use Rattle.std.specs.Prelude.{◌≡◌, ◌∷◌, Some};
-ghost use Rattle.spdx_lexer.specs.Faults.{fault_of, description_text, fault_text, error_text, quoted_words, words_of};
+ghost use Rattle.spdx_lexer.specs.Faults.{fault_of, description_text, fault_text, error_text, quoted_words, terms_of};
 ghost use Rattle.std.specs.List.{repeat};
 
 pub use spdx_catalogue::error::Failure;
@@ -70,7 +70,7 @@ struct Quoted {
 }
 
 impl fmt::Display for Quoted {
-    ghost output = { λ q. Some (quoted_words (q.first.now ∷ q.second.now ∷ words_of q.rest.now)) };
+    ghost output = { λ q. Some (quoted_words (q.first.now ∷ q.second.now ∷ terms_of q.rest.now)) };
 
     fn fmt<W: fmt::Write>(&self, f: &mut fmt::Formatter<W>) -> fmt::Result {
         let (first, second) = (self.first, self.second);

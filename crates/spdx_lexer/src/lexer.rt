@@ -1,7 +1,7 @@
 // The tokens of a text, one after another.
 
 ghost use Rattle.std.specs.Prelude.{◌≡◌, ◌≤◌, ◌<◌, ◌&&◌, length, IsTrue};
-ghost use Rattle.spdx_catalogue.specs.WellFormed.{is_well_formed};
+ghost use Rattle.spdx_catalogue.specs.RowRules.{is_well_formed};
 ghost use Rattle.spdx_lexer.specs.Text.{begins_plus, IsRunLeft};
 
 use crate::error::{ParseError, Reason};
@@ -41,8 +41,8 @@ pub struct Lexer<'c, 't> {
 impl<'c, 't> Lexer<'c, 't> {
     ghost use Rattle.spdx_lexer.specs.Modes.{strict};
     ghost use Rattle.spdx_lexer.specs.Reading.{reading};
-    ghost use Rattle.spdx_lexer.specs.Left.{items_left, text_of};
-    ghost use Rattle.spdx_lexer.specs.Laid.{AreLaid, IsPlace, place_of};
+    ghost use Rattle.spdx_lexer.specs.Remainder.{items_left, source_of};
+    ghost use Rattle.spdx_lexer.specs.Layout.{AreLaid, IsPlace, place_of};
     ghost use Rattle.std.specs.List.{All};
 
     /// The tokens of the text in the strict form.
@@ -51,7 +51,7 @@ impl<'c, 't> Lexer<'c, 't> {
         ensures bound { length (items_left result) ≤ length text.now }
         ensures laid { AreLaid catalogue.now strict text.now 0 (items_left result) }
         ensures places { All (λ item. IsPlace text.now (place_of item)) (items_left result) }
-        ensures text { text_of result ≡ text.now }
+        ensures text { source_of result ≡ text.now }
     {
         Lexer::new_mode(catalogue, text, ParseMode::STRICT)
     }
@@ -63,7 +63,7 @@ impl<'c, 't> Lexer<'c, 't> {
         ensures bound { length (items_left result) ≤ length text.now }
         ensures laid { AreLaid catalogue.now mode text.now 0 (items_left result) }
         ensures places { All (λ item. IsPlace text.now (place_of item)) (items_left result) }
-        ensures text { text_of result ≡ text.now }
+        ensures text { source_of result ≡ text.now }
     {
         catalogue.is_well_formed();
         catalogue.has_text_prefixes();
@@ -81,7 +81,7 @@ impl<'c, 't> Iterator for Lexer<'c, 't> {
     ghost use Rattle.std.specs.Prelude.{⊤, IfSome, IfErr};
     ghost use Rattle.std.specs.Iterator.{YieldsFirstBy, MakesProgress, item_count};
     ghost use Rattle.spdx_lexer.specs.Code.{item_of};
-    ghost use Rattle.spdx_lexer.specs.Left.{items_left, text_of};
+    ghost use Rattle.spdx_lexer.specs.Remainder.{items_left, source_of};
 
     type Item = Result<LexerToken<'c, 't>, ParseError<'t>>;
 
@@ -93,8 +93,8 @@ impl<'c, 't> Iterator for Lexer<'c, 't> {
     fn next(&mut self) -> Option<Self::Item>
         ensures steps { YieldsFirstBy item_of items_left self.old result self.new }
         ensures goes { MakesProgress (λ _. ⊤) (item_count items_left) self.old result self.new }
-        ensures text { text_of self.new ≡ text_of self.old }
-        ensures original { IfSome result (λ item. IfErr item (λ e. e.original.now ≡ text_of self.old)) }
+        ensures text { source_of self.new ≡ source_of self.old }
+        ensures original { IfSome result (λ item. IfErr item (λ e. e.original.now ≡ source_of self.old)) }
     {
         let before = self.text.len() - self.rest.len();
         let rest = skip_white(self.rest);

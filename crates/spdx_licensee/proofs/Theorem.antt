@@ -2,11 +2,11 @@
 use Rattle.std.proofs.Common.{◌≡◌, arith, add-zero, zero-add, map, ℕ, Bool, true, false, List, [], ◌∷◌, length, Option, Some, None, Result, Ok, Err, IfOk, IfErr, refl, sym, ap, subst, ◌∙◌, ok_or, option_and_then, option_map, codes, if◌then◌else◌}
 use Rattle.std.proofs.lemmas.Bool.{false≢true}
 use Rattle.spdx_catalogue.specs.Rows.{Rows}
-use Rattle.spdx_catalogue.specs.Items.{Licence, Addition, added, Requirement, requirement_of}
+use Rattle.spdx_catalogue.specs.Items.{LicenseTerm, Addition, added, Requirement, requirement_of}
 use Rattle.spdx_lexer.specs.Words.{Word, LicenseRef, AdditionRef, With, Fault, Unexpected, Span, Item, Placed, words}
 use Rattle.spdx_lexer.specs.Modes.{strict}
 use Rattle.spdx_lexer.specs.Reading.{reading}
-use Rattle.spdx_lexer.specs.Laid.{IsPlace, place_of}
+use Rattle.spdx_lexer.specs.Layout.{IsPlace, place_of}
 use Rattle.spdx_lexer.proofs.Laid.{place_among}
 use Rattle.std.specs.List.{All}
 use Rattle.std.specs.Str.{IsCharBoundary}
@@ -16,7 +16,7 @@ use Rattle.spdx_catalogue.specs.declared.error.Failure.TheVariants.{Refused, Mem
 use Rattle.spdx_lexer.specs.declared.error.ParseError.{ParseError}
 use Rattle.spdx_lexer.specs.Faults.{fault_of}
 use Rattle.spdx_lexer.specs.Code.{span_of}
-use Rattle.spdx_licensee.specs.Named.{license_named, addition_named, licensee_named, Begins, licensee_word_fault, licensee_end_fault, Names, NamesNone, IsLicenseeFault, at_word, at_place, at_end}
+use Rattle.spdx_licensee.specs.LicenseeText.{license_named, addition_named, licensee_named, Begins, licensee_word_fault, licensee_end_fault, Names, NamesNone, IsLicenseeFault, at_word, at_place, at_end}
 use Rattle.spdx_catalogue.specs.Failures.{IfRefused}
 use Rattle.spdx_licensee.specs.Answers.{Gives, and_then, is_with, behind_addition, behind_with, behind_license, licensee_at}
 
@@ -25,20 +25,20 @@ use Rattle.spdx_licensee.specs.Answers.{Gives, and_then, is_with, behind_additio
 begins_nothing : Begins []
 begins_nothing = (LicenseRef None [] ∷ [], _, refl)
 
-begins_license : (w : Word) (l : Licence) → license_named w ≡ Some l → Begins (w ∷ [])
-begins_license w l n = ([], record { licence = l; addition = None }, rw n refl)
+begins_license : (w : Word) (l : LicenseTerm) → license_named w ≡ Some l → Begins (w ∷ [])
+begins_license w l n = ([], record { license = l; addition = None }, rw n refl)
 
-begins_with : (w : Word) (l : Licence) → license_named w ≡ Some l → Begins (w ∷ With ∷ [])
+begins_with : (w : Word) (l : LicenseTerm) → license_named w ≡ Some l → Begins (w ∷ With ∷ [])
 begins_with w l n =
     let a = added (record { document = None; name = [] }) in
-    (AdditionRef None [] ∷ [], record { licence = l; addition = Some a }, rw n refl)
+    (AdditionRef None [] ∷ [], record { license = l; addition = Some a }, rw n refl)
 
-both_named : (w v : Word) (l : Licence) (a : Addition) → license_named w ≡ Some l → addition_named v ≡ Some a
-    → licensee_named (w ∷ With ∷ v ∷ []) ≡ Some (record { licence = l; addition = Some a })
+both_named : (w v : Word) (l : LicenseTerm) (a : Addition) → license_named w ≡ Some l → addition_named v ≡ Some a
+    → licensee_named (w ∷ With ∷ v ∷ []) ≡ Some (record { license = l; addition = Some a })
 both_named w v l a n m = rw (n, m) refl
 
-begins_addition : (w v : Word) (l : Licence) (a : Addition) → license_named w ≡ Some l → addition_named v ≡ Some a → Begins (w ∷ With ∷ v ∷ [])
-begins_addition w v l a n m = ([], record { licence = l; addition = Some a }, both_named w v l a n m)
+begins_addition : (w v : Word) (l : LicenseTerm) (a : Addition) → license_named w ≡ Some l → addition_named v ≡ Some a → Begins (w ∷ With ∷ v ∷ [])
+begins_addition w v l a n m = ([], record { license = l; addition = Some a }, both_named w v l a n m)
 
 -- ---- and what does not
 
@@ -54,7 +54,7 @@ no_second w v ws req h = cc h
 no_third : (w v a : Word) (ws : List Word) (req : Requirement) → addition_named a ≡ None → licensee_named (w ∷ v ∷ a ∷ ws) ≡ Some req → ⊥
 no_third w With a [] req n h = third (license_named w) (rw n at h)
   where
-    third : (o : Option Licence) → option_and_then (λ (l : Licence). None) o ≡ Some req → ⊥
+    third : (o : Option LicenseTerm) → option_and_then (λ (l : LicenseTerm). None) o ≡ Some req → ⊥
     third None k = cc k
     third (Some l) k = cc k
 no_third w v a ws req n h = cc h
@@ -72,7 +72,7 @@ with_is q h = go q.0 h
 
 -- ---- the fault
 
-fault_behind_addition : (c : Rows) (text : List ℕ) (p a : Placed) (s : Span) (l : Licence) (ad : Addition) (more : List Item)
+fault_behind_addition : (c : Rows) (text : List ℕ) (p a : Placed) (s : Span) (l : LicenseTerm) (ad : Addition) (more : List Item)
     → reading c strict 0 text ≡ Ok p ∷ Ok (With, s) ∷ Ok a ∷ more → license_named p.0 ≡ Some l → addition_named a.0 ≡ Some ad
     → (e : Fault × Span) → behind_addition l ad more ≡ Err e → IsLicenseeFault c text e.0 e.1
 fault_behind_addition c text p a s l ad [] r n m e h = cc h
@@ -84,7 +84,7 @@ fault_behind_addition c text p a s l ad (Ok b ∷ more) r n m e h =
     subst (λ (y : Fault × Span). IsLicenseeFault c text y.0 y.1) same
     (at_word (p ∷ (With, s) ∷ a ∷ []) b.0 more r (begins_addition p.0 a.0 l ad n m) (λ (ws, req, k). no_fourth p.0 With a.0 b.0 ws req k))
 
-fault_behind_with : (c : Rows) (text : List ℕ) (p : Placed) (s : Span) (l : Licence) (more : List Item)
+fault_behind_with : (c : Rows) (text : List ℕ) (p : Placed) (s : Span) (l : LicenseTerm) (more : List Item)
     → reading c strict 0 text ≡ Ok p ∷ Ok (With, s) ∷ more → license_named p.0 ≡ Some l
     → (e : Fault × Span)
     → behind_with (length text) l more ≡ Err e
@@ -106,7 +106,7 @@ fault_behind_with c text p s l (Ok a ∷ more) r n e h = go (addition_named a.0)
         (at_word (p ∷ (With, s) ∷ []) a.0 more r (begins_with p.0 l n) (λ (ws, req, named). no_third p.0 With a.0 ws req m named))
     go (Some ad) m k = fault_behind_addition c text p a s l ad more r n m e k
 
-fault_behind_license : (c : Rows) (text : List ℕ) (p : Placed) (l : Licence) (more : List Item)
+fault_behind_license : (c : Rows) (text : List ℕ) (p : Placed) (l : LicenseTerm) (more : List Item)
     → reading c strict 0 text ≡ Ok p ∷ more → license_named p.0 ≡ Some l
     → (e : Fault × Span) → behind_license (length text) l more ≡ Err e → IsLicenseeFault c text e.0 e.1
 fault_behind_license c text p l [] r n e h = cc h
@@ -134,7 +134,7 @@ fault_found c text (Err x ∷ more) r e h =
     subst (λ (y : Fault × Span). IsLicenseeFault c text y.0 y.1) same (at_place [] more r begins_nothing)
 fault_found c text (Ok p ∷ more) r e h = go (license_named p.0) refl h
   where
-    go : (o : Option Licence) → license_named p.0 ≡ o
+    go : (o : Option LicenseTerm) → license_named p.0 ≡ o
         → and_then (ok_or o (licensee_word_fault [] p.0, p.1)) (λ l. behind_license (length text) l more) ≡ Err e
         → IsLicenseeFault c text e.0 e.1
     go None m k =
@@ -145,16 +145,16 @@ fault_found c text (Ok p ∷ more) r e h = go (license_named p.0) refl h
 
 -- ---- the licensee
 
-named_behind_addition : (c : Rows) (text : List ℕ) (p a : Placed) (s : Span) (l : Licence) (ad : Addition) (more : List Item)
+named_behind_addition : (c : Rows) (text : List ℕ) (p a : Placed) (s : Span) (l : LicenseTerm) (ad : Addition) (more : List Item)
     → reading c strict 0 text ≡ Ok p ∷ Ok (With, s) ∷ Ok a ∷ more → license_named p.0 ≡ Some l → addition_named a.0 ≡ Some ad
     → (req : Requirement) → behind_addition l ad more ≡ Ok req → Names c text req
 named_behind_addition c text p a s l ad [] r n m req h =
-    let same : record { licence = l; addition = Some ad } ≡ req = cc h in
+    let same : record { license = l; addition = Some ad } ≡ req = cc h in
     (p ∷ (With, s) ∷ a ∷ [], r, both_named p.0 a.0 l ad n m ∙ ap Some same)
 named_behind_addition c text p a s l ad (Err x ∷ more) r n m req h = cc h
 named_behind_addition c text p a s l ad (Ok b ∷ more) r n m req h = cc h
 
-named_behind_with : (c : Rows) (text : List ℕ) (p : Placed) (s : Span) (l : Licence) (more : List Item)
+named_behind_with : (c : Rows) (text : List ℕ) (p : Placed) (s : Span) (l : LicenseTerm) (more : List Item)
     → reading c strict 0 text ≡ Ok p ∷ Ok (With, s) ∷ more → license_named p.0 ≡ Some l
     → (req : Requirement) → behind_with (length text) l more ≡ Ok req → Names c text req
 named_behind_with c text p s l [] r n req h = cc h
@@ -166,11 +166,11 @@ named_behind_with c text p s l (Ok a ∷ more) r n req h = go (addition_named a.
     go None m k = cc k
     go (Some ad) m k = named_behind_addition c text p a s l ad more r n m req k
 
-named_behind_license : (c : Rows) (text : List ℕ) (p : Placed) (l : Licence) (more : List Item)
+named_behind_license : (c : Rows) (text : List ℕ) (p : Placed) (l : LicenseTerm) (more : List Item)
     → reading c strict 0 text ≡ Ok p ∷ more → license_named p.0 ≡ Some l
     → (req : Requirement) → behind_license (length text) l more ≡ Ok req → Names c text req
 named_behind_license c text p l [] r n req h =
-    let same : record { licence = l; addition = None } ≡ req = cc h in
+    let same : record { license = l; addition = None } ≡ req = cc h in
     (p ∷ [], r, rw n (ap Some same))
 named_behind_license c text p l (Err x ∷ more) r n req h = cc h
 named_behind_license c text p l (Ok q ∷ more) r n req h = go (is_with q.0) refl h
@@ -186,7 +186,7 @@ licensee_found c text [] r req h = cc h
 licensee_found c text (Err x ∷ more) r req h = cc h
 licensee_found c text (Ok p ∷ more) r req h = go (license_named p.0) refl h
   where
-    go : (o : Option Licence) → license_named p.0 ≡ o
+    go : (o : Option LicenseTerm) → license_named p.0 ≡ o
         → and_then (ok_or o (licensee_word_fault [] p.0, p.1)) (λ l. behind_license (length text) l more) ≡ Ok req → Names c text req
     go None m k = cc k
     go (Some l) m k = named_behind_license c text p l more r m req k
@@ -211,22 +211,22 @@ gives_licensee c text takes (Err failure) h = tt
 one_found : (len : ℕ) (p : Placed) (req : Requirement) → licensee_named (p.0 ∷ []) ≡ Some req → licensee_at len (Ok p ∷ []) ≡ Ok req
 one_found len p req h = go (license_named p.0) h
   where
-    go : (o : Option Licence) → option_map (λ l. record { licence = l; addition = None }) o ≡ Some req
+    go : (o : Option LicenseTerm) → option_map (λ l. record { license = l; addition = None }) o ≡ Some req
         → and_then (ok_or o (licensee_word_fault [] p.0, p.1)) (λ l. behind_license len l []) ≡ Ok req
     go None k = cc k
     go (Some l) k =
-        let same : record { licence = l; addition = None } ≡ req = cc k in
+        let same : record { license = l; addition = None } ≡ req = cc k in
         ap Ok same
 
-joined : Licence → Addition → Requirement
-joined l a = record { licence = l; addition = Some a }
+joined : LicenseTerm → Addition → Requirement
+joined l a = record { license = l; addition = Some a }
 
 three_found : (len : ℕ) (p a : Placed) (req : Requirement) → licensee_named (p.0 ∷ With ∷ a.0 ∷ []) ≡ Some req
     → and_then (ok_or (license_named p.0) (licensee_word_fault [] p.0, p.1)) (λ l. behind_with len l (Ok a ∷ [])) ≡ Ok req
 unfolding joined
 three_found len p a req h = go (license_named p.0) (addition_named a.0) h
   where
-    go : (o : Option Licence) (q : Option Addition) → option_and_then (λ l. option_map (λ d. joined l d) q) o ≡ Some req
+    go : (o : Option LicenseTerm) (q : Option Addition) → option_and_then (λ l. option_map (λ d. joined l d) q) o ≡ Some req
         → and_then (ok_or o (licensee_word_fault [] p.0, p.1)) (λ l. and_then (ok_or q (Unexpected (codes "<addition>" ∷ []), a.1)) (λ d. behind_addition l d [])) ≡ Ok req
     go None q k = cc k
     go (Some l) None k = cc k

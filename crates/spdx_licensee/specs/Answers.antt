@@ -2,12 +2,12 @@
 use Rattle.std.specs.Prelude.{◌≡◌, ℕ, Bool, true, false, List, [], ◌∷◌, Option, Some, None, Result, Ok, Err, ok_or, codes, if◌then◌else◌}
 use Rattle.spdx_catalogue.specs.declared.error.Failure.{Failure}
 use Rattle.spdx_catalogue.specs.declared.error.Failure.TheVariants.{Refused, Memory}
-use Rattle.spdx_catalogue.specs.Items.{Licence, Addition, Requirement}
+use Rattle.spdx_catalogue.specs.Items.{LicenseTerm, Addition, Requirement}
 use Rattle.spdx_lexer.specs.declared.error.ParseError.{ParseError}
 use Rattle.spdx_lexer.specs.Words.{Word, With, Fault, Unexpected, Span, span, Item}
 use Rattle.spdx_lexer.specs.Faults.{fault_of}
 use Rattle.spdx_lexer.specs.Code.{span_of}
-use Rattle.spdx_licensee.specs.Named.{license_named, addition_named, licensee_word_fault, licensee_end_fault, item_is_reference}
+use Rattle.spdx_licensee.specs.LicenseeText.{license_named, addition_named, licensee_word_fault, licensee_end_fault, item_is_reference}
 
 -- it is no want of memory
 abbrev pub TellsAFault : {E : Type 0} → Failure E → Type 0
@@ -30,7 +30,7 @@ starts_reference None = false
 starts_reference (Some item) = item_is_reference item
 
 -- the licence that the first item is, of a text of so many bytes
-abbrev pub license_at : ℕ → Option Item → Answer Licence
+abbrev pub license_at : ℕ → Option Item → Answer LicenseTerm
 license_at len None = Err (licensee_end_fault len [])
 license_at len (Some (Err fault)) = Err fault
 license_at len (Some (Ok placed)) = ok_or (license_named placed.0) (licensee_word_fault [] placed.0, placed.1)
@@ -69,16 +69,16 @@ abbrev pub and_then : {A B : Type 0} → Answer A → (A → Answer B) → Answe
 and_then (Err fault) next = Err fault
 and_then (Ok value) next = next value
 
-abbrev pub behind_addition : Licence → Addition → List Item → Answer Requirement
-behind_addition licence addition items = and_then (end_at (first items)) (λ _. Ok (record { licence = licence; addition = Some addition }))
+abbrev pub behind_addition : LicenseTerm → Addition → List Item → Answer Requirement
+behind_addition license addition items = and_then (end_at (first items)) (λ _. Ok (record { license = license; addition = Some addition }))
 
-abbrev pub behind_with : ℕ → Licence → List Item → Answer Requirement
-behind_with len licence items = and_then (addition_at len (first items)) (λ addition. behind_addition licence addition (rest items))
+abbrev pub behind_with : ℕ → LicenseTerm → List Item → Answer Requirement
+behind_with len license items = and_then (addition_at len (first items)) (λ addition. behind_addition license addition (rest items))
 
-abbrev pub behind_license : ℕ → Licence → List Item → Answer Requirement
-behind_license len licence [] = Ok (record { licence = licence; addition = None })
-behind_license len licence (item ∷ more) = and_then (with_at item) (λ _. behind_with len licence more)
+abbrev pub behind_license : ℕ → LicenseTerm → List Item → Answer Requirement
+behind_license len license [] = Ok (record { license = license; addition = None })
+behind_license len license (item ∷ more) = and_then (with_at item) (λ _. behind_with len license more)
 
 -- all of the items
 abbrev pub licensee_at : ℕ → List Item → Answer Requirement
-licensee_at len items = and_then (license_at len (first items)) (λ licence. behind_license len licence (rest items))
+licensee_at len items = and_then (license_at len (first items)) (λ license. behind_license len license (rest items))

@@ -1,7 +1,7 @@
 pub mod Version
-pub mod Left
+pub mod Families
 pub mod Satisfies
-pub mod Alike
 pub mod Equality
-pub mod Named
+pub mod EqualityLaws
+pub mod LicenseeText
 pub mod Answers

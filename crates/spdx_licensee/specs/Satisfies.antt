@@ -3,9 +3,9 @@ use Rattle.std.specs.Prelude.{ℕ, Bool, false, not, ◌||◌, ◌&&◌, ◌==�
 use Rattle.spdx_catalogue.specs.Rows.{LicenseRow}
 use Rattle.spdx_catalogue.specs.Flags.{is_gnu}
 use Rattle.spdx_catalogue.specs.Names.{ends_or_later}
-use Rattle.spdx_catalogue.specs.Items.{Licence, listed, referred, Requirement}
+use Rattle.spdx_catalogue.specs.Items.{LicenseTerm, listed, referred, Requirement}
 use Rattle.spdx_catalogue.specs.Versions.{version, versioned_name, family}
-use Rattle.spdx_licensee.specs.Alike.{same_reference, same_additions}
+use Rattle.spdx_licensee.specs.Equality.{same_reference, same_additions}
 use Rattle.spdx_licensee.specs.Version.{older, same_parts}
 
 -- later versions are meant too: by the mark, or by the ending of a GNU licence
@@ -25,7 +25,7 @@ is_as_late held required =
     && not_older (version (versioned_name held)) (version (versioned_name required))
 
 -- the same licence, whatever its mark, or where later versions are meant, one as late; of references the same
-abbrev pub covers : Licence → Licence → Bool
+abbrev pub covers : LicenseTerm → LicenseTerm → Bool
 covers (listed held mark) (listed required or_later) = held.index == required.index || (allows_later required or_later && is_as_late held required)
 covers (referred held) (referred required) = same_reference held required
 covers (listed held mark) (referred required) = false
@@ -33,4 +33,4 @@ covers (referred held) (listed required or_later) = false
 
 -- the held requirement satisfies the required one
 abbrev pub satisfies : Requirement → Requirement → Bool
-satisfies held required = same_additions held.addition required.addition && covers held.licence required.licence
+satisfies held required = same_additions held.addition required.addition && covers held.license required.license

@@ -3,16 +3,16 @@
 ghost use Rattle.std.specs.Prelude.{◌≡◌, ◌↔◌, IsTrue, IsOk, IfOk, IfErr, false, option_map};
 ghost use Rattle.std.specs.Option.{option_copied};
 ghost use Rattle.spdx_catalogue.specs.Ids.{id_row};
-ghost use Rattle.spdx_catalogue.specs.Items.{licence_of, addition_of, requirement_of};
+ghost use Rattle.spdx_catalogue.specs.Items.{license_of, addition_of, requirement_of};
 ghost use Rattle.spdx_catalogue.specs.Keys.{addition_key};
 ghost use Rattle.spdx_catalogue.specs.References.{HasNoReference};
 ghost use Rattle.spdx_catalogue.specs.Names as names;
 ghost use Rattle.spdx_catalogue.specs.Versions as parted;
 ghost use Rattle.spdx_lexer.specs.Faults.{fault_of};
 ghost use Rattle.spdx_lexer.specs.Code.{span_of};
-ghost use Rattle.spdx_lexer.specs.Laid.{IsPlace};
-ghost use Rattle.spdx_licensee.specs.Alike.{same_additions};
-ghost use Rattle.spdx_licensee.specs.Named.{Names, NamesNone, IsLicenseeFault, has_reference};
+ghost use Rattle.spdx_lexer.specs.Layout.{IsPlace};
+ghost use Rattle.spdx_licensee.specs.Equality.{same_additions};
+ghost use Rattle.spdx_licensee.specs.LicenseeText.{Names, NamesNone, IsLicenseeFault, has_reference};
 ghost use Rattle.spdx_catalogue.specs.Failures.{IfRefused};
 ghost use Rattle.spdx_licensee.specs.Answers.{TellsAFault};
 ghost use Rattle.spdx_licensee.specs.Satisfies as spec;
@@ -173,7 +173,7 @@ fn is_as_late(held: LicenseId<'_>, required: LicenseId<'_>) -> bool
 
 // Whether the licence that is held is the required one, or as late as it asks for.
 fn covers(held: &LicenseItem<'_>, required: &LicenseItem<'_>) -> bool
-    ensures { result ≡ spec.covers (licence_of held.now) (licence_of required.now) }
+    ensures { result ≡ spec.covers (license_of held.now) (license_of required.now) }
 {
     match (held, required) {
         (

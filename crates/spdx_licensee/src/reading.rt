@@ -3,12 +3,12 @@
 ghost use Rattle.std.specs.Prelude.{◌≡◌, ◌∷◌, [], IfOk, IsOk, Some, None, Ok, Err, false, true, string_bytes, length, option_map, codes};
 ghost use Rattle.std.specs.List.{list_any};
 ghost use Rattle.std.specs.Option.{option_copied};
-ghost use Rattle.spdx_catalogue.specs.Items.{licence_of, addition_of, requirement_of};
+ghost use Rattle.spdx_catalogue.specs.Items.{license_of, addition_of, requirement_of};
 ghost use Rattle.spdx_lexer.specs.Words.{Unexpected};
 ghost use Rattle.spdx_lexer.specs.Faults.{fault_of};
-ghost use Rattle.spdx_lexer.specs.Left.{items_left};
+ghost use Rattle.spdx_lexer.specs.Remainder.{items_left};
 ghost use Rattle.spdx_lexer.specs.Code.{word_of, item_of, span_of};
-ghost use Rattle.spdx_licensee.specs.Named.{license_named, addition_named, is_reference, item_is_reference, licensee_word_fault};
+ghost use Rattle.spdx_licensee.specs.LicenseeText.{license_named, addition_named, is_reference, item_is_reference, licensee_word_fault};
 ghost use Rattle.spdx_catalogue.specs.Failures.{IfRefused};
 ghost use Rattle.spdx_licensee.specs.Answers.{TellsAFault, Gives, license_at, with_at, addition_at, end_at, starts_reference, licensee_at};
 
@@ -50,7 +50,7 @@ fn license_named<'c>(
     token: Token<'c, '_>,
 ) -> Result<Option<LicenseItem<'c>>, AllocError>
     ensures named { IfOk result (λ item.
-        option_map licence_of item ≡ license_named (word_of token.entry)) }
+        option_map license_of item ≡ license_named (word_of token.entry)) }
     ensures memory { is_reference (word_of token.entry) ≡ false → IsOk result }
 {
     match token {
@@ -112,7 +112,7 @@ fn read_license<'c, 't>(
     text: &'t str,
     item: Item<'c, 't>,
 ) -> Result<LicenseItem<'c>, Failure<ParseError<'t>>>
-    ensures { Gives licence_of text.now (starts_reference (option_map item_of item.entry))
+    ensures { Gives license_of text.now (starts_reference (option_map item_of item.entry))
         (license_at (length text.now) (option_map item_of item.entry)) result }
 {
     match item {

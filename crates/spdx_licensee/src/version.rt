@@ -100,7 +100,7 @@ struct FamilyParts<'n> {
 
 impl<'n> FamilyParts<'n> {
     ghost use Rattle.std.specs.Iterator.{YieldsFirstBy};
-    ghost use Rattle.spdx_licensee.specs.Left.{parts_left, family_left};
+    ghost use Rattle.spdx_licensee.specs.Families.{parts_left, family_left};
 
     fn of(name: &'n [u8]) -> Self
         ensures { family_left result ≡ parted.without_version (parted.parts name.now) }
@@ -132,7 +132,7 @@ impl<'n> FamilyParts<'n> {
 
 impl<'n> Iterator for FamilyParts<'n> {
     ghost use Rattle.std.specs.Iterator.{YieldsFirstBy, item_count};
-    ghost use Rattle.spdx_licensee.specs.Left.{family_left};
+    ghost use Rattle.spdx_licensee.specs.Families.{family_left};
 
     type Item = &'n [u8];
 

@@ -7,7 +7,7 @@ use Rattle.serde_json.specs.Data.{Data}
 use Rattle.serde_json.specs.Read.{read}
 use Rattle.serde_json.specs.Written.{has_float}
 use Rattle.spdx_catalogue.specs.Rows.{Rows}
-use Rattle.spdx_catalogue.specs.WellFormed.{first_fault}
+use Rattle.spdx_catalogue.specs.RowRules.{first_fault}
 use Rattle.spdx_catalogue.specs.Shape.{tables}
 use Rattle.spdx_catalogue.specs.Reading.{Reads, unless_fault, checked, rows_in, IsReading, IsFault}
 use Rattle.spdx_catalogue.specs.declared.error.CatalogueError.{CatalogueError}

@@ -8,7 +8,7 @@ use Rattle.std.proofs.lemmas.List.Elements.{All-nil, All-push, Contains-append_l
 use Rattle.spdx_catalogue.specs.Rows.{Rows}
 use Rattle.spdx_catalogue.specs.Items.{Requirement}
 use Rattle.spdx_parser.specs.Tree.{Tree}
-use Rattle.spdx_parser.specs.Parsed.{IsOfRows}
+use Rattle.spdx_parser.specs.Meaning.{IsOfRows}
 use Rattle.spdx.specs.Choice.{Choice, choice_of}
 use Rattle.spdx.specs.Doubles.{SameMembers}
 use Rattle.spdx.proofs.Doubles.{choice_same}

@@ -2,36 +2,36 @@
 use Rattle.std.proofs.Common.{◌≡◌, ℕ, Bool, false, cond, List, [], ◌∷◌, ◌++◌, length, map, Option, Some, None, Result, Ok, Err, refl, sym, ap, subst, ◌∙◌, append-nil, codes}
 use Rattle.std.specs.Prelude.{option_map, option_and_then, ok_or, MatchResult}
 use Rattle.spdx_catalogue.specs.Rows.{Rows}
-use Rattle.spdx_catalogue.specs.Items.{Reference, Licence, Addition, added, Requirement}
+use Rattle.spdx_catalogue.specs.Items.{Reference, LicenseTerm, Addition, added, Requirement}
 use Rattle.spdx_lexer.specs.Words.{Word, AdditionRef, With, Fault, Unexpected, Span, Item, Placed, words}
 use Rattle.spdx_lexer.specs.Modes.{strict}
 use Rattle.spdx_lexer.specs.Reading.{reading}
-use Rattle.spdx_licensee.specs.Named.{license_named, addition_named, licensee_named, Begins, licensee_word_fault, licensee_end_fault, Names, IsLicenseeFault, at_word, at_place, at_end}
+use Rattle.spdx_licensee.specs.LicenseeText.{license_named, addition_named, licensee_named, Begins, licensee_word_fault, licensee_end_fault, Names, IsLicenseeFault, at_word, at_place, at_end}
 use Rattle.spdx_licensee.specs.Answers.{Answer, and_then, is_with, behind_addition, behind_with, behind_license, licensee_at}
 use Rattle.spdx_licensee.proofs.Theorem.{licensee_found, fault_found}
 use Rattle.spdx_lines.specs.Program.{licensee_of, IsTheLicensee}
 
 -- ---- what the words of a licensee are
 
-abbrev alone : Licence → Requirement
-alone l = record { licence = l; addition = None }
+abbrev alone : LicenseTerm → Requirement
+alone l = record { license = l; addition = None }
 
-abbrev joined : Licence → Addition → Requirement
-joined l a = record { licence = l; addition = Some a }
+abbrev joined : LicenseTerm → Addition → Requirement
+joined l a = record { license = l; addition = Some a }
 
-abbrev named_by : Option Licence → Option Addition → Option Requirement
-named_by l a = option_and_then (λ (x : Licence). option_map (λ (y : Addition). joined x y) a) l
+abbrev named_by : Option LicenseTerm → Option Addition → Option Requirement
+named_by l a = option_and_then (λ (x : LicenseTerm). option_map (λ (y : Addition). joined x y) a) l
 
 -- one word, or three of which the second is WITH
 data Shape : List Word → Requirement → Type 0 where
-  one : {w : Word} {l : Licence} → license_named w ≡ Some l → Shape (w ∷ []) (alone l)
-  three : {w a : Word} {l : Licence} {ad : Addition} → license_named w ≡ Some l → addition_named a ≡ Some ad → Shape (w ∷ With ∷ a ∷ []) (joined l ad)
+  one : {w : Word} {l : LicenseTerm} → license_named w ≡ Some l → Shape (w ∷ []) (alone l)
+  three : {w a : Word} {l : LicenseTerm} {ad : Addition} → license_named w ≡ Some l → addition_named a ≡ Some ad → Shape (w ∷ With ∷ a ∷ []) (joined l ad)
 
-one_shape : (w : Word) (o : Option Licence) → license_named w ≡ o → (req : Requirement) → option_map alone o ≡ Some req → Shape (w ∷ []) req
+one_shape : (w : Word) (o : Option LicenseTerm) → license_named w ≡ o → (req : Requirement) → option_map alone o ≡ Some req → Shape (w ∷ []) req
 one_shape w None e req h = absurd cc
 one_shape w (Some l) e req h = let same : alone l ≡ req = cc in subst (λ (r : Requirement). Shape (w ∷ []) r) same (one e)
 
-three_shape : (w a : Word) (o : Option Licence) (p : Option Addition) → license_named w ≡ o → addition_named a ≡ p → (req : Requirement) → named_by o p ≡ Some req → Shape (w ∷ With ∷ a ∷ []) req
+three_shape : (w a : Word) (o : Option LicenseTerm) (p : Option Addition) → license_named w ≡ o → addition_named a ≡ p → (req : Requirement) → named_by o p ≡ Some req → Shape (w ∷ With ∷ a ∷ []) req
 three_shape w a None p e f req h = absurd cc
 three_shape w a (Some l) None e f req h = absurd cc
 three_shape w a (Some l) (Some ad) e f req h = let same : joined l ad ≡ req = cc in subst (λ (r : Requirement). Shape (w ∷ With ∷ a ∷ []) r) same (three e f)
@@ -44,19 +44,19 @@ shape (w ∷ v ∷ ws) req h = absurd cc
 
 -- ---- one word more
 
-license_step : (len : ℕ) (w : Word) (s : Span) (l : Licence) (more : List Item) → license_named w ≡ Some l → licensee_at len (Ok (w, s) ∷ more) ≡ behind_license len l more
-license_step len w s l more e = ap (λ (o : Option Licence). and_then (ok_or o (licensee_word_fault [] w, s)) (λ x. behind_license len x more)) e
+license_step : (len : ℕ) (w : Word) (s : Span) (l : LicenseTerm) (more : List Item) → license_named w ≡ Some l → licensee_at len (Ok (w, s) ∷ more) ≡ behind_license len l more
+license_step len w s l more e = ap (λ (o : Option LicenseTerm). and_then (ok_or o (licensee_word_fault [] w, s)) (λ x. behind_license len x more)) e
 
-addition_step : (len : ℕ) (l : Licence) (a : Word) (s : Span) (ad : Addition) (more : List Item) → addition_named a ≡ Some ad → behind_with len l (Ok (a, s) ∷ more) ≡ behind_addition l ad more
+addition_step : (len : ℕ) (l : LicenseTerm) (a : Word) (s : Span) (ad : Addition) (more : List Item) → addition_named a ≡ Some ad → behind_with len l (Ok (a, s) ∷ more) ≡ behind_addition l ad more
 addition_step len l a s ad more e = ap (λ (o : Option Addition). and_then (ok_or o (Unexpected (codes "<addition>" ∷ []), s)) (λ x. behind_addition l x more)) e
 
 no_license : (len : ℕ) (w : Word) (s : Span) (more : List Item) → license_named w ≡ None → licensee_at len (Ok (w, s) ∷ more) ≡ Err (licensee_word_fault [] w, s)
-no_license len w s more e = ap (λ (o : Option Licence). and_then (ok_or o (licensee_word_fault [] w, s)) (λ x. behind_license len x more)) e
+no_license len w s more e = ap (λ (o : Option LicenseTerm). and_then (ok_or o (licensee_word_fault [] w, s)) (λ x. behind_license len x more)) e
 
-no_with : (len : ℕ) (l : Licence) (w : Word) (s : Span) (more : List Item) → is_with w ≡ false → behind_license len l (Ok (w, s) ∷ more) ≡ Err (Unexpected (codes "WITH" ∷ []), s)
+no_with : (len : ℕ) (l : LicenseTerm) (w : Word) (s : Span) (more : List Item) → is_with w ≡ false → behind_license len l (Ok (w, s) ∷ more) ≡ Err (Unexpected (codes "WITH" ∷ []), s)
 no_with len l w s more e = ap (λ (b : Bool). and_then {A = Unit {0}} (cond b (Ok tt) (Err (Unexpected (codes "WITH" ∷ []), s))) (λ _. behind_with len l more)) e
 
-no_addition : (len : ℕ) (l : Licence) (a : Word) (s : Span) (more : List Item) → addition_named a ≡ None → behind_with len l (Ok (a, s) ∷ more) ≡ Err (Unexpected (codes "<addition>" ∷ []), s)
+no_addition : (len : ℕ) (l : LicenseTerm) (a : Word) (s : Span) (more : List Item) → addition_named a ≡ None → behind_with len l (Ok (a, s) ∷ more) ≡ Err (Unexpected (codes "<addition>" ∷ []), s)
 no_addition len l a s more e = ap (λ (o : Option Addition). and_then (ok_or o (Unexpected (codes "<addition>" ∷ []), s)) (λ x. behind_addition l x more)) e
 
 -- ---- a licensee is found
@@ -74,15 +74,15 @@ shape_found len ((w, s) ∷ (v, t) ∷ (a, u) ∷ p ∷ read) req h = elim h [ ]
 -- what is behind some words: nothing, a licence, a licence and WITH, or all of a licensee
 data Behind : Type 0 where
   start : Behind
-  license : Licence → Behind
-  with : Licence → Behind
-  all : Licence → Addition → Behind
+  license : LicenseTerm → Behind
+  with : LicenseTerm → Behind
+  all : LicenseTerm → Addition → Behind
 
 data At : List Word → Behind → Type 0 where
   at_start : At [] start
-  at_license : {w : Word} {l : Licence} → license_named w ≡ Some l → At (w ∷ []) (license l)
-  at_with : {w : Word} {l : Licence} → license_named w ≡ Some l → At (w ∷ With ∷ []) (with l)
-  at_all : {w a : Word} {l : Licence} {ad : Addition} → license_named w ≡ Some l → addition_named a ≡ Some ad → At (w ∷ With ∷ a ∷ []) (all l ad)
+  at_license : {w : Word} {l : LicenseTerm} → license_named w ≡ Some l → At (w ∷ []) (license l)
+  at_with : {w : Word} {l : LicenseTerm} → license_named w ≡ Some l → At (w ∷ With ∷ []) (with l)
+  at_all : {w a : Word} {l : LicenseTerm} {ad : Addition} → license_named w ≡ Some l → addition_named a ≡ Some ad → At (w ∷ With ∷ a ∷ []) (all l ad)
 
 -- what is found from there on
 abbrev from : ℕ → Behind → List Item → Answer Requirement
@@ -123,16 +123,16 @@ end_from len _ _ (at_with e) h = refl
 end_from len _ _ (at_all {w = w} {a = a} {l = l} {ad = ad} e f) h =
     let some : named_by (Some l) (Some ad) ≡ None = sym (ap (λ o. named_by o (addition_named a)) e ∙ ap (λ o. named_by (Some l) o) f) ∙ h in absurd cc
 
-none_license : (w : Word) (o : Option Licence) → license_named w ≡ o → (Begins (w ∷ []) → ⊥) → o ≡ None
+none_license : (w : Word) (o : Option LicenseTerm) → license_named w ≡ o → (Begins (w ∷ []) → ⊥) → o ≡ None
 none_license w None e h = refl
 none_license w (Some l) e h = absurd (h ([], alone l, ap (option_map alone) e))
 
-none_addition : (w a : Word) (l : Licence) (o : Option Addition) → license_named w ≡ Some l → addition_named a ≡ o → (Begins (w ∷ With ∷ a ∷ []) → ⊥) → o ≡ None
+none_addition : (w a : Word) (l : LicenseTerm) (o : Option Addition) → license_named w ≡ Some l → addition_named a ≡ o → (Begins (w ∷ With ∷ a ∷ []) → ⊥) → o ≡ None
 none_addition w a l None e f h = refl
 none_addition w a l (Some ad) e f h = absurd (h ([], joined l ad, ap (λ o. named_by o (addition_named a)) e ∙ ap (λ o. named_by (Some l) o) f))
 
 -- a licence may be followed by WITH alone
-none_with : (w v : Word) (l : Licence) → license_named w ≡ Some l → (Begins (w ∷ v ∷ []) → ⊥) → is_with v ≡ false
+none_with : (w v : Word) (l : LicenseTerm) → license_named w ≡ Some l → (Begins (w ∷ v ∷ []) → ⊥) → is_with v ≡ false
 none_with w With l e h =
     let other : Reference = record { document = None; name = [] } in
     absurd (h (AdditionRef None [] ∷ [], joined l (added other), ap (λ o. named_by o (Some (added other))) e))

@@ -4,7 +4,7 @@ use Rattle.std.specs.Borrow.{Bor}
 use Rattle.spdx_catalogue.specs.Rows.{Rows}
 use Rattle.spdx_catalogue.specs.Items.{Requirement}
 use Rattle.spdx_lexer.specs.Words.{Fault, Span}
-use Rattle.spdx_licensee.specs.Named.{Names, IsLicenseeFault}
+use Rattle.spdx_licensee.specs.LicenseeText.{Names, IsLicenseeFault}
 use Rattle.spdx_lines.specs.Program.{Refusal, NoLicensee, texts_of, licensee_of, put_before, licensee_before, licensees_from}
 use Rattle.spdx_lines.proofs.Licensee.{the_licensee}
 

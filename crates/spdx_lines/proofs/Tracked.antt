@@ -3,7 +3,7 @@ use Rattle.std.proofs.Common.{◌≡◌, ℕ, ◌+◌, Bool, true, false, List, 
 use Rattle.spdx_catalogue.specs.Rows.{Rows, LicenseRow}
 use Rattle.spdx_catalogue.specs.Flags.{is_gnu}
 use Rattle.spdx_catalogue.specs.Names.{ends_or_later}
-use Rattle.spdx_catalogue.specs.Items.{Licence, listed}
+use Rattle.spdx_catalogue.specs.Items.{LicenseTerm, listed}
 use Rattle.spdx_lexer.specs.declared.token.ParseMode.{ParseMode}
 use Rattle.spdx_lexer.specs.Words.{Word, Spdx, LicenseRef, Exception, AdditionRef, Unknown, Plus, OpenParen, CloseParen, With, And, Or}
 use Rattle.spdx_parser.specs.Tree.{Tree}
@@ -67,9 +67,9 @@ operate_tracks t f fs Or = record { ends = refl; depth = refl }
 operate_tracks t f fs CloseParen = close_tracks (Machine.close_frame f t) fs
 operate_tracks t f fs _ = tt
 
-licence_tracks : (l : Licence) (f : Frame) (fs : List Frame) (w : Word) → TracksAny w fs (Machine.after_licence l f fs w)
-licence_tracks l f fs With = record { ends = refl; depth = refl }
-licence_tracks l f fs w = operate_tracks (Machine.bare_leaf l) f fs w
+license_tracks : (l : LicenseTerm) (f : Frame) (fs : List Frame) (w : Word) → TracksAny w fs (Machine.after_license l f fs w)
+license_tracks l f fs With = record { ends = refl; depth = refl }
+license_tracks l f fs w = operate_tracks (Machine.bare_leaf l) f fs w
 
 module _ (c : Rows) (m : ParseMode) where
   plus_tracks : (gnu : Bool) (r : LicenseRow) (f : Frame) (fs : List Frame) → TracksAny Plus fs (Machine.add_plus c m gnu r f fs)
@@ -83,8 +83,8 @@ module _ (c : Rows) (m : ParseMode) where
   act_tracks Machine.Due f fs OpenParen = record { ends = refl; depth = omega arith }
   act_tracks Machine.Due f fs _ = tt
   act_tracks (Machine.Fresh r) f fs Plus = plus_tracks (is_gnu r.flags) r f fs
-  act_tracks (Machine.Fresh r) f fs w = licence_tracks (listed r false) f fs w
-  act_tracks (Machine.Named l) f fs w = licence_tracks l f fs w
+  act_tracks (Machine.Fresh r) f fs w = license_tracks (listed r false) f fs w
+  act_tracks (Machine.Named l) f fs w = license_tracks l f fs w
   act_tracks (Machine.Joined l) f fs (Exception r) = record { ends = refl; depth = refl }
   act_tracks (Machine.Joined l) f fs (AdditionRef d n) = record { ends = refl; depth = refl }
   act_tracks (Machine.Joined l) f fs (Unknown n) = record { ends = refl; depth = refl }

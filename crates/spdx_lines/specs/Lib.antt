@@ -2,6 +2,6 @@ pub mod Outcome
 pub mod Verdict
 pub mod Lines
 pub mod Answer
-pub mod Kept
+pub mod Trees
 pub mod Program
 pub mod Ending

@@ -15,7 +15,7 @@ use Rattle.spdx_catalogue.specs.declared.error.ReadFault.TheVariants.{NotJson}
 use Rattle.spdx_lexer.specs.Modes.{strict}
 use Rattle.spdx_lexer.specs.Words.{Fault, Span}
 use Rattle.spdx_lexer.specs.Reading.{reading}
-use Rattle.spdx_licensee.specs.Named.{Names, IsLicenseeFault}
+use Rattle.spdx_licensee.specs.LicenseeText.{Names, IsLicenseeFault}
 use Rattle.spdx_licensee.specs.Answers.{licensee_at}
 use Rattle.spdx_lines.specs.declared.lines.LineMode.{LineMode}
 use Rattle.spdx_lines.specs.declared.lines.LineMode.TheVariants.{Strict, Lax, Normal}

@@ -1,7 +1,7 @@
 // Answers to lines of which one choice is for all.
 
 ghost use Rattle.spdx_lines.specs.Answer.{AreKept};
-ghost use Rattle.spdx_lines.specs.Kept.{trees_in};
+ghost use Rattle.spdx_lines.specs.Trees.{trees_in};
 ghost use Rattle.spdx_lines.specs.Lines.{rule_of_all};
 ghost use Rattle.spdx_lines.specs.Verdict.{accepted_trees};
 

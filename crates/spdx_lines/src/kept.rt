@@ -2,11 +2,11 @@
 
 ghost use Rattle.std.specs.Prelude.{◌≡◌, [], ◌∷◌, ◌++◌, List, map, IsTrue, IfOk, OnOk, Contains};
 ghost use Rattle.spdx_catalogue.specs.Rows.{Rows};
-ghost use Rattle.spdx_parser.specs.Parsed.{IsOfRows};
+ghost use Rattle.spdx_parser.specs.Meaning.{IsOfRows};
 ghost use Rattle.spdx_parser.specs.Tree.{Tree};
-ghost use Rattle.spdx.specs.Judged.{trees_of};
+ghost use Rattle.spdx.specs.Places.{trees_of};
 ghost use Rattle.spdx_lines.specs.Answer.{AreKept};
-ghost use Rattle.spdx_lines.specs.Kept.{trees_in};
+ghost use Rattle.spdx_lines.specs.Trees.{trees_in};
 
 use spdx::Expression;
 use std::alloc::{AllocError, Global};

@@ -3,7 +3,7 @@
 ghost use Rattle.std.specs.Prelude.{◌≡◌, ◌<◌, length};
 ghost use Rattle.line_engine.specs.Device.{devices};
 ghost use Rattle.line_engine.specs.Runs.{Runs};
-ghost use Rattle.line_engine.specs.Split.{SplitsAtLines};
+ghost use Rattle.line_engine.specs.Pieces.{SplitsAtLines};
 ghost use Rattle.spdx_lines.specs.Lines.{rule_of, rule_of_all, HaveVerdicts, ClosesAlike};
 ghost use Rattle.spdx_lines.specs.Verdict as spec;
 

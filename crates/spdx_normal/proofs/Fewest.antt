@@ -1,17 +1,17 @@
 -- No words that mean the tree have fewer parentheses than its normal words.
 use Rattle.std.proofs.Common.{◌≡◌, ◌+◌, ◌≤◌, true, List, [], ◌∷◌, ◌++◌, Some, arith}
 use Rattle.spdx_catalogue.specs.Rows.{Rows}
-use Rattle.spdx_catalogue.specs.Items.{Licence, Addition, Requirement}
+use Rattle.spdx_catalogue.specs.Items.{LicenseTerm, Addition, Requirement}
 use Rattle.spdx_lexer.specs.declared.token.ParseMode.{ParseMode}
 use Rattle.spdx_lexer.specs.Words as Words
 use Rattle.spdx_lexer.specs.Words.{Word, CloseParen, With}
 use Rattle.spdx_parser.specs.declared.node.Operator.TheVariants.{And, Or}
 use Rattle.spdx_parser.specs.Tree.{Tree, Leaf, Join}
 use Rattle.spdx_parser.specs.Grammar.{Derives}
-use Rattle.spdx_parser.proofs.Threaded.{LicenceOf, plain, marked, later, named, unknown, AdditionOf, exception, named_addition, unknown_addition, LeafOf, alone, joined, PrimaryOf, leaf, group, AndOf, one_primary, and_more, OrOf, one_and, or_more, threaded}
+use Rattle.spdx_parser.proofs.Threaded.{LicenseOf, plain, marked, later, named, unknown, AdditionOf, exception, named_addition, unknown_addition, LeafOf, alone, joined, PrimaryOf, leaf, group, AndOf, one_primary, and_more, OrOf, one_and, or_more, threaded}
 use Rattle.spdx_normal.specs.Normal.{root, left_in_parens, right_in_parens}
 use Rattle.spdx_normal.specs.Law.{parens}
-use Rattle.spdx_normal.proofs.Leaves.{licence_words, addition_words, requirement_words}
+use Rattle.spdx_normal.proofs.Leaves.{license_words, addition_words, requirement_words}
 use Rattle.spdx_normal.proofs.Words.{group_if, normal_words}
 
 parens-append : (xs ys : List Word) → parens (xs ++ ys) ≡ parens xs + parens ys
@@ -44,12 +44,12 @@ primary_grouped (Join And l r) = omega (arith, grouped (normal_words (Join And l
 primary_grouped (Join Or l r) = omega (arith, grouped (normal_words (Join Or l r)))
 
 module _ (c : Rows) (m : ParseMode) where
-  licence_few : {ws rest : List Word} {l : Licence} → LicenceOf c m ws l rest → parens (licence_words l) + parens rest ≤ parens ws
-  licence_few (plain {rest = rest} p) = omega arith
-  licence_few (marked {rest = rest} p e) = omega arith
-  licence_few (later {rest = rest} p e q s k) = omega arith
-  licence_few (named {rest = rest}) = omega arith
-  licence_few (unknown {rest = rest}) = omega arith
+  license_few : {ws rest : List Word} {l : LicenseTerm} → LicenseOf c m ws l rest → parens (license_words l) + parens rest ≤ parens ws
+  license_few (plain {rest = rest} p) = omega arith
+  license_few (marked {rest = rest} p e) = omega arith
+  license_few (later {rest = rest} p e q s k) = omega arith
+  license_few (named {rest = rest}) = omega arith
+  license_few (unknown {rest = rest}) = omega arith
 
   addition_few : {ws rest : List Word} {a : Addition} → AdditionOf ws a rest → parens (addition_words (Some a)) + parens rest ≤ parens ws
   addition_few (exception {rest = rest}) = omega arith
@@ -57,8 +57,8 @@ module _ (c : Rows) (m : ParseMode) where
   addition_few (unknown_addition {rest = rest}) = omega arith
 
   leaf_few : {ws rest : List Word} {r : Requirement} → LeafOf c m ws r rest → parens (requirement_words r) + parens rest ≤ parens ws
-  leaf_few (alone {ws = ws} {rest = rest} {l = l} d) = omega (arith, licence_few d, parens-append (licence_words l) [])
-  leaf_few (joined {ws = ws} {mid = mid} {rest = rest} {l = l} {a = a} d e) = omega (arith, licence_few d, addition_few e, parens-append (licence_words l) (addition_words (Some a)))
+  leaf_few (alone {ws = ws} {rest = rest} {l = l} d) = omega (arith, license_few d, parens-append (license_words l) [])
+  leaf_few (joined {ws = ws} {mid = mid} {rest = rest} {l = l} {a = a} d e) = omega (arith, license_few d, addition_few e, parens-append (license_words l) (addition_words (Some a)))
 
   mutual
     primary_few : {ws rest : List Word} {t : Tree} → PrimaryOf c m ws t rest → parens (at_primary t) + parens rest ≤ parens ws

@@ -1,14 +1,14 @@
 -- The normal text of a strict tree is read as that tree alone, with the fewest parentheses, and tells it.
 use Rattle.std.proofs.Common.{◌≡◌, ℕ, List, [], ◌∷◌, map, Result, Ok, refl, sym, ◌∙◌, ap, subst, ◌↔◌, ◌≤◌, IsTrue}
 use Rattle.spdx_catalogue.specs.Rows.{Rows}
-use Rattle.spdx_catalogue.specs.WellFormed.{is_well_formed}
+use Rattle.spdx_catalogue.specs.RowRules.{is_well_formed}
 use Rattle.spdx_catalogue.proofs.Listed.{listed_is_license, listed_is_exception}
 use Rattle.spdx_lexer.specs.Modes.{strict}
 use Rattle.spdx_lexer.specs.Words.{Word, Spdx, Exception, OpenParen, Fault}
 use Rattle.spdx_lexer.specs.Reading.{said, reading, Spells}
 use Rattle.spdx_parser.specs.Tree.{Tree}
 use Rattle.spdx_parser.specs.Grammar.{Derives}
-use Rattle.spdx_parser.specs.Parsed.{IsOfRows}
+use Rattle.spdx_parser.specs.Meaning.{IsOfRows}
 use Rattle.spdx_parser.proofs.Threaded.{threaded}
 use Rattle.spdx_parser.proofs.Complete.{the_only}
 use Rattle.spdx_parser.proofs.Known.{AllKnown, tree_known}

@@ -4,24 +4,24 @@ use Rattle.std.proofs.Common.{◌≡◌, ℕ, true, false, cond, List, [], ◌�
 use Rattle.std.specs.Prelude.{codes}
 use Rattle.spdx_catalogue.specs.Rows.{Rows}
 use Rattle.spdx_catalogue.specs.Flags.{is_deprecated}
-use Rattle.spdx_catalogue.specs.Items.{Licence, listed, referred, Addition, excepted, added, Requirement}
+use Rattle.spdx_catalogue.specs.Items.{LicenseTerm, listed, referred, Addition, excepted, added, Requirement}
 use Rattle.spdx_catalogue.specs.Texts as texts
-use Rattle.spdx_catalogue.specs.Texts.{license_prefix, addition_prefix, licence_text, with_text, requirement_text}
+use Rattle.spdx_catalogue.specs.Texts.{license_prefix, addition_prefix, license_text, with_text, requirement_text}
 use Rattle.spdx_lexer.specs.Modes.{strict}
 use Rattle.spdx_lexer.specs.Words.{Word, Spdx, LicenseRef, Exception, AdditionRef, Plus, With}
 use Rattle.spdx_lexer.specs.Lexeme.{reference_run}
 use Rattle.spdx_parser.specs.Tree.{Tree}
-use Rattle.spdx_parser.proofs.Threaded.{LicenceOf, plain, marked, later, named, unknown, AdditionOf, exception, named_addition, unknown_addition, LeafOf, alone, joined, PrimaryOf, leaf, group, AndOf, one_primary, and_more, OrOf, one_and, or_more}
+use Rattle.spdx_parser.proofs.Threaded.{LicenseOf, plain, marked, later, named, unknown, AdditionOf, exception, named_addition, unknown_addition, LeafOf, alone, joined, PrimaryOf, leaf, group, AndOf, one_primary, and_more, OrOf, one_and, or_more}
 use Rattle.spdx_canonical.proofs.Neighbours.{AreRead}
 use Rattle.spdx_canonical.proofs.Plain.{words_text, text-append}
 use Rattle.spdx_normal.specs.Law.{EachLeaf}
 
 -- ---- the words of a requirement
 
-abbrev pub licence_words : Licence → List Word
-licence_words (listed r false) = Spdx r ∷ []
-licence_words (listed r true) = Spdx r ∷ Plus ∷ []
-licence_words (referred x) = LicenseRef x.document x.name ∷ []
+abbrev pub license_words : LicenseTerm → List Word
+license_words (listed r false) = Spdx r ∷ []
+license_words (listed r true) = Spdx r ∷ Plus ∷ []
+license_words (referred x) = LicenseRef x.document x.name ∷ []
 
 abbrev pub addition_words : Option Addition → List Word
 addition_words None = []
@@ -29,7 +29,7 @@ addition_words (Some (excepted r)) = With ∷ Exception r ∷ []
 addition_words (Some (added x)) = With ∷ AdditionRef x.document x.name ∷ []
 
 abbrev pub requirement_words : Requirement → List Word
-requirement_words r = licence_words r.licence ++ addition_words r.addition
+requirement_words r = license_words r.license ++ addition_words r.addition
 
 reference_same : (p : List ℕ) (d : Option (List ℕ)) (y : List ℕ) → reference_run p d y ++ [] ≡ texts.reference_text p (record { document = d; name = y })
 reference_same p None y = append-nil (p ++ y)
@@ -38,22 +38,22 @@ reference_same p (Some x) y = append-nil (reference_run p (Some x) y) ∙ ap (λ
 module _ (c : Rows) where
   -- ---- what is known of a requirement that was read
 
-  pub record IsGoodLicence (l : Licence) : Type 0 where
-    pub read : AreRead c (licence_words l)
-    pub means : (more : List Word) → LicenceOf c strict (licence_words l ++ more) l more
-    pub text : words_text (licence_words l) ≡ licence_text l
+  pub record IsGoodLicense (l : LicenseTerm) : Type 0 where
+    pub read : AreRead c (license_words l)
+    pub means : (more : List Word) → LicenseOf c strict (license_words l ++ more) l more
+    pub text : words_text (license_words l) ≡ license_text l
 
   pub record IsGoodAddition (a : Option Addition) : Type 0 where
     pub read : AreRead c (addition_words a)
-    pub means : (l : Licence) (more : List Word) → ((rest : List Word) → LicenceOf c strict (licence_words l ++ rest) l rest) → LeafOf c strict (licence_words l ++ (addition_words a ++ more)) (record { licence = l; addition = a }) more
+    pub means : (l : LicenseTerm) (more : List Word) → ((rest : List Word) → LicenseOf c strict (license_words l ++ rest) l rest) → LeafOf c strict (license_words l ++ (addition_words a ++ more)) (record { license = l; addition = a }) more
     pub text : words_text (addition_words a) ≡ with_text a
 
-  licence_good : {ws rest : List Word} {l : Licence} → LicenceOf c strict ws l rest → AreRead c ws → IsGoodLicence l × AreRead c rest
-  licence_good (plain {r = r} p) h = (record { read = (h.0, tt); means = λ more. plain p; text = append-nil r.name }, h.1)
-  licence_good (marked {r = r} p e) h = (record { read = (h.0, (tt, tt)); means = λ more. marked p e; text = ap (λ b. r.name ++ cond b (cond (is_deprecated r.flags) (codes "-or-later") []) (codes "+")) (sym e) }, h.1.1)
-  licence_good (later p e q s l) h = absurd cc
-  licence_good (named {d = d} {n = y}) h = (record { read = (h.0, tt); means = λ more. named; text = reference_same license_prefix d y }, h.1)
-  licence_good unknown h = absurd h.0
+  license_good : {ws rest : List Word} {l : LicenseTerm} → LicenseOf c strict ws l rest → AreRead c ws → IsGoodLicense l × AreRead c rest
+  license_good (plain {r = r} p) h = (record { read = (h.0, tt); means = λ more. plain p; text = append-nil r.name }, h.1)
+  license_good (marked {r = r} p e) h = (record { read = (h.0, (tt, tt)); means = λ more. marked p e; text = ap (λ b. r.name ++ cond b (cond (is_deprecated r.flags) (codes "-or-later") []) (codes "+")) (sym e) }, h.1.1)
+  license_good (later p e q s l) h = absurd cc
+  license_good (named {d = d} {n = y}) h = (record { read = (h.0, tt); means = λ more. named; text = reference_same license_prefix d y }, h.1)
+  license_good unknown h = absurd h.0
 
   none_good : IsGoodAddition None
   none_good = record { read = tt; means = λ l more f. alone (f more); text = refl }
@@ -73,17 +73,17 @@ module _ (c : Rows) where
   read_append [] ys h k = k
   read_append (x ∷ xs) ys h k = (h.0, read_append xs ys h.1 k)
 
-  good : (l : Licence) (a : Option Addition) → IsGoodLicence l → IsGoodAddition a → IsGood (record { licence = l; addition = a })
+  good : (l : LicenseTerm) (a : Option Addition) → IsGoodLicense l → IsGoodAddition a → IsGood (record { license = l; addition = a })
   good l a h k = record {
-    read = read_append (licence_words l) (addition_words a) h.read k.read;
-    means = λ more. subst (λ (ws : List Word). LeafOf c strict ws (record { licence = l; addition = a }) more) (sym (append_assoc (licence_words l) (addition_words a) more)) (k.means l more h.means);
-    text = text-append (licence_words l) (addition_words a) ∙ ap (λ (t : List ℕ). t ++ words_text (addition_words a)) h.text ∙ ap (λ (t : List ℕ). licence_text l ++ t) k.text;
+    read = read_append (license_words l) (addition_words a) h.read k.read;
+    means = λ more. subst (λ (ws : List Word). LeafOf c strict ws (record { license = l; addition = a }) more) (sym (append_assoc (license_words l) (addition_words a) more)) (k.means l more h.means);
+    text = text-append (license_words l) (addition_words a) ∙ ap (λ (t : List ℕ). t ++ words_text (addition_words a)) h.text ∙ ap (λ (t : List ℕ). license_text l ++ t) k.text;
   }
 
   leaf_good : {ws rest : List Word} {r : Requirement} → LeafOf c strict ws r rest → AreRead c ws → IsGood r × AreRead c rest
-  leaf_good (alone {l = l} d) h = let k = licence_good d h in (good l None k.0 none_good, k.1)
+  leaf_good (alone {l = l} d) h = let k = license_good d h in (good l None k.0 none_good, k.1)
   leaf_good (joined {l = l} {a = a} d e) h =
-      let k = licence_good d h in
+      let k = license_good d h in
       let n = addition_good e k.1.1 in
       (good l (Some a) k.0 n.0, n.1)
 

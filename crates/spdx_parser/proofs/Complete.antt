@@ -2,14 +2,14 @@
 use Rattle.std.proofs.Common.{◌≡◌, true, false, List, [], ◌∷◌, Option, Some, refl, ◌∙◌, ap}
 use Rattle.spdx_catalogue.specs.Rows.{Rows, LicenseRow}
 use Rattle.spdx_catalogue.specs.Names.{ends_or_later}
-use Rattle.spdx_catalogue.specs.Items.{Requirement, Licence, listed, Addition}
+use Rattle.spdx_catalogue.specs.Items.{Requirement, LicenseTerm, listed, Addition}
 use Rattle.spdx_lexer.specs.declared.token.ParseMode.{ParseMode}
 use Rattle.spdx_lexer.specs.Words.{Word, Plus, CloseParen, With, And, Or}
 use Rattle.spdx_parser.specs.declared.node.Operator.{Operator}
 use Rattle.spdx_parser.specs.Tree.{Tree, Leaf, Join}
 use Rattle.spdx_parser.specs.Grammar.{may_stand, later_row, Derives, IsTheTree}
 use Rattle.spdx_parser.specs.Machine
-use Rattle.spdx_parser.proofs.Threaded.{LicenceOf, plain, marked, later, named, unknown, AdditionOf, exception, named_addition, unknown_addition, LeafOf, alone, joined, PrimaryOf, leaf, group, AndOf, one_primary, and_more, OrOf, one_and, or_more, threaded}
+use Rattle.spdx_parser.proofs.Threaded.{LicenseOf, plain, marked, later, named, unknown, AdditionOf, exception, named_addition, unknown_addition, LeafOf, alone, joined, PrimaryOf, leaf, group, AndOf, one_primary, and_more, OrOf, one_and, or_more, threaded}
 
 -- what may follow a chain of OR, a chain of AND, a primary and a licence
 abbrev pub AfterOr : List Word → Type 0
@@ -25,9 +25,9 @@ abbrev pub AfterPrimary : List Word → Type 0
 AfterPrimary (And ∷ ws) = Unit {0}
 AfterPrimary ws = AfterAnd ws
 
-abbrev pub AfterLicence : List Word → Type 0
-AfterLicence (With ∷ ws) = Unit {0}
-AfterLicence ws = AfterPrimary ws
+abbrev pub AfterLicense : List Word → Type 0
+AfterLicense (With ∷ ws) = Unit {0}
+AfterLicense ws = AfterPrimary ws
 
 abbrev pub in_state : Machine.Phase → Machine.Frame → List Machine.Frame → Machine.State
 in_state p f fs = record { phase = p; frame = f; outer = fs }
@@ -38,7 +38,7 @@ module _ (c : Rows) (m : ParseMode) where
   from p f fs ws = Machine.parsed c m (in_state p f fs) ws
 
   -- a fresh licence is one where no plus follows
-  fresh_named : (r : LicenseRow) (f : Machine.Frame) (fs : List Machine.Frame) (ws : List Word) → AfterLicence ws → from (Machine.Fresh r) f fs ws ≡ from (Machine.Named (listed r false)) f fs ws
+  fresh_named : (r : LicenseRow) (f : Machine.Frame) (fs : List Machine.Frame) (ws : List Word) → AfterLicense ws → from (Machine.Fresh r) f fs ws ≡ from (Machine.Named (listed r false)) f fs ws
   fresh_named r f fs [] h = refl
   fresh_named r f fs (Plus ∷ ws) h = absurd h
   fresh_named r f fs (_ ∷ ws) h = refl
@@ -47,35 +47,35 @@ module _ (c : Rows) (m : ParseMode) where
   stands : (r : LicenseRow) (s : Option Machine.State) (ws : List Word) → may_stand m r ≡ true → Machine.built_on (Machine.run c m (Machine.if_may (may_stand m r) s) ws) ≡ Machine.built_on (Machine.run c m s ws)
   stands r s ws h = ap (λ b. Machine.built_on (Machine.run c m (Machine.if_may b s) ws)) h
 
-  licence_runs : {ws rest : List Word} {l : Licence} → LicenceOf c m ws l rest → AfterLicence rest → (f : Machine.Frame) (fs : List Machine.Frame) → from Machine.Due f fs ws ≡ from (Machine.Named l) f fs rest
-  licence_runs (plain {r = r} {rest = rest} may) h f fs = stands r _ rest may ∙ fresh_named r f fs rest h
-  licence_runs (marked {r = r} {rest = rest} may other) h f fs =
+  license_runs : {ws rest : List Word} {l : LicenseTerm} → LicenseOf c m ws l rest → AfterLicense rest → (f : Machine.Frame) (fs : List Machine.Frame) → from Machine.Due f fs ws ≡ from (Machine.Named l) f fs rest
+  license_runs (plain {r = r} {rest = rest} may) h f fs = stands r _ rest may ∙ fresh_named r f fs rest h
+  license_runs (marked {r = r} {rest = rest} may other) h f fs =
       stands r _ (Plus ∷ rest) may
       ∙ ap (λ g. Machine.built_on (Machine.run c m (Machine.add_plus c m g r f fs) rest)) other
-  licence_runs (later {r = r} {next = next} {rest = rest} may gnu allowed bare is) h f fs =
+  license_runs (later {r = r} {next = next} {rest = rest} may gnu allowed bare is) h f fs =
       stands r _ (Plus ∷ rest) may
       ∙ ap (λ g. Machine.built_on (Machine.run c m (Machine.add_plus c m g r f fs) rest)) gnu
       ∙ ap (λ b. Machine.built_on (Machine.run c m (Machine.if_may b (Machine.if_bare (ends_or_later r.name) (Machine.go_later (later_row c r) f fs))) rest)) allowed
       ∙ ap (λ b. Machine.built_on (Machine.run c m (Machine.if_bare b (Machine.go_later (later_row c r) f fs)) rest)) bare
       ∙ ap (λ o. Machine.built_on (Machine.run c m (Machine.go_later o f fs) rest)) is
-  licence_runs named h f fs = refl
-  licence_runs unknown h f fs = refl
+  license_runs named h f fs = refl
+  license_runs unknown h f fs = refl
 
-  addition_runs : {ws rest : List Word} {a : Addition} → AdditionOf ws a rest → (l : Licence) (f : Machine.Frame) (fs : List Machine.Frame) → from (Machine.Joined l) f fs ws ≡ from (Machine.Whole (Machine.joined_leaf l a)) f fs rest
+  addition_runs : {ws rest : List Word} {a : Addition} → AdditionOf ws a rest → (l : LicenseTerm) (f : Machine.Frame) (fs : List Machine.Frame) → from (Machine.Joined l) f fs ws ≡ from (Machine.Whole (Machine.joined_leaf l a)) f fs rest
   addition_runs exception l f fs = refl
   addition_runs named_addition l f fs = refl
   addition_runs unknown_addition l f fs = refl
 
   -- a licence is a primary where no WITH follows
-  named_whole : (l : Licence) (f : Machine.Frame) (fs : List Machine.Frame) (ws : List Word) → AfterPrimary ws → from (Machine.Named l) f fs ws ≡ from (Machine.Whole (Machine.bare_leaf l)) f fs ws
+  named_whole : (l : LicenseTerm) (f : Machine.Frame) (fs : List Machine.Frame) (ws : List Word) → AfterPrimary ws → from (Machine.Named l) f fs ws ≡ from (Machine.Whole (Machine.bare_leaf l)) f fs ws
   named_whole l f fs [] h = refl
   named_whole l f fs (With ∷ ws) h = absurd h
   named_whole l f fs (_ ∷ ws) h = refl
 
-  primary_licence : (ws : List Word) → AfterPrimary ws → AfterLicence ws
-  primary_licence [] h = h
-  primary_licence (With ∷ ws) h = absurd h
-  primary_licence (_ ∷ ws) h = h
+  primary_license : (ws : List Word) → AfterPrimary ws → AfterLicense ws
+  primary_license [] h = h
+  primary_license (With ∷ ws) h = absurd h
+  primary_license (_ ∷ ws) h = h
 
   and_primary : (ws : List Word) → AfterAnd ws → AfterPrimary ws
   and_primary [] h = h
@@ -100,8 +100,8 @@ module _ (c : Rows) (m : ParseMode) where
   take_or t u ors fs (_ ∷ ws) h = absurd h
 
   leaf_runs : {ws rest : List Word} {r : Requirement} → LeafOf c m ws r rest → AfterPrimary rest → (f : Machine.Frame) (fs : List Machine.Frame) → from Machine.Due f fs ws ≡ from (Machine.Whole (Leaf r)) f fs rest
-  leaf_runs (alone {rest = rest} {l = l} d) h f fs = licence_runs d (primary_licence rest h) f fs ∙ named_whole l f fs rest h
-  leaf_runs (joined {l = l} d e) h f fs = licence_runs d tt f fs ∙ addition_runs e l f fs
+  leaf_runs (alone {rest = rest} {l = l} d) h f fs = license_runs d (primary_license rest h) f fs ∙ named_whole l f fs rest h
+  leaf_runs (joined {l = l} d e) h f fs = license_runs d tt f fs ∙ addition_runs e l f fs
 
   mutual
     primary_runs : {ws rest : List Word} {t : Tree} → PrimaryOf c m ws t rest → AfterPrimary rest → (f : Machine.Frame) (fs : List Machine.Frame) → from Machine.Due f fs ws ≡ from (Machine.Whole t) f fs rest

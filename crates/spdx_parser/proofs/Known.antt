@@ -2,10 +2,10 @@
 use Rattle.std.proofs.Common.{◌≡◌, ℕ, ◌+◌, Bool, true, false, cond, ◌&&◌, ◌==◌, nat_lt, List, [], ◌∷◌, ◌++◌, length, drop, map, Option, Some, None, Result, Ok, Err, refl, subst, IfSome, IfOk, option_map}
 use Rattle.std.specs.Prelude.{codes, bytes_eq, ◌||◌, if◌then◌else◌, slice_get}
 use Rattle.spdx_catalogue.specs.Rows.{Rows, LicenseRow, ExceptionRow}
-use Rattle.spdx_catalogue.specs.WellFormed.{is_well_formed}
+use Rattle.spdx_catalogue.specs.RowRules.{is_well_formed}
 use Rattle.spdx_catalogue.specs.LookUps as LookUps
 use Rattle.spdx_catalogue.specs.Names.{without_only, or_later}
-use Rattle.spdx_catalogue.specs.Items.{Requirement, Licence, Addition}
+use Rattle.spdx_catalogue.specs.Items.{Requirement, LicenseTerm, Addition}
 use Rattle.spdx_catalogue.proofs.Listed.{listed_is_license, caseless_is_license, listed_is_exception, caseless_is_exception, imprecise_is_license}
 use Rattle.spdx_lexer.specs.declared.token.ParseMode.{ParseMode}
 use Rattle.spdx_lexer.specs.Words.{Word, Spdx, LicenseRef, Exception, AdditionRef, Unknown, Plus, OpenParen, CloseParen, With, And, Or, Fault, Item, Placed, words}
@@ -16,7 +16,7 @@ use Rattle.spdx_lexer.specs.Reading.{go_on, behind, items, reading}
 use Rattle.spdx_lexer.proofs.Found.{first_all, mapped, allowed, lexeme_all}
 use Rattle.spdx_parser.specs.Tree.{Tree, Leaf}
 use Rattle.spdx_parser.specs.Last.{Last, Listed, Joined, next_last, last_behind}
-use Rattle.spdx_parser.specs.Parsed.{IsOfRows, IsLicenceOf, IsAdditionOf}
+use Rattle.spdx_parser.specs.Meaning.{IsOfRows, IsLicenseOf, IsAdditionOf}
 use Rattle.spdx_parser.specs.Code.{IsLicenseRow}
 use Rattle.spdx_parser.specs.Grammar.{Derives}
 use Rattle.spdx_parser.proofs.Threaded as Threaded
@@ -169,12 +169,12 @@ module _ (c : Rows) where
     words_known m text read more e = front_known read more (subst ItemsKnown e (reading_known m 0 text))
 
     -- ---- of a tree
-    licence_rows : {m : ParseMode} {ws rest : List Word} {l : Licence} → Threaded.LicenceOf c m ws l rest → AllKnown ws → IsLicenceOf c l × AllKnown rest
-    licence_rows (Threaded.plain may) h = h
-    licence_rows (Threaded.marked may other) h = (h.0, h.1.1)
-    licence_rows (Threaded.later {r = r} {next = next} may gnu allowed bare is) h = (listed_is_license c well (without_only r.name ++ or_later) next is, h.1.1)
-    licence_rows Threaded.named h = h
-    licence_rows Threaded.unknown h = h
+    license_is_of_rows : {m : ParseMode} {ws rest : List Word} {l : LicenseTerm} → Threaded.LicenseOf c m ws l rest → AllKnown ws → IsLicenseOf c l × AllKnown rest
+    license_is_of_rows (Threaded.plain may) h = h
+    license_is_of_rows (Threaded.marked may other) h = (h.0, h.1.1)
+    license_is_of_rows (Threaded.later {r = r} {next = next} may gnu allowed bare is) h = (listed_is_license c well (without_only r.name ++ or_later) next is, h.1.1)
+    license_is_of_rows Threaded.named h = h
+    license_is_of_rows Threaded.unknown h = h
 
     addition_rows : {ws rest : List Word} {a : Addition} → Threaded.AdditionOf ws a rest → AllKnown ws → IsAdditionOf c (Some a) × AllKnown rest
     addition_rows Threaded.exception h = h
@@ -182,8 +182,8 @@ module _ (c : Rows) where
     addition_rows Threaded.unknown_addition h = h
 
     leaf_rows : {m : ParseMode} {ws rest : List Word} {r : Requirement} → Threaded.LeafOf c m ws r rest → AllKnown ws → IsOfRows c (Leaf r) × AllKnown rest
-    leaf_rows (Threaded.alone d) h = let a = licence_rows d h in ((a.0, tt), a.1)
-    leaf_rows (Threaded.joined d e) h = let a = licence_rows d h in let b = addition_rows e a.1.1 in ((a.0, b.0), b.1)
+    leaf_rows (Threaded.alone d) h = let a = license_is_of_rows d h in ((a.0, tt), a.1)
+    leaf_rows (Threaded.joined d e) h = let a = license_is_of_rows d h in let b = addition_rows e a.1.1 in ((a.0, b.0), b.1)
 
     mutual
       primary_rows : {m : ParseMode} {ws rest : List Word} {t : Tree} → Threaded.PrimaryOf c m ws t rest → AllKnown ws → IsOfRows c t × AllKnown rest

@@ -9,7 +9,7 @@ use Rattle.spdx_catalogue.specs.Rows.{Rows, LicenseRow}
 use Rattle.spdx_catalogue.specs.Flags.{is_gnu}
 use Rattle.spdx_catalogue.specs.Names.{only, or_later, ends_only, ends_or_later, has_suffix, has_two_suffixes, still_has_suffix, without, without_only, without_plus, ending}
 use Rattle.spdx_catalogue.specs.LookUps as LookUps
-use Rattle.spdx_catalogue.specs.WellFormed.{is_well_formed}
+use Rattle.spdx_catalogue.specs.RowRules.{is_well_formed}
 use Rattle.spdx_catalogue.proofs.Listed.{license_one_suffix}
 use Rattle.spdx_parser.specs.Grammar.{later_row}
 use Rattle.spdx_parser.specs.Code.{IsLicenseRow}

@@ -3,7 +3,7 @@ use Rattle.std.proofs.Common.{◌≡◌, ℕ, ◌+◌, ◌<◌, Bool, true, fals
 use Rattle.std.specs.Prelude.{◌==◌}
 use Rattle.std.proofs.lemmas.List.{map-append, length-map}
 use Rattle.spdx_catalogue.specs.Rows.{Rows}
-use Rattle.spdx_catalogue.specs.WellFormed.{is_well_formed}
+use Rattle.spdx_catalogue.specs.RowRules.{is_well_formed}
 use Rattle.spdx_lexer.specs.declared.token.ParseMode.{ParseMode}
 use Rattle.spdx_lexer.specs.Words.{Word, CloseParen, Fault, Empty, Unexpected, UnclosedParens, Span, span, Item, Placed, words}
 use Rattle.spdx_lexer.specs.Code.{span_of}
@@ -23,7 +23,7 @@ use Rattle.spdx_catalogue.specs.declared.error.Failure.{Failure}
 use Rattle.spdx_catalogue.specs.declared.error.Failure.TheVariants.{Refused}
 use Rattle.smallvec.specs.SmallVec.{SmallVec}
 use Rattle.spdx_catalogue.specs.Failures.{IfRefused}
-use Rattle.spdx_parser.specs.Parsed.{IsParsed, IsRefused}
+use Rattle.spdx_parser.specs.Meaning.{IsParsed, IsRefused}
 use Rattle.spdx_parser.specs.Machine as machine
 use Rattle.spdx_parser.specs.Code.{Seen, nothing_seen, see, seen_behind, places_of, arounds, frames_of, last_in, Fits, Shows, Answers, IsRowKnown, IsBuilt}
 use Rattle.spdx_parser.proofs.Complete.{complete}

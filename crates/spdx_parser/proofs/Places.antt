@@ -9,12 +9,12 @@ use Rattle.spdx_catalogue.specs.Rows.{Rows}
 use Rattle.spdx_lexer.specs.declared.token.ParseMode.{ParseMode}
 use Rattle.spdx_lexer.specs.Words.{OpenParen, Fault, Span, Item, Placed}
 use Rattle.spdx_lexer.specs.Reading.{reading}
-use Rattle.spdx_lexer.specs.Laid.{IsPlace, place_of}
+use Rattle.spdx_lexer.specs.Layout.{IsPlace, place_of}
 use Rattle.spdx_lexer.proofs.Laid.{place_among}
 use Rattle.spdx_parser.specs.declared.node.ExprNode.{ExprNode}
 use Rattle.spdx_parser.specs.Last.{Last, Due, next_last, is_license}
 use Rattle.spdx_parser.specs.Spans.{license_spans, requirement_spans}
-use Rattle.spdx_parser.specs.Parsed.{IsParsed}
+use Rattle.spdx_parser.specs.Meaning.{IsParsed}
 use Rattle.spdx_parser.specs.Faults.{IsEndFault, empty, short, unclosed, IsFaultOf, at_word, at_place, at_end}
 
 module _ (text : List ℕ) (utf8 : IsUtf8 text) where

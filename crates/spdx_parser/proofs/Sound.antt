@@ -3,7 +3,7 @@ use Rattle.std.proofs.Common.{◌≡◌, Bool, true, false, List, [], ◌∷◌,
 use Rattle.spdx_catalogue.specs.Rows.{Rows, LicenseRow}
 use Rattle.spdx_catalogue.specs.Flags.{is_gnu}
 use Rattle.spdx_catalogue.specs.Names.{ends_or_later}
-use Rattle.spdx_catalogue.specs.Items.{Licence, listed, Addition, excepted, added}
+use Rattle.spdx_catalogue.specs.Items.{LicenseTerm, listed, Addition, excepted, added}
 use Rattle.spdx_lexer.specs.declared.token.ParseMode.{ParseMode}
 use Rattle.spdx_lexer.specs.Words.{Word, Spdx, LicenseRef, Exception, AdditionRef, Unknown, Plus, OpenParen, CloseParen, With, And, Or}
 use Rattle.spdx_parser.specs.declared.node.Operator.{Operator}
@@ -11,7 +11,7 @@ use Rattle.spdx_parser.specs.Tree.{Tree, Join}
 use Rattle.spdx_parser.specs.Grammar.{may_stand, later_row, reference, Derives}
 use Rattle.spdx_parser.specs.Machine
 use Rattle.spdx_parser.specs.Machine.{Frame, State, Phase, fold}
-use Rattle.spdx_parser.proofs.Threaded.{LicenceOf, plain, marked, later, named, unknown, AdditionOf, exception, named_addition, unknown_addition, alone, joined, PrimaryOf, leaf, group, AndOf, one_primary, and_more, OrOf, one_and, or_more, derives}
+use Rattle.spdx_parser.proofs.Threaded.{LicenseOf, plain, marked, later, named, unknown, AdditionOf, exception, named_addition, unknown_addition, alone, joined, PrimaryOf, leaf, group, AndOf, one_primary, and_more, OrOf, one_and, or_more, derives}
 
 module _ (c : Rows) (m : ParseMode) where
   -- what may follow a primary with the tree t in its chain of AND, which then has the tree u
@@ -24,12 +24,12 @@ module _ (c : Rows) (m : ParseMode) where
     or_on : {t u : Tree} {ws rest : List Word} → OrOf c m ws u rest → OrTail t (Or ∷ ws) (Join Operator.Or t u) rest
 
   -- what may follow a licence in its primary
-  data LicenceTail : Licence → List Word → Tree → List Word → Type 0 where
-    licence_end : {l : Licence} {ws : List Word} → LicenceTail l ws (Machine.bare_leaf l) ws
-    licence_on : {l : Licence} {a : Addition} {ws rest : List Word} → AdditionOf ws a rest → LicenceTail l (With ∷ ws) (Machine.joined_leaf l a) rest
+  data LicenseTail : LicenseTerm → List Word → Tree → List Word → Type 0 where
+    license_end : {l : LicenseTerm} {ws : List Word} → LicenseTail l ws (Machine.bare_leaf l) ws
+    license_on : {l : LicenseTerm} {a : Addition} {ws rest : List Word} → AdditionOf ws a rest → LicenseTail l (With ∷ ws) (Machine.joined_leaf l a) rest
 
   -- what may follow a listed licence
-  data PlusTail : LicenseRow → List Word → Licence → List Word → Type 0 where
+  data PlusTail : LicenseRow → List Word → LicenseTerm → List Word → Type 0 where
     plus_end : {r : LicenseRow} {ws : List Word} → PlusTail r ws (listed r false) ws
     plus_marked : {r : LicenseRow} {ws : List Word} → is_gnu r.flags ≡ false → PlusTail r (Plus ∷ ws) (listed r true) ws
     plus_later : {r next : LicenseRow} {ws : List Word} → is_gnu r.flags ≡ true → m.allow_postfix_plus_on_gpl ≡ true → ends_or_later r.name ≡ false → later_row c r ≡ Some next → PlusTail r (Plus ∷ ws) (listed next false) ws
@@ -52,8 +52,8 @@ module _ (c : Rows) (m : ParseMode) where
   -- the grammar derives `final` from what was read, which led to this state, and ws
   abbrev Completes : Tree → Phase → Frame → List Frame → List Word → Type 0
   Completes final Machine.Due f fs ws = (t : Tree) × (rest : List Word) × PrimaryOf c m ws t rest × Chains f (Closes final fs) t rest
-  Completes final (Machine.Fresh r) f fs ws = (l : Licence) × (mid : List Word) × (t : Tree) × (rest : List Word) × PlusTail r ws l mid × LicenceTail l mid t rest × Chains f (Closes final fs) t rest
-  Completes final (Machine.Named l) f fs ws = (t : Tree) × (rest : List Word) × LicenceTail l ws t rest × Chains f (Closes final fs) t rest
+  Completes final (Machine.Fresh r) f fs ws = (l : LicenseTerm) × (mid : List Word) × (t : Tree) × (rest : List Word) × PlusTail r ws l mid × LicenseTail l mid t rest × Chains f (Closes final fs) t rest
+  Completes final (Machine.Named l) f fs ws = (t : Tree) × (rest : List Word) × LicenseTail l ws t rest × Chains f (Closes final fs) t rest
   Completes final (Machine.Joined l) f fs ws = (a : Addition) × (rest : List Word) × AdditionOf ws a rest × Chains f (Closes final fs) (Machine.joined_leaf l a) rest
   Completes final (Machine.Whole t) f fs ws = Chains f (Closes final fs) t ws
 
@@ -65,14 +65,14 @@ module _ (c : Rows) (m : ParseMode) where
   or_of p or_end = one_and p
   or_of p (or_on d) = or_more p d
 
-  primary_of : {ws mid rest : List Word} {l : Licence} {t : Tree} → LicenceOf c m ws l mid → LicenceTail l mid t rest → PrimaryOf c m ws t rest
-  primary_of p licence_end = leaf (alone p)
-  primary_of p (licence_on d) = leaf (joined p d)
+  primary_of : {ws mid rest : List Word} {l : LicenseTerm} {t : Tree} → LicenseOf c m ws l mid → LicenseTail l mid t rest → PrimaryOf c m ws t rest
+  primary_of p license_end = leaf (alone p)
+  primary_of p (license_on d) = leaf (joined p d)
 
-  licence_of : {r : LicenseRow} {ws rest : List Word} {l : Licence} → may_stand m r ≡ true → PlusTail r ws l rest → LicenceOf c m (Spdx r ∷ ws) l rest
-  licence_of may plus_end = plain may
-  licence_of may (plus_marked other) = marked may other
-  licence_of may (plus_later gnu allowed bare is) = later may gnu allowed bare is
+  license_of : {r : LicenseRow} {ws rest : List Word} {l : LicenseTerm} → may_stand m r ≡ true → PlusTail r ws l rest → LicenseOf c m (Spdx r ∷ ws) l rest
+  license_of may plus_end = plain may
+  license_of may (plus_marked other) = marked may other
+  license_of may (plus_later gnu allowed bare is) = later may gnu allowed bare is
 
   pub run_none : (ws : List Word) → Machine.run c m None ws ≡ None
   run_none [] = refl
@@ -98,12 +98,12 @@ module _ (c : Rows) (m : ParseMode) where
     operate_law t f fs CloseParen ws h = ends_here f fs t (CloseParen ∷ ws) (close_law (Machine.close_frame f t) fs ws h)
     operate_law t f fs _ ws h = absurd h
 
-    licence_law : (l : Licence) (f : Frame) (fs : List Frame) (w : Word) (ws : List Word) → After (Machine.after_licence l f fs w) ws → Completes final (Machine.Named l) f fs (w ∷ ws)
-    licence_law l f fs With ws h = (Machine.joined_leaf l h.0, h.1, licence_on h.2, h.3)
-    licence_law l f fs And ws h = (Machine.bare_leaf l, And ∷ ws, licence_end, operate_law (Machine.bare_leaf l) f fs And ws h)
-    licence_law l f fs Or ws h = (Machine.bare_leaf l, Or ∷ ws, licence_end, operate_law (Machine.bare_leaf l) f fs Or ws h)
-    licence_law l f fs CloseParen ws h = (Machine.bare_leaf l, CloseParen ∷ ws, licence_end, operate_law (Machine.bare_leaf l) f fs CloseParen ws h)
-    licence_law l f fs _ ws h = absurd h
+    license_law : (l : LicenseTerm) (f : Frame) (fs : List Frame) (w : Word) (ws : List Word) → After (Machine.after_license l f fs w) ws → Completes final (Machine.Named l) f fs (w ∷ ws)
+    license_law l f fs With ws h = (Machine.joined_leaf l h.0, h.1, license_on h.2, h.3)
+    license_law l f fs And ws h = (Machine.bare_leaf l, And ∷ ws, license_end, operate_law (Machine.bare_leaf l) f fs And ws h)
+    license_law l f fs Or ws h = (Machine.bare_leaf l, Or ∷ ws, license_end, operate_law (Machine.bare_leaf l) f fs Or ws h)
+    license_law l f fs CloseParen ws h = (Machine.bare_leaf l, CloseParen ∷ ws, license_end, operate_law (Machine.bare_leaf l) f fs CloseParen ws h)
+    license_law l f fs _ ws h = absurd h
 
     -- a licence that is not followed by a plus
     fresh_law : (r : LicenseRow) (f : Frame) (fs : List Frame) (ws : List Word) → Completes final (Machine.Named (listed r false)) f fs ws → Completes final (Machine.Fresh r) f fs ws
@@ -130,7 +130,7 @@ module _ (c : Rows) (m : ParseMode) where
     may_law false s ws h = absurd h
 
     due_law : (r : LicenseRow) (f : Frame) (fs : List Frame) (ws : List Word) → may_stand m r ≡ true → Completes final (Machine.Fresh r) f fs ws → Completes final Machine.Due f fs (Spdx r ∷ ws)
-    due_law r f fs ws may h = (h.2, h.3, primary_of (licence_of may h.4) h.5, h.6)
+    due_law r f fs ws may h = (h.2, h.3, primary_of (license_of may h.4) h.5, h.6)
 
     group_law : (f : Frame) (fs : List Frame) (ws : List Word) → Completes final Machine.Due Machine.empty_frame (f ∷ fs) ws → Completes final Machine.Due f fs (OpenParen ∷ ws)
     group_law f fs ws h =
@@ -146,8 +146,8 @@ module _ (c : Rows) (m : ParseMode) where
     law Machine.Due f fs OpenParen ws h = group_law f fs ws h
     law Machine.Due f fs _ ws h = absurd h
     law (Machine.Fresh r) f fs Plus ws h = plus_law r (is_gnu r.flags) f fs ws refl h
-    law (Machine.Fresh r) f fs w ws h = fresh_law r f fs (w ∷ ws) (licence_law (listed r false) f fs w ws h)
-    law (Machine.Named l) f fs w ws h = licence_law l f fs w ws h
+    law (Machine.Fresh r) f fs w ws h = fresh_law r f fs (w ∷ ws) (license_law (listed r false) f fs w ws h)
+    law (Machine.Named l) f fs w ws h = license_law l f fs w ws h
     law (Machine.Joined l) f fs (Exception r) ws h = (excepted r, ws, exception, h)
     law (Machine.Joined l) f fs (AdditionRef d n) ws h = (added (reference d n), ws, named_addition, h)
     law (Machine.Joined l) f fs (Unknown n) ws h = (added (reference None n), ws, unknown_addition, h)
@@ -161,8 +161,8 @@ module _ (c : Rows) (m : ParseMode) where
 
     end_law : (p : Phase) (f : Frame) (fs : List Frame) → Machine.finish p f fs ≡ Some final → Completes final p f fs []
     end_law Machine.Due f fs e = absurd cc
-    end_law (Machine.Fresh r) f fs e = let l = listed r false in let t = Machine.bare_leaf l in (l, [], t, [], plus_end, licence_end, ends_here f fs t [] (bottom_law _ fs e))
-    end_law (Machine.Named l) f fs e = let t = Machine.bare_leaf l in (t, [], licence_end, ends_here f fs t [] (bottom_law _ fs e))
+    end_law (Machine.Fresh r) f fs e = let l = listed r false in let t = Machine.bare_leaf l in (l, [], t, [], plus_end, license_end, ends_here f fs t [] (bottom_law _ fs e))
+    end_law (Machine.Named l) f fs e = let t = Machine.bare_leaf l in (t, [], license_end, ends_here f fs t [] (bottom_law _ fs e))
     end_law (Machine.Joined l) f fs e = absurd cc
     end_law (Machine.Whole t) f fs e = ends_here f fs t [] (bottom_law _ fs e)
 

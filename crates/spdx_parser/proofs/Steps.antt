@@ -2,7 +2,7 @@
 use Rattle.std.proofs.Common.{◌≡◌, ℕ, suc, ◌+◌, ◌≤◌, ◌<◌, ◌^◌, true, false, List, [], ◌∷◌, ◌++◌, length, map, Option, ◌⊎◌, ⊎_elim, refl, sym, ◌∙◌, ap, subst, arith, replicate, append_assoc, append-nil, length-append}
 use Rattle.std.proofs.lemmas.List.{map-append, length-map}
 use Rattle.spdx_catalogue.specs.Rows.{Rows, LicenseRow}
-use Rattle.spdx_catalogue.specs.Items.{Licence, listed}
+use Rattle.spdx_catalogue.specs.Items.{LicenseTerm, listed}
 use Rattle.spdx_lexer.specs.declared.token.ParseMode.{ParseMode}
 use Rattle.spdx_lexer.specs.Words.{Unknown, Or, CloseParen, Span}
 use Rattle.spdx_lexer.specs.Code.{span_of}
@@ -21,7 +21,7 @@ use Rattle.spdx_parser.specs.Tree.{Tree, Leaf, Join, Node, Op, postfix, node_of}
 use Rattle.spdx_parser.specs.Spans.{requirement_spans}
 use Rattle.spdx_parser.specs.Last as Last
 use Rattle.spdx_parser.specs.Machine as machine
-use Rattle.spdx_parser.specs.Code.{Seen, see, but_last, trees_nodes, frame_nodes, outer_nodes, frame_of, frames_of, arounds, places_of, Stands, Shows, IsWhole, Answers, last_in, Fits, phase_nodes, held, name_licence, EndsWhole, IsBuilt}
+use Rattle.spdx_parser.specs.Code.{Seen, see, but_last, trees_nodes, frame_nodes, outer_nodes, frame_of, frames_of, arounds, places_of, Stands, Shows, IsWhole, Answers, last_in, Fits, phase_nodes, held, name_license, EndsWhole, IsBuilt}
 
 -- behind WITH an unknown word is an addition
 pub see_addition : (seen : Seen) (n : List ℕ) (s : Span) → seen.last ≡ Last.Joined → see seen (Unknown n) s ≡ record { last = Last.Added; spans = seen.spans; places = seen.places }
@@ -140,13 +140,13 @@ close_step t f (g ∷ gs) seen span old mid new opened s pop a asp o osp frame p
     )
 
 -- the operators after a licence are those after a primary
-pub licence_operator : (l : Licence) (f : machine.Frame) (fs : List machine.Frame) (tok : Token) → (tok ≡ Token.And) ⊎ ((tok ≡ Token.Or) ⊎ (tok ≡ Token.CloseParen)) → machine.after_licence l f fs (word_of tok) ≡ machine.operate (machine.bare_leaf l) f fs (word_of tok)
-licence_operator l f fs tok is = ⊎_elim (λ e. rw e refl) (λ is'. ⊎_elim (λ e. rw e refl) (λ e. rw e refl) is') is
+pub license_operator : (l : LicenseTerm) (f : machine.Frame) (fs : List machine.Frame) (tok : Token) → (tok ≡ Token.And) ⊎ ((tok ≡ Token.Or) ⊎ (tok ≡ Token.CloseParen)) → machine.after_license l f fs (word_of tok) ≡ machine.operate (machine.bare_leaf l) f fs (word_of tok)
+license_operator l f fs tok is = ⊎_elim (λ e. rw e refl) (λ is'. ⊎_elim (λ e. rw e refl) (λ e. rw e refl) is') is
 
 -- ---- phases
 
 -- a listed licence that no plus follows is one like others
-pub fresh_other : (c : Rows) (m : ParseMode) (r : LicenseRow) (f : machine.Frame) (fs : List machine.Frame) (tok : Token) → (tok ≡ Token.Plus → ⊥) → machine.act c m (machine.Fresh r) f fs (word_of tok) ≡ machine.after_licence (listed r false) f fs (word_of tok)
+pub fresh_other : (c : Rows) (m : ParseMode) (r : LicenseRow) (f : machine.Frame) (fs : List machine.Frame) (tok : Token) → (tok ≡ Token.Plus → ⊥) → machine.act c m (machine.Fresh r) f fs (word_of tok) ≡ machine.after_license (listed r false) f fs (word_of tok)
 fresh_other c m r f fs Token.Plus other = absurd (other refl)
 fresh_other c m r f fs _ other = refl
 
@@ -157,11 +157,11 @@ due_is (machine.Named l) phase fits is = absurd (subst (Fits (machine.Named l)) 
 due_is (machine.Joined l) phase fits is = absurd (subst (Fits (machine.Joined l)) is fits)
 due_is (machine.Whole t) phase fits is = absurd (subst (Fits (machine.Whole t)) is fits)
 
-pub joined_is : (p : machine.Phase) (phase : Phase) (name : Name) → Fits p phase → phase ≡ Phase.Joined name → p ≡ machine.Joined (name_licence name)
+pub joined_is : (p : machine.Phase) (phase : Phase) (name : Name) → Fits p phase → phase ≡ Phase.Joined name → p ≡ machine.Joined (name_license name)
 joined_is machine.Due phase name fits is = absurd (subst (Fits machine.Due) is fits)
 joined_is (machine.Fresh r) phase name fits is = absurd (subst (Fits (machine.Fresh r)) is fits)
 joined_is (machine.Named l) phase name fits is = absurd (subst (Fits (machine.Named l)) is fits)
-joined_is (machine.Joined l) phase name fits is = let same : name_licence name ≡ l = subst (Fits (machine.Joined l)) is fits in ap machine.Joined (sym same)
+joined_is (machine.Joined l) phase name fits is = let same : name_license name ≡ l = subst (Fits (machine.Joined l)) is fits in ap machine.Joined (sym same)
 joined_is (machine.Whole t) phase name fits is = absurd (subst (Fits (machine.Whole t)) is fits)
 
 -- what stands in a phase that is known
@@ -177,10 +177,10 @@ fresh_is (machine.Named l) phase id fits is = absurd (subst (Fits (machine.Named
 fresh_is (machine.Joined l) phase id fits is = absurd (subst (Fits (machine.Joined l)) is fits)
 fresh_is (machine.Whole t) phase id fits is = absurd (subst (Fits (machine.Whole t)) is fits)
 
-pub named_is : (p : machine.Phase) (phase : Phase) (name : Name) → Fits p phase → phase ≡ Phase.Named name → p ≡ machine.Named (name_licence name)
+pub named_is : (p : machine.Phase) (phase : Phase) (name : Name) → Fits p phase → phase ≡ Phase.Named name → p ≡ machine.Named (name_license name)
 named_is machine.Due phase name fits is = absurd (subst (Fits machine.Due) is fits)
 named_is (machine.Fresh r) phase name fits is = absurd (subst (Fits (machine.Fresh r)) is fits)
-named_is (machine.Named l) phase name fits is = let same : name_licence name ≡ l = subst (Fits (machine.Named l)) is fits in ap machine.Named (sym same)
+named_is (machine.Named l) phase name fits is = let same : name_license name ≡ l = subst (Fits (machine.Named l)) is fits in ap machine.Named (sym same)
 named_is (machine.Joined l) phase name fits is = absurd (subst (Fits (machine.Joined l)) is fits)
 named_is (machine.Whole t) phase name fits is = absurd (subst (Fits (machine.Whole t)) is fits)
 

@@ -1,7 +1,7 @@
 -- From the two halves: where words begin an expression, and where they mean one.
 use Rattle.std.proofs.Common.{◌≡◌, false, List, [], ◌∷◌, ◌++◌, Option, Some, None, refl, sym, ◌∙◌, ap, subst, append_assoc}
 use Rattle.spdx_catalogue.specs.Rows.{Rows, LicenseRow}
-use Rattle.spdx_catalogue.specs.Items.{Licence, listed, referred, added}
+use Rattle.spdx_catalogue.specs.Items.{LicenseTerm, listed, referred, added}
 use Rattle.spdx_lexer.specs.declared.token.ParseMode.{ParseMode}
 use Rattle.spdx_lexer.specs.Words.{Word, LicenseRef, AdditionRef, CloseParen}
 use Rattle.spdx_parser.specs.Tree.{Tree}
@@ -25,7 +25,7 @@ module _ (c : Rows) (m : ParseMode) where
   close_all [] f t = (Machine.close_frame f t, refl)
   close_all (g ∷ gs) f t = close_all gs g (Machine.close_frame f t)
 
-  named_ends : (l : Licence) (f : Frame) (fs : List Frame) → (final : Tree) × (Machine.parsed c m (record { phase = Machine.Named l; frame = f; outer = fs }) (closes fs) ≡ Some final)
+  named_ends : (l : LicenseTerm) (f : Frame) (fs : List Frame) → (final : Tree) × (Machine.parsed c m (record { phase = Machine.Named l; frame = f; outer = fs }) (closes fs) ≡ Some final)
   named_ends l f [] = (Machine.close_frame f (Machine.bare_leaf l), refl)
   named_ends l f (g ∷ gs) = close_all gs g (Machine.close_frame f (Machine.bare_leaf l))
 

@@ -4,7 +4,7 @@ use Rattle.std.proofs.Common.{◌≡◌, ℕ, true, false, List, [], ◌∷◌, 
 use Rattle.spdx_catalogue.specs.Rows.{Rows, LicenseRow, ExceptionRow}
 use Rattle.spdx_catalogue.specs.Flags.{is_gnu}
 use Rattle.spdx_catalogue.specs.Names.{ends_or_later}
-use Rattle.spdx_catalogue.specs.Items.{Licence, listed, referred, Addition, excepted, added, Requirement}
+use Rattle.spdx_catalogue.specs.Items.{LicenseTerm, listed, referred, Addition, excepted, added, Requirement}
 use Rattle.spdx_lexer.specs.declared.token.ParseMode.{ParseMode}
 use Rattle.spdx_lexer.specs.Words.{Word, Spdx, LicenseRef, Exception, AdditionRef, Unknown, Plus, OpenParen, CloseParen, With, And, Or}
 use Rattle.spdx_parser.specs.declared.node.Operator.{Operator}
@@ -13,12 +13,12 @@ use Rattle.spdx_parser.specs.Grammar.{may_stand, later_row, reference}
 use Rattle.spdx_parser.specs.Grammar as Grammar
 
 -- a licence
-pub data LicenceOf (c : Rows) (m : ParseMode) : List Word → Licence → List Word → Type 0 where
-  plain : {r : LicenseRow} {rest : List Word} → may_stand m r ≡ true → LicenceOf c m (Spdx r ∷ rest) (listed r false) rest
-  marked : {r : LicenseRow} {rest : List Word} → may_stand m r ≡ true → is_gnu r.flags ≡ false → LicenceOf c m (Spdx r ∷ Plus ∷ rest) (listed r true) rest
-  later : {r next : LicenseRow} {rest : List Word} → may_stand m r ≡ true → is_gnu r.flags ≡ true → m.allow_postfix_plus_on_gpl ≡ true → ends_or_later r.name ≡ false → later_row c r ≡ Some next → LicenceOf c m (Spdx r ∷ Plus ∷ rest) (listed next false) rest
-  named : {d : Option (List ℕ)} {n : List ℕ} {rest : List Word} → LicenceOf c m (LicenseRef d n ∷ rest) (referred (reference d n)) rest
-  unknown : {n : List ℕ} {rest : List Word} → LicenceOf c m (Unknown n ∷ rest) (referred (reference None n)) rest
+pub data LicenseOf (c : Rows) (m : ParseMode) : List Word → LicenseTerm → List Word → Type 0 where
+  plain : {r : LicenseRow} {rest : List Word} → may_stand m r ≡ true → LicenseOf c m (Spdx r ∷ rest) (listed r false) rest
+  marked : {r : LicenseRow} {rest : List Word} → may_stand m r ≡ true → is_gnu r.flags ≡ false → LicenseOf c m (Spdx r ∷ Plus ∷ rest) (listed r true) rest
+  later : {r next : LicenseRow} {rest : List Word} → may_stand m r ≡ true → is_gnu r.flags ≡ true → m.allow_postfix_plus_on_gpl ≡ true → ends_or_later r.name ≡ false → later_row c r ≡ Some next → LicenseOf c m (Spdx r ∷ Plus ∷ rest) (listed next false) rest
+  named : {d : Option (List ℕ)} {n : List ℕ} {rest : List Word} → LicenseOf c m (LicenseRef d n ∷ rest) (referred (reference d n)) rest
+  unknown : {n : List ℕ} {rest : List Word} → LicenseOf c m (Unknown n ∷ rest) (referred (reference None n)) rest
 
 -- an addition
 pub data AdditionOf : List Word → Addition → List Word → Type 0 where
@@ -28,8 +28,8 @@ pub data AdditionOf : List Word → Addition → List Word → Type 0 where
 
 -- a licence, perhaps with an addition
 pub data LeafOf (c : Rows) (m : ParseMode) : List Word → Requirement → List Word → Type 0 where
-  alone : {ws rest : List Word} {l : Licence} → LicenceOf c m ws l rest → LeafOf c m ws (record { licence = l; addition = None }) rest
-  joined : {ws mid rest : List Word} {l : Licence} {a : Addition} → LicenceOf c m ws l (With ∷ mid) → AdditionOf mid a rest → LeafOf c m ws (record { licence = l; addition = Some a }) rest
+  alone : {ws rest : List Word} {l : LicenseTerm} → LicenseOf c m ws l rest → LeafOf c m ws (record { license = l; addition = None }) rest
+  joined : {ws mid rest : List Word} {l : LicenseTerm} {a : Addition} → LicenseOf c m ws l (With ∷ mid) → AdditionOf mid a rest → LeafOf c m ws (record { license = l; addition = Some a }) rest
 
 mutual
   -- a leaf, or an expression in parentheses
@@ -50,12 +50,12 @@ mutual
 -- ---- one meaning by both
 
 module _ (c : Rows) (m : ParseMode) where
-  licence_to : {xs : List Word} {l : Licence} → Grammar.LicenceIs c m xs l → (rest : List Word) → LicenceOf c m (xs ++ rest) l rest
-  licence_to (Grammar.plain may) rest = plain may
-  licence_to (Grammar.marked may other) rest = marked may other
-  licence_to (Grammar.later may gnu allowed bare is) rest = later may gnu allowed bare is
-  licence_to Grammar.named rest = named
-  licence_to Grammar.unknown rest = unknown
+  license_to : {xs : List Word} {l : LicenseTerm} → Grammar.LicenseIs c m xs l → (rest : List Word) → LicenseOf c m (xs ++ rest) l rest
+  license_to (Grammar.plain may) rest = plain may
+  license_to (Grammar.marked may other) rest = marked may other
+  license_to (Grammar.later may gnu allowed bare is) rest = later may gnu allowed bare is
+  license_to Grammar.named rest = named
+  license_to Grammar.unknown rest = unknown
 
   addition_to : {x : Word} {a : Addition} → Grammar.AdditionIs x a → (rest : List Word) → AdditionOf (x ∷ rest) a rest
   addition_to Grammar.exception rest = exception
@@ -63,8 +63,8 @@ module _ (c : Rows) (m : ParseMode) where
   addition_to Grammar.unknown_addition rest = unknown_addition
 
   leaf_to : {xs : List Word} {r : Requirement} → Grammar.LeafIs c m xs r → (rest : List Word) → LeafOf c m (xs ++ rest) r rest
-  leaf_to (Grammar.alone d) rest = alone (licence_to d rest)
-  leaf_to (Grammar.joined {xs = xs} {x = x} {l = l} {a = a} d e) rest = subst (λ ws. LeafOf c m ws (record { licence = l; addition = Some a }) rest) (sym (append_assoc xs (With ∷ x ∷ []) rest)) (joined (licence_to d (With ∷ x ∷ rest)) (addition_to e rest))
+  leaf_to (Grammar.alone d) rest = alone (license_to d rest)
+  leaf_to (Grammar.joined {xs = xs} {x = x} {l = l} {a = a} d e) rest = subst (λ ws. LeafOf c m ws (record { license = l; addition = Some a }) rest) (sym (append_assoc xs (With ∷ x ∷ []) rest)) (joined (license_to d (With ∷ x ∷ rest)) (addition_to e rest))
 
   mutual
     primary_to : {xs : List Word} {t : Tree} → Grammar.PrimaryIs c m xs t → (rest : List Word) → PrimaryOf c m (xs ++ rest) t rest
@@ -85,12 +85,12 @@ module _ (c : Rows) (m : ParseMode) where
     cut : ws ≡ xs ++ rest
     says : Says xs
 
-  licence_back : {ws rest : List Word} {l : Licence} → LicenceOf c m ws l rest → Front (λ xs. Grammar.LicenceIs c m xs l) ws rest
-  licence_back (plain may) = record { xs = _; cut = refl; says = Grammar.plain may }
-  licence_back (marked may other) = record { xs = _; cut = refl; says = Grammar.marked may other }
-  licence_back (later may gnu allowed bare is) = record { xs = _; cut = refl; says = Grammar.later may gnu allowed bare is }
-  licence_back named = record { xs = _; cut = refl; says = Grammar.named }
-  licence_back unknown = record { xs = _; cut = refl; says = Grammar.unknown }
+  license_back : {ws rest : List Word} {l : LicenseTerm} → LicenseOf c m ws l rest → Front (λ xs. Grammar.LicenseIs c m xs l) ws rest
+  license_back (plain may) = record { xs = _; cut = refl; says = Grammar.plain may }
+  license_back (marked may other) = record { xs = _; cut = refl; says = Grammar.marked may other }
+  license_back (later may gnu allowed bare is) = record { xs = _; cut = refl; says = Grammar.later may gnu allowed bare is }
+  license_back named = record { xs = _; cut = refl; says = Grammar.named }
+  license_back unknown = record { xs = _; cut = refl; says = Grammar.unknown }
 
   addition_back : {ws rest : List Word} {a : Addition} → AdditionOf ws a rest → (x : Word) × (ws ≡ x ∷ rest) × Grammar.AdditionIs x a
   addition_back exception = (_, refl, Grammar.exception)
@@ -98,9 +98,9 @@ module _ (c : Rows) (m : ParseMode) where
   addition_back unknown_addition = (_, refl, Grammar.unknown_addition)
 
   leaf_back : {ws rest : List Word} {r : Requirement} → LeafOf c m ws r rest → Front (λ xs. Grammar.LeafIs c m xs r) ws rest
-  leaf_back (alone d) = let f = licence_back d in record { xs = f.xs; cut = f.cut; says = Grammar.alone f.says }
+  leaf_back (alone d) = let f = license_back d in record { xs = f.xs; cut = f.cut; says = Grammar.alone f.says }
   leaf_back (joined {rest = rest} d e) =
-      let f = licence_back d in
+      let f = license_back d in
       let (x, at, is) = addition_back e in
       record { xs = f.xs ++ With ∷ x ∷ []; cut = f.cut ∙ ap (λ ws. f.xs ++ With ∷ ws) at ∙ sym (append_assoc f.xs (With ∷ x ∷ []) rest); says = Grammar.joined f.says is }
 

@@ -3,7 +3,7 @@ use Rattle.std.specs.Prelude.{◌≡◌, ℕ, Bool, true, false, List, [], ◌�
 use Rattle.std.specs.declared.ops.Range.{Range}
 use Rattle.spdx_catalogue.specs.Rows.{Rows, LicenseRow}
 use Rattle.spdx_catalogue.specs.Ids.{id_row}
-use Rattle.spdx_catalogue.specs.Items.{Licence, listed, referred}
+use Rattle.spdx_catalogue.specs.Items.{LicenseTerm, listed, referred}
 use Rattle.spdx_lexer.specs.Code.{document_of, span_of}
 use Rattle.spdx_lexer.specs.Words.{Word, OpenParen, CloseParen, Span, Placed}
 use Rattle.spdx_parser.specs.declared.node.ExprNode.{ExprNode}
@@ -18,10 +18,10 @@ use Rattle.spdx_parser.specs.Last.{Last, Due, Listed, Unlisted, Named, Joined, A
 use Rattle.spdx_parser.specs.Spans.{requirement_spans}
 use Rattle.spdx_parser.specs.Machine as machine
 
-abbrev pub name_licence : Name → Licence
-name_licence (Name.Listed id or_later) = listed (id_row id) or_later
-name_licence (Name.Reference d n) = referred (reference (document_of d) n.now)
-name_licence (Name.Unknown n) = referred (reference None n.now)
+abbrev pub name_license : Name → LicenseTerm
+name_license (Name.Listed id or_later) = listed (id_row id) or_later
+name_license (Name.Reference d n) = referred (reference (document_of d) n.now)
+name_license (Name.Unknown n) = referred (reference None n.now)
 
 -- the row stands in the catalogue's list, at its own index
 abbrev pub IsLicenseRow : Rows → LicenseRow → Type 0
@@ -49,8 +49,8 @@ last_in Phase.Closed = Closed
 abbrev pub Fits : machine.Phase → Phase → Type 0
 Fits machine.Due Phase.Due = Unit {0}
 Fits (machine.Fresh r) (Phase.Fresh id) = id_row id ≡ r
-Fits (machine.Named l) (Phase.Named name) = name_licence name ≡ l
-Fits (machine.Joined l) (Phase.Joined name) = name_licence name ≡ l
+Fits (machine.Named l) (Phase.Named name) = name_license name ≡ l
+Fits (machine.Joined l) (Phase.Joined name) = name_license name ≡ l
 Fits (machine.Whole t) Phase.Added = Unit {0}
 Fits (machine.Whole t) Phase.Closed = Unit {0}
 Fits _ _ = ⊥

@@ -9,7 +9,7 @@ use Rattle.spdx_catalogue.specs.Rows.{Rows, LicenseRow, ExceptionRow}
 use Rattle.spdx_catalogue.specs.Flags.{is_gnu, is_deprecated}
 use Rattle.spdx_catalogue.specs.Names.{or_later, ends_or_later, without_only}
 use Rattle.spdx_catalogue.specs.LookUps as LookUps
-use Rattle.spdx_catalogue.specs.Items.{Reference, Licence, listed, referred, Addition, excepted, added, Requirement}
+use Rattle.spdx_catalogue.specs.Items.{Reference, LicenseTerm, listed, referred, Addition, excepted, added, Requirement}
 use Rattle.spdx_lexer.specs.declared.token.ParseMode.{ParseMode}
 use Rattle.spdx_lexer.specs.Words.{Word, Spdx, LicenseRef, Exception, AdditionRef, Unknown, Plus, OpenParen, CloseParen, With, And, Or}
 use Rattle.spdx_parser.specs.declared.node.Operator.{Operator}
@@ -30,12 +30,12 @@ reference document name = record { document = document; name = name }
 -- A listed licence; a `+` directly behind it marks it, but for a GNU licence, which it turns into the one
 -- that is listed with `-or-later` in place of `-only`: the mode must allow that, the name must not end in
 -- `-or-later`, and the licence that comes of it may be deprecated. Or a reference; an unknown word is one.
-pub data LicenceIs (c : Rows) (m : ParseMode) : List Word → Licence → Type 0 where
-  plain : {r : LicenseRow} → may_stand m r ≡ true → LicenceIs c m (Spdx r ∷ []) (listed r false)
-  marked : {r : LicenseRow} → may_stand m r ≡ true → is_gnu r.flags ≡ false → LicenceIs c m (Spdx r ∷ Plus ∷ []) (listed r true)
-  later : {r next : LicenseRow} → may_stand m r ≡ true → is_gnu r.flags ≡ true → m.allow_postfix_plus_on_gpl ≡ true → ends_or_later r.name ≡ false → later_row c r ≡ Some next → LicenceIs c m (Spdx r ∷ Plus ∷ []) (listed next false)
-  named : {d : Option (List ℕ)} {n : List ℕ} → LicenceIs c m (LicenseRef d n ∷ []) (referred (reference d n))
-  unknown : {n : List ℕ} → LicenceIs c m (Unknown n ∷ []) (referred (reference None n))
+pub data LicenseIs (c : Rows) (m : ParseMode) : List Word → LicenseTerm → Type 0 where
+  plain : {r : LicenseRow} → may_stand m r ≡ true → LicenseIs c m (Spdx r ∷ []) (listed r false)
+  marked : {r : LicenseRow} → may_stand m r ≡ true → is_gnu r.flags ≡ false → LicenseIs c m (Spdx r ∷ Plus ∷ []) (listed r true)
+  later : {r next : LicenseRow} → may_stand m r ≡ true → is_gnu r.flags ≡ true → m.allow_postfix_plus_on_gpl ≡ true → ends_or_later r.name ≡ false → later_row c r ≡ Some next → LicenseIs c m (Spdx r ∷ Plus ∷ []) (listed next false)
+  named : {d : Option (List ℕ)} {n : List ℕ} → LicenseIs c m (LicenseRef d n ∷ []) (referred (reference d n))
+  unknown : {n : List ℕ} → LicenseIs c m (Unknown n ∷ []) (referred (reference None n))
 
 -- an exception, deprecated or not, or a reference; an unknown word is one
 pub data AdditionIs : Word → Addition → Type 0 where
@@ -45,8 +45,8 @@ pub data AdditionIs : Word → Addition → Type 0 where
 
 -- a licence, perhaps with an addition
 pub data LeafIs (c : Rows) (m : ParseMode) : List Word → Requirement → Type 0 where
-  alone : {xs : List Word} {l : Licence} → LicenceIs c m xs l → LeafIs c m xs (record { licence = l; addition = None })
-  joined : {xs : List Word} {x : Word} {l : Licence} {a : Addition} → LicenceIs c m xs l → AdditionIs x a → LeafIs c m (xs ++ With ∷ x ∷ []) (record { licence = l; addition = Some a })
+  alone : {xs : List Word} {l : LicenseTerm} → LicenseIs c m xs l → LeafIs c m xs (record { license = l; addition = None })
+  joined : {xs : List Word} {x : Word} {l : LicenseTerm} {a : Addition} → LicenseIs c m xs l → AdditionIs x a → LeafIs c m (xs ++ With ∷ x ∷ []) (record { license = l; addition = Some a })
 
 mutual
   -- a leaf, or an expression in parentheses

@@ -3,7 +3,7 @@ pub mod Grammar
 pub mod Last
 pub mod Spans
 pub mod Faults
-pub mod Parsed
+pub mod Meaning
 pub mod Machine
 pub mod Code
 pub mod Nodes

@@ -3,7 +3,7 @@ use Rattle.std.specs.Prelude.{Bool, true, false, List, [], ◌∷◌, Option, So
 use Rattle.spdx_catalogue.specs.Rows.{Rows, LicenseRow}
 use Rattle.spdx_catalogue.specs.Flags.{is_gnu}
 use Rattle.spdx_catalogue.specs.Names.{ends_or_later}
-use Rattle.spdx_catalogue.specs.Items.{Licence, listed, referred, Addition, excepted, added}
+use Rattle.spdx_catalogue.specs.Items.{LicenseTerm, listed, referred, Addition, excepted, added}
 use Rattle.spdx_lexer.specs.declared.token.ParseMode.{ParseMode}
 use Rattle.spdx_lexer.specs.Words.{Word, Spdx, LicenseRef, Exception, AdditionRef, Unknown, Plus, OpenParen, CloseParen, With, And, Or}
 use Rattle.spdx_parser.specs.declared.node.Operator.{Operator}
@@ -33,9 +33,9 @@ pub data Phase : Type 0 where
   -- a listed licence, which a plus may follow
   Fresh : LicenseRow → Phase
   -- a licence
-  Named : Licence → Phase
+  Named : LicenseTerm → Phase
   -- a licence and WITH
-  Joined : Licence → Phase
+  Joined : LicenseTerm → Phase
   -- a primary
   Whole : Tree → Phase
 
@@ -66,15 +66,15 @@ operate t f fs Or = goes_to Due (record { ors = fold Operator.And f.ands t ∷ f
 operate t f fs CloseParen = close_one (close_frame f t) fs
 operate t f fs _ = None
 
-abbrev pub bare_leaf : Licence → Tree
-bare_leaf l = Leaf (record { licence = l; addition = None })
+abbrev pub bare_leaf : LicenseTerm → Tree
+bare_leaf l = Leaf (record { license = l; addition = None })
 
-abbrev pub joined_leaf : Licence → Addition → Tree
-joined_leaf l a = Leaf (record { licence = l; addition = Some a })
+abbrev pub joined_leaf : LicenseTerm → Addition → Tree
+joined_leaf l a = Leaf (record { license = l; addition = Some a })
 
-abbrev pub after_licence : Licence → Frame → List Frame → Word → Option State
-after_licence l f fs With = goes_to (Joined l) f fs
-after_licence l f fs w = operate (bare_leaf l) f fs w
+abbrev pub after_license : LicenseTerm → Frame → List Frame → Word → Option State
+after_license l f fs With = goes_to (Joined l) f fs
+after_license l f fs w = operate (bare_leaf l) f fs w
 
 abbrev pub go_later : Option LicenseRow → Frame → List Frame → Option State
 go_later None f fs = None
@@ -97,8 +97,8 @@ act c m Due f fs (Unknown n) = goes_to (Named (referred (reference None n))) f f
 act c m Due f fs OpenParen = goes_to Due empty_frame (f ∷ fs)
 act c m Due f fs _ = None
 act c m (Fresh r) f fs Plus = add_plus c m (is_gnu r.flags) r f fs
-act c m (Fresh r) f fs w = after_licence (listed r false) f fs w
-act c m (Named l) f fs w = after_licence l f fs w
+act c m (Fresh r) f fs w = after_license (listed r false) f fs w
+act c m (Named l) f fs w = after_license l f fs w
 act c m (Joined l) f fs (Exception r) = goes_to (Whole (joined_leaf l (excepted r))) f fs
 act c m (Joined l) f fs (AdditionRef d n) = goes_to (Whole (joined_leaf l (added (reference d n)))) f fs
 act c m (Joined l) f fs (Unknown n) = goes_to (Whole (joined_leaf l (added (reference None n)))) f fs

@@ -3,8 +3,8 @@
 ghost use Rattle.std.specs.Prelude.{◌≡◌, All, IfOk, IfErr};
 ghost use Rattle.spdx_catalogue.specs.declared.error.Failure.TheVariants.{Refused};
 ghost use Rattle.spdx_catalogue.specs.Failures.{IfRefused};
-ghost use Rattle.spdx_lexer.specs.Laid.{IsPlace};
-ghost use Rattle.spdx_parser.specs.Parsed.{IsParsed, IsRefused};
+ghost use Rattle.spdx_lexer.specs.Layout.{IsPlace};
+ghost use Rattle.spdx_parser.specs.Meaning.{IsParsed, IsRefused};
 ghost use Rattle.spdx_parser.specs.Spans.{requirement_spans};
 
 use crate::frames::Parser;

@@ -2,11 +2,11 @@
 
 ghost use Rattle.std.specs.Prelude.{◌≡◌, IfOk, option_map, string_bytes};
 ghost use Rattle.spdx_catalogue.specs.Ids.{id_row};
-ghost use Rattle.spdx_catalogue.specs.Items.{licence_of, referred, addition_of, added};
+ghost use Rattle.spdx_catalogue.specs.Items.{license_of, referred, addition_of, added};
 ghost use Rattle.spdx_catalogue.specs.Names as Names;
 ghost use Rattle.spdx_lexer.specs.Code.{document_of, word_of};
-ghost use Rattle.spdx_lexer.specs.Faults.{fault_of, words_of};
-ghost use Rattle.spdx_parser.specs.Code.{name_licence, last_in};
+ghost use Rattle.spdx_lexer.specs.Faults.{fault_of, terms_of};
+ghost use Rattle.spdx_parser.specs.Code.{name_license, last_in};
 ghost use Rattle.spdx_parser.specs.Last as Last;
 ghost use Rattle.spdx_parser.specs.Grammar as Grammar;
 ghost use Rattle.spdx_parser.specs.Faults.{fault_behind, plus_fault};
@@ -62,7 +62,7 @@ fn reference<'c>(
     lic_ref: &str,
 ) -> Result<LicenseItem<'c>, AllocError>
     ensures { IfOk result (λ item.
-        licence_of item ≡ referred (Grammar.reference (document_of doc_ref.entry) lic_ref.now)) }
+        license_of item ≡ referred (Grammar.reference (document_of doc_ref.entry) lic_ref.now)) }
 {
     let reference = LicenseRef {
         doc_ref: owned(alloc, doc_ref)?,
@@ -73,7 +73,7 @@ fn reference<'c>(
 
 /// The licence of a name. Only a reference takes memory.
 pub fn license_item<'c>(alloc: Global, name: Name<'c, '_>) -> Result<LicenseItem<'c>, AllocError>
-    ensures { IfOk result (λ item. licence_of item ≡ name_licence name.entry) }
+    ensures { IfOk result (λ item. license_of item ≡ name_license name.entry) }
 {
     match name {
         Name::Listed { id, or_later } => Ok(LicenseItem::Spdx { id, or_later }),
@@ -114,7 +114,7 @@ pub fn ends_or_later(id: LicenseId<'_>) -> bool
 
 /// The terms that are named as expected behind what was read last.
 pub fn terms(phase: Phase<'_, '_>) -> &'static [&'static str]
-    ensures { words_of result.now ≡ Last.terms (last_in phase.entry) }
+    ensures { terms_of result.now ≡ Last.terms (last_in phase.entry) }
 {
     match phase {
         Phase::Due => &["<license>", "("],

@@ -13,7 +13,7 @@ ghost use Rattle.spdx_catalogue.specs.Names as Names;
 ghost use Rattle.spdx_parser.specs.Grammar.{later_row};
 ghost use Rattle.spdx_parser.specs.Last as Last;
 ghost use Rattle.spdx_parser.specs.Machine as machine;
-ghost use Rattle.spdx_parser.specs.Code.{IsLicenseRow, name_licence, IsRowKnown, Seen, see, Stands, Shows, IsShown, IsWhole, IsHeld, EndsWhole, IsBuilt, Answers, last_in};
+ghost use Rattle.spdx_parser.specs.Code.{IsLicenseRow, name_license, IsRowKnown, Seen, see, Stands, Shows, IsShown, IsWhole, IsHeld, EndsWhole, IsBuilt, Answers, last_in};
 
 use crate::frames::{Frame, Opened, Parser, put, put_operators};
 use crate::node::{ExprNode, ExpressionReq, Operator};
@@ -33,7 +33,7 @@ fn put_leaf<'c>(
     ensures { OnOk result ((f : machine.Frame) (fs : List machine.Frame) (seen : Seen) →
         Stands f fs [] seen (span_of parser.old.place ∷ []) parser.old →
         Stands f fs (postfix (Leaf (record
-        { licence = name_licence name.entry; addition = option_map addition_of addition.entry })))
+        { license = name_license name.entry; addition = option_map addition_of addition.entry })))
         seen [] parser.new) }
 {
     let license = license_item(parser.alloc, name)?;
@@ -86,7 +86,7 @@ fn operate(parser: &mut Parser<'_, '_>, token: Token<'_, '_>) -> Result<bool, Al
 }
 
 // Behind a licence.
-fn after_licence<'c, 't>(
+fn after_license<'c, 't>(
     parser: &mut Parser<'c, 't>,
     name: Name<'c, 't>,
     token: Token<'_, '_>,
@@ -95,7 +95,7 @@ fn after_licence<'c, 't>(
     ensures { IfOk result (λ taken.
         (f : machine.Frame) (fs : List machine.Frame) (seen : Seen) (span : Span) →
         Stands f fs [] seen (span_of parser.old.place ∷ []) parser.old →
-        Answers (machine.after_licence (name_licence name.entry) f fs (word_of token.entry)) taken
+        Answers (machine.after_license (name_license name.entry) f fs (word_of token.entry)) taken
         (see seen (word_of token.entry) span) parser.new) }
 {
     match token {
@@ -205,7 +205,7 @@ fn read_fresh<'c, 't>(
                 None => Ok(false),
             }
         }
-        _ => after_licence(
+        _ => after_license(
             parser,
             Name::Listed {
                 id,
@@ -226,7 +226,7 @@ fn put_addition<'c>(
         (f : machine.Frame) (fs : List machine.Frame) (seen : Seen) →
         Stands f fs [] seen (span_of parser.old.place ∷ []) parser.old →
         (taken ≡ true) × Shows (machine.Whole
-        (machine.joined_leaf (name_licence name.entry) (addition_of addition.entry))) f fs
+        (machine.joined_leaf (name_license name.entry) (addition_of addition.entry))) f fs
         (record { last = Last.Added; spans = seen.spans; places = seen.places }) parser.new) }
 {
     put_leaf(parser, name, Some(addition))?;
@@ -244,7 +244,7 @@ fn read_joined<'c, 't>(
         (c : Rows) (m : ParseMode) (f : machine.Frame) (fs : List machine.Frame) (seen : Seen)
         (span : Span) → Stands f fs [] seen (span_of parser.old.place ∷ []) parser.old →
         seen.last ≡ Last.Joined → Answers
-        (machine.act c m (machine.Joined (name_licence name.entry)) f fs (word_of token.entry))
+        (machine.act c m (machine.Joined (name_license name.entry)) f fs (word_of token.entry))
         taken (see seen (word_of token.entry) span) parser.new) }
 {
     match token {
@@ -280,7 +280,7 @@ pub fn read<'c, 't>(
     match parser.phase {
         Phase::Due => read_due(parser, mode, token, span),
         Phase::Fresh(id) => read_fresh(parser, catalogue, mode, id, token),
-        Phase::Named(name) => after_licence(parser, name, token),
+        Phase::Named(name) => after_license(parser, name, token),
         Phase::Joined(name) => read_joined(parser, name, token),
         Phase::Added | Phase::Closed => operate(parser, token),
     }

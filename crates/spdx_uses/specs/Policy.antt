@@ -5,7 +5,7 @@ use Rattle.spdx.specs.Choice.{holds}
 use Rattle.spdx.specs.Items.{Requirement}
 use Rattle.spdx.specs.Satisfies.{satisfies}
 use Rattle.spdx.specs.Words.{Span}
-use Rattle.spdx.specs.Written.{Written, placed}
+use Rattle.spdx.specs.Value.{Written, placed}
 
 -- some accepted licence satisfies the requirement
 abbrev pub accepts : List Requirement → Requirement → Bool

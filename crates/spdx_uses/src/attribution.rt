@@ -4,11 +4,11 @@ ghost use Rattle.std.specs.Prelude.{◌≡◌, [], ◌∷◌, IfOk, IfErr, map};
 ghost use Rattle.spdx.specs.Choice.{choice_of, chosen};
 ghost use Rattle.spdx.specs.Errors.{IfParseOrMinimize};
 ghost use Rattle.spdx.specs.Items.{requirement_of};
-ghost use Rattle.spdx.specs.Minimized.{refused_choice};
+ghost use Rattle.spdx.specs.MinimizeFaults.{refused_choice};
 ghost use Rattle.spdx.specs.Modes.{strict};
-ghost use Rattle.spdx.specs.Parsed.{IsReadFrom};
+ghost use Rattle.spdx.specs.Meaning.{IsReadFrom};
 ghost use Rattle.spdx.specs.ParserParsed.{IsRefused};
-ghost use Rattle.spdx.specs.Written.{Written};
+ghost use Rattle.spdx.specs.Value.{Written};
 
 use spdx::{Catalogue, Error, Expression, LicenseReq, Licensee};
 use std::alloc::Global;

@@ -2,7 +2,7 @@
 
 ghost use Rattle.std.specs.Prelude.{◌≡◌, IfOk, map};
 ghost use Rattle.spdx.specs.LexerCode.{span_of};
-ghost use Rattle.spdx.specs.Written.{nows};
+ghost use Rattle.spdx.specs.Value.{nows};
 ghost use Rattle.spdx_uses.specs.Policy.{explained};
 
 use crate::gate::is_accepted;

@@ -5,9 +5,9 @@ ghost use Rattle.spdx.specs.Choice.{holds};
 ghost use Rattle.spdx.specs.Errors.{IfParse};
 ghost use Rattle.spdx.specs.Items.{requirement_of};
 ghost use Rattle.spdx.specs.Modes.{strict};
-ghost use Rattle.spdx.specs.Parsed.{IsReadFrom};
+ghost use Rattle.spdx.specs.Meaning.{IsReadFrom};
 ghost use Rattle.spdx.specs.ParserParsed.{IsRefused};
-ghost use Rattle.spdx.specs.Written.{Written};
+ghost use Rattle.spdx.specs.Value.{Written};
 ghost use Rattle.spdx_uses.specs.Policy.{accepts};
 
 use spdx::{Catalogue, Error, Expression, LicenseReq, Licensee};

@@ -5,9 +5,9 @@ ghost use Rattle.std.specs.Option.{option_map_or};
 ghost use Rattle.spdx.specs.Canonical.{canonical_of};
 ghost use Rattle.spdx.specs.Errors.{IfParse};
 ghost use Rattle.spdx.specs.Modes.{lax};
-ghost use Rattle.spdx.specs.Parsed.{IsReadFrom};
+ghost use Rattle.spdx.specs.Meaning.{IsReadFrom};
 ghost use Rattle.spdx.specs.ParserParsed.{IsRefused};
-ghost use Rattle.spdx.specs.Written.{Written};
+ghost use Rattle.spdx.specs.Value.{Written};
 
 use spdx::{Catalogue, Error, Expression, ParseMode};
 use std::alloc::Global;

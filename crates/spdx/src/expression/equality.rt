@@ -4,9 +4,9 @@ ghost use Rattle.std.specs.Prelude.{◌≡◌, ◌↔◌, IsTrue, true, map};
 ghost use Rattle.spdx_catalogue.specs.Rows.{Rows};
 ghost use Rattle.spdx_parser.specs.Tree.{node_of};
 ghost use Rattle.std.specs.Cmp.Lexicographic.{pointwise};
-ghost use Rattle.spdx_parser.specs.Parsed.{IsOfRows};
-ghost use Rattle.spdx.specs.Alike.{same_node, same_tree, tree_key};
-ghost use Rattle.spdx.specs.Equality.{same_tree_laws};
+ghost use Rattle.spdx_parser.specs.Meaning.{IsOfRows};
+ghost use Rattle.spdx.specs.Equality.{same_node, same_tree, tree_key};
+ghost use Rattle.spdx.specs.EqualityLaws.{same_tree_laws};
 
 use crate::expression::Expression;
 use spdx_parser::node::ExprNode;

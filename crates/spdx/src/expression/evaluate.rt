@@ -3,7 +3,7 @@
 ghost use Rattle.std.specs.Prelude.{◌≡◌, ◌+◌, ◌≤◌, ◌<◌, ◌++◌, ℕ, Bool, List, length, map, true, false, IfOk, IfErr, OnErr, IsOk, vec_len, vec_capacity};
 ghost use Rattle.std.specs.Fn.{CalledAt};
 ghost use Rattle.spdx_parser.specs.Tree.{leaves, node_of};
-ghost use Rattle.spdx.specs.Written.{IsPostfix, tree_of, placed_of, nows, kept_if_false};
+ghost use Rattle.spdx.specs.Value.{IsPostfix, tree_of, placed_of, nows, kept_if_false};
 ghost use Rattle.spdx.specs.Calls.{Evaluates, EvaluatesToFalse};
 ghost use Rattle.spdx.specs.ByRequirement.{AnswersBy, FailsBy};
 ghost use Rattle.spdx.specs.Choice.{holds};
@@ -13,7 +13,7 @@ ghost use Rattle.spdx_catalogue.specs.Items.{Requirement};
 use crate::expression::Expression;
 use spdx_catalogue::{Failure, LicenseReq};
 use spdx_parser::node::{ExprNode, ExpressionReq, Operator};
-use spdx_truths::Truths;
+use bit_stack::Truths;
 use std::alloc::{AllocError, Global};
 
 impl<'c> Expression<'c> {

@@ -4,16 +4,16 @@ ghost use Rattle.std.specs.Prelude.{◌≡◌, ◌≤◌, [], ◌∷◌, IfOk, l
 ghost use Rattle.std.specs.List.{list_all};
 ghost use Rattle.spdx_catalogue.specs.Items.{requirement_of};
 ghost use Rattle.spdx_parser.specs.Tree.{leaves, postfix};
-ghost use Rattle.spdx.specs.Written.{nows};
-ghost use Rattle.spdx.specs.Judged.{trees_of, places, places_in, met_by, any_at, question_tree, IsOver, answered, longest};
+ghost use Rattle.spdx.specs.Value.{nows};
+ghost use Rattle.spdx.specs.Places.{trees_of, places, places_in, met_by, any_at, question_tree, IsOver, answered, longest};
 
 use crate::expression::Expression;
 use crate::expression::question::Question;
 use spdx_catalogue::LicenseReq;
-use spdx_choice::Sufficiency;
+use least_selection::Sufficiency;
 use spdx_licensee::Licensee;
 use spdx_parser::node::{ExprNode, Operator};
-use spdx_truths::Truths;
+use bit_stack::Truths;
 use std::alloc::{AllocError, Global};
 use std::slice;
 
@@ -35,7 +35,7 @@ pub struct ExpressionJudge<'a, 'c: 'a> {
 }
 
 impl<'a, 'c: 'a> ExpressionJudge<'a, 'c> {
-    ghost use Rattle.spdx.specs.Judging.{judged_trees, judged_members};
+    ghost use Rattle.spdx.specs.JudgeModel.{judged_trees, judged_members};
 
     /// The judge of one expression over these members.
     pub fn new(
@@ -83,9 +83,9 @@ impl<'a, 'c: 'a> ExpressionJudge<'a, 'c> {
 }
 
 impl<'a, 'c: 'a> Sufficiency for ExpressionJudge<'a, 'c> {
-    ghost use Rattle.spdx.specs.Judging.{judged_trees, judged_members};
+    ghost use Rattle.spdx.specs.JudgeModel.{judged_trees, judged_members};
     ghost use Rattle.spdx.specs.Choice.{suffices_for};
-    ghost use Rattle.spdx.specs.Growing.{suffices_grows};
+    ghost use Rattle.spdx.specs.GrowthLaws.{suffices_grows};
 
     ghost count = { λ judge. length judge.members.items };
 

@@ -1,7 +1,7 @@
 //! Laws of the truth of expressions and of the least choice.
 
 ghost use Rattle.spdx_parser.specs.Tree.{Tree};
-ghost use Rattle.spdx.specs.Growing.{TruthGrows};
+ghost use Rattle.spdx.specs.GrowthLaws.{TruthGrows};
 ghost use Rattle.spdx.specs.Doubles.{DoublesChangeNoChoice};
 ghost use Rattle.spdx.specs.Laws.{IsFirstLeast};
 

@@ -7,14 +7,14 @@ ghost use Rattle.spdx_parser.specs.Tree.{leaves};
 ghost use Rattle.spdx_licensee.specs.Satisfies as spec;
 ghost use Rattle.spdx_catalogue.specs.Failures.{IfRefused};
 ghost use Rattle.spdx.specs.Choice.{satisfies_some, useful, chosen, chosen_of, choice_of, IsLeastChoice};
-ghost use Rattle.spdx.specs.Judged.{trees_of};
-ghost use Rattle.spdx.specs.Written.{nows};
-ghost use Rattle.spdx.specs.Minimized.{refused_choice, refusal_text, refusal_description};
+ghost use Rattle.spdx.specs.Places.{trees_of};
+ghost use Rattle.spdx.specs.Value.{nows};
+ghost use Rattle.spdx.specs.MinimizeFaults.{refused_choice, minimize_text, minimize_description};
 
 use crate::expression::Expression;
 use crate::expression::judge::ExpressionJudge;
 use spdx_catalogue::{Failure, LicenseReq};
-use spdx_choice::least_selection;
+use least_selection::select_least;
 use spdx_licensee::Licensee;
 use spdx_parser::node::ExprNode;
 use std::alloc::{AllocError, Global};
@@ -33,7 +33,7 @@ pub enum MinimizeError {
 impl MinimizeError {
     /// What the error says, apart from the number.
     pub fn description(&self) -> &'static str
-        ensures { result.now ≡ refusal_description self.now }
+        ensures { result.now ≡ minimize_description self.now }
     {
         match self {
             MinimizeError::TooManyRequirements(_) => "too many requirements in license expression",
@@ -45,7 +45,7 @@ impl MinimizeError {
 }
 
 impl fmt::Display for MinimizeError {
-    ghost output = { λ e. Some (refusal_text e) };
+    ghost output = { λ e. Some (minimize_text e) };
 
     fn fmt<W: fmt::Write>(&self, f: &mut fmt::Formatter<W>) -> fmt::Result {
         match self {
@@ -121,7 +121,7 @@ pub fn minimized_for_all<'a, 'c: 'a>(
     let mut judge = ExpressionJudge::new_all(alloc, exprs, members.as_slice())?;
     let mut selection = Vec::from_elem(alloc, false, count)?;
     let places = selection.as_mut_slice();
-    if !least_selection(&mut judge, places) {
+    if !select_least(&mut judge, places) {
         return Err(Failure::Refused(MinimizeError::RequirementsUnmet));
     }
     Ok(chosen_requirements(alloc, members.as_slice(), places)?)

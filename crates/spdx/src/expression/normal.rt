@@ -5,7 +5,7 @@ ghost use Rattle.spdx_catalogue.specs.Rows.{Rows};
 ghost use Rattle.spdx_parser.specs.Tree.{Tree};
 ghost use Rattle.spdx_normal.specs.Normal.{normal_text};
 ghost use Rattle.spdx_normal.specs.Law.{IsStrict, ReadsAs, HasFewestParens};
-ghost use Rattle.spdx.specs.Alike.{same_tree};
+ghost use Rattle.spdx.specs.Equality.{same_tree};
 
 use crate::expression::Expression;
 use std::alloc::{AllocError, Global};

@@ -2,12 +2,12 @@
 
 ghost use Rattle.std.specs.Prelude.{◌≡◌, All, IfOk, IfErr};
 ghost use Rattle.spdx_lexer.specs.Code.{span_of};
-ghost use Rattle.spdx_lexer.specs.Laid.{IsPlace};
+ghost use Rattle.spdx_lexer.specs.Layout.{IsPlace};
 ghost use Rattle.spdx_lexer.specs.Modes.{strict};
 ghost use Rattle.spdx_catalogue.specs.Failures.{IfRefused};
-ghost use Rattle.spdx_parser.specs.Parsed.{IsRefused};
+ghost use Rattle.spdx_parser.specs.Meaning.{IsRefused};
 ghost use Rattle.spdx_normal.specs.Law.{EachLeaf, IsStrict};
-ghost use Rattle.spdx.specs.Parsed.{IsReadFrom, ReadsBack};
+ghost use Rattle.spdx.specs.Meaning.{IsReadFrom, ReadsBack};
 
 use crate::expression::Expression;
 use spdx_catalogue::{Catalogue, Failure};

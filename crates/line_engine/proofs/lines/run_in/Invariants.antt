@@ -1,6 +1,6 @@
 use Rattle.std.proofs.Common.{◌≡◌, ℕ, List}
 use Rattle.std.specs.Io.KnownBytes.{Appends, Consumes}
-use Rattle.line_engine.specs.Cut.{cut}
+use Rattle.line_engine.specs.Lines.{cut}
 use Rattle.line_engine.specs.Output.{text_of}
 use Rattle.line_engine.specs.Progress.{state, HasKept}
 use Rattle.line_engine.proofs.lines.run_in.Given as goal

@@ -1,6 +1,6 @@
 use Rattle.std.proofs.Common.{◌≡◌, option_map}
 use Rattle.spdx_catalogue.specs.Ids.{id_row}
-use Rattle.spdx_lexer.specs.Left.{items_left}
+use Rattle.spdx_lexer.specs.Remainder.{items_left}
 use Rattle.spdx_canonical.specs.Canonical.{canonical_of}
 use Rattle.spdx_canonical.proofs.Continued.{continued, Places}
 use Rattle.spdx_canonical.proofs.text.canonical.Given as goal

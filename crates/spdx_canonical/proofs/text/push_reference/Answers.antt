@@ -4,7 +4,7 @@ use Rattle.std.specs.Borrow.{Bor}
 use Rattle.std.specs.Prelude.{codes}
 use Rattle.spdx_lexer.specs.Code.{document_of}
 use Rattle.spdx_lexer.specs.Lexeme.{reference_run}
-use Rattle.spdx_canonical.specs.Drafted.{Drafted, extended, IsOff}
+use Rattle.spdx_canonical.specs.Draft.{Drafted, extended, IsOff}
 use Rattle.spdx_canonical.proofs.Pushed.{extended-document, off_document, off_colon}
 use Rattle.spdx_canonical.proofs.Drafts.{err_any, err_each, off_same}
 use Rattle.spdx_canonical.proofs.text.push_reference.Goals as goal

@@ -1,5 +1,5 @@
 use Rattle.std.proofs.Common.{arith, sym, ◌≤◌, ◌+◌, length, map}
-use Rattle.spdx_catalogue.specs.WellFormed.{exception_rules}
+use Rattle.spdx_catalogue.specs.RowRules.{exception_rules}
 use Rattle.spdx_catalogue.specs.Rows.{exception_of}
 use Rattle.spdx_catalogue.proofs.First.{below_next, below_more}
 use Rattle.spdx_catalogue.proofs.checks.exceptions_fault.Goals as goal

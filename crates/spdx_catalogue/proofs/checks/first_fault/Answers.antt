@@ -1,5 +1,5 @@
 use Rattle.std.proofs.Common.{sym, ◌∙◌, length, map, List, Some, None, ◌≡◌, ◌++◌}
-use Rattle.spdx_catalogue.specs.WellFormed.{Rule, first_broken, all_below, license_rules, exception_rules, imprecise_rules}
+use Rattle.spdx_catalogue.specs.RowRules.{RowRule, first_broken, all_below, license_rules, exception_rules, imprecise_rules}
 use Rattle.spdx_catalogue.specs.Rows.{row_of, exception_of, imprecise_of}
 use Rattle.spdx_catalogue.proofs.First.{first_some, first_none}
 use Rattle.spdx_catalogue.proofs.Mapped.{length_map}
@@ -24,9 +24,9 @@ returns-in-Some-exceptions_fault c =
     let ls = map row_of c.args.licenses.now in
     let es = map exception_of c.args.exceptions.now in
     let ms = map imprecise_of c.args.imprecise.now in
-    let names : List Rule = all_below (license_rules ls) (length ls) in
-    let excepted : List Rule = all_below (exception_rules es) (length es) in
-    let spelled : List Rule = all_below (imprecise_rules ls ms) (length ms) in
+    let names : List RowRule = all_below (license_rules ls) (length ls) in
+    let excepted : List RowRule = all_below (exception_rules es) (length es) in
+    let spelled : List RowRule = all_below (imprecise_rules ls ms) (length ms) in
     let front : first_broken names ≡ None = rw (length_map row_of c.args.licenses.now) (sym c.in-None.ensures) in
     let next : first_broken excepted ≡ Some c.in-Some-exceptions_fault.fault = rw (length_map exception_of c.args.exceptions.now) (sym c.in-Some-exceptions_fault.ensures) in
     sym (first_none names (excepted ++ spelled) front ∙ first_some excepted spelled c.in-Some-exceptions_fault.fault next)
@@ -36,9 +36,9 @@ returns-in-None-exceptions_fault c =
     let ls = map row_of c.args.licenses.now in
     let es = map exception_of c.args.exceptions.now in
     let ms = map imprecise_of c.args.imprecise.now in
-    let names : List Rule = all_below (license_rules ls) (length ls) in
-    let excepted : List Rule = all_below (exception_rules es) (length es) in
-    let spelled : List Rule = all_below (imprecise_rules ls ms) (length ms) in
+    let names : List RowRule = all_below (license_rules ls) (length ls) in
+    let excepted : List RowRule = all_below (exception_rules es) (length es) in
+    let spelled : List RowRule = all_below (imprecise_rules ls ms) (length ms) in
     let front : first_broken names ≡ None = rw (length_map row_of c.args.licenses.now) (sym c.in-None.ensures) in
     let next : first_broken excepted ≡ None = rw (length_map exception_of c.args.exceptions.now) (sym c.in-None-exceptions_fault.ensures) in
     let back : c.imprecises_fault.result ≡ first_broken spelled = rw (length_map imprecise_of c.args.imprecise.now) c.imprecises_fault.ensures in

@@ -1,5 +1,5 @@
 use Rattle.std.proofs.Common.{◌≡◌, None, map}
-use Rattle.spdx_catalogue.specs.WellFormed.{first_broken, all_below, license_rules}
+use Rattle.spdx_catalogue.specs.RowRules.{first_broken, all_below, license_rules}
 use Rattle.spdx_catalogue.specs.Rows.{row_of}
 use Rattle.spdx_catalogue.proofs.checks.licenses_fault.Given as goal
 

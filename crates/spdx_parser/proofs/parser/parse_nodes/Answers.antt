@@ -2,10 +2,10 @@ use Rattle.std.proofs.Common.{◌≡◌, Ok, Err, [], ◌∷◌, ◌++◌, lengt
 use Rattle.spdx_lexer.specs.Words.{Unexpected}
 use Rattle.spdx_lexer.specs.Code.{word_of, span_of, item_of}
 use Rattle.spdx_lexer.specs.Faults.{fault_of}
-use Rattle.spdx_lexer.specs.Left.{items_left}
+use Rattle.spdx_lexer.specs.Remainder.{items_left}
 use Rattle.spdx_parser.proofs.Loop.{seen_of, nothing_read, row_known, takes, stops, lexes_no_more, refused, span_is, ends_empty, ends_short, ends_open, ends_well, shows_popped, popped_none}
 use Rattle.std.specs.List.{All}
-use Rattle.spdx_lexer.specs.Laid.{IsPlace, place_of}
+use Rattle.spdx_lexer.specs.Layout.{IsPlace, place_of}
 use Rattle.spdx_parser.proofs.Places.{node_places}
 use Rattle.spdx_parser.proofs.parser.parse_nodes.Goals as goal
 

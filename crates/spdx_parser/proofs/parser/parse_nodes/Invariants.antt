@@ -1,6 +1,6 @@
 use Rattle.spdx_lexer.specs.Words.{Placed}
 use Rattle.std.proofs.Common.{List}
-use Rattle.spdx_lexer.specs.Left.{items_left}
+use Rattle.spdx_lexer.specs.Remainder.{items_left}
 use Rattle.spdx_parser.proofs.Loop.{Reads}
 use Rattle.spdx_parser.proofs.parser.parse_nodes.Given as goal
 

@@ -8,6 +8,6 @@ use Rattle.spdx_parser.proofs.step.read_fresh.Goals as goal
 
 pub returns-in_default : goal.returns-in_default
 returns-in_default c =
-    IfOk-weaker c.after_licence.result _ _
-    (λ taken h at f fs seen span s. subst (λ o. Answers o taken (see seen (word_of c.args.token) span) c.after_licence.new.parser) (sym (fresh_other c.args.catalogue.now c.args.mode (id_row c.args.id) f fs c.args.token c.in_default.not-Plus)) (h f fs seen span s))
-    c.after_licence.ensures
+    IfOk-weaker c.after_license.result _ _
+    (λ taken h at f fs seen span s. subst (λ o. Answers o taken (see seen (word_of c.args.token) span) c.after_license.new.parser) (sym (fresh_other c.args.catalogue.now c.args.mode (id_row c.args.id) f fs c.args.token c.in_default.not-Plus)) (h f fs seen span s))
+    c.after_license.ensures

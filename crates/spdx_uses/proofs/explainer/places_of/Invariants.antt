@@ -1,6 +1,6 @@
 use Rattle.std.proofs.Common.{◌≡◌, map, take}
 use Rattle.spdx.specs.LexerCode.{span_of}
-use Rattle.spdx.specs.Written.{nows}
+use Rattle.spdx.specs.Value.{nows}
 use Rattle.spdx_uses.proofs.explainer.places_of.Given as goal
 
 abbrev pub invariant-loop-i : goal.invariant-loop-i

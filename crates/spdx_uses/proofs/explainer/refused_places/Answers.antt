@@ -3,7 +3,7 @@ use Rattle.std.proofs.lemmas.Bool.{cond-true, cond-false}
 use Rattle.spdx.specs.Failures.{IfRefused}
 use Rattle.spdx.specs.LexerCode.{span_of}
 use Rattle.spdx.specs.Words.{Span}
-use Rattle.spdx.specs.Written.{PlacedRequirement, placed_of, nows}
+use Rattle.spdx.specs.Value.{PlacedRequirement, placed_of, nows}
 use Rattle.spdx.specs.declared.expression.ExpressionReq.{ExpressionReq}
 use Rattle.spdx.proofs.Leaves.{if_ok}
 use Rattle.spdx_uses.specs.Policy.{accepts}

@@ -12,11 +12,11 @@ use Rattle.spdx.specs.CanonicalLaw.{CanonicalLaws}
 use Rattle.spdx.specs.Errors.{IfParse, error_of}
 use Rattle.spdx.specs.Failures.{IfRefused}
 use Rattle.spdx.specs.Modes.{lax}
-use Rattle.spdx.specs.Parsed.{IsReadFrom}
+use Rattle.spdx.specs.Meaning.{IsReadFrom}
 use Rattle.spdx.specs.ParserParsed.{IsRefused}
 use Rattle.spdx.specs.Reading.{said}
 use Rattle.spdx.specs.Rows.{Rows}
-use Rattle.spdx.specs.Written.{Written}
+use Rattle.spdx.specs.Value.{Written}
 use Rattle.spdx.proofs.Leaves.{said_words}
 use Rattle.spdx_uses.proofs.linter.better_text.Goals as goal
 

@@ -3,7 +3,7 @@ use Rattle.std.proofs.lemmas.List.{length-map}
 use Rattle.spdx_parser.specs.Tree.{postfix, node_of}
 use Rattle.std.specs.Fn.{CalledAt}
 use Rattle.spdx.specs.Choice.{holds}
-use Rattle.spdx.specs.Written.{tree_of}
+use Rattle.spdx.specs.Value.{tree_of}
 use Rattle.spdx.proofs.Answering.{holds_by}
 use Rattle.spdx.proofs.Nodes.{length-postfix}
 use Rattle.spdx.proofs.expression.Expression.evaluate.Goals as goal

@@ -4,7 +4,7 @@ use Rattle.spdx_parser.specs.declared.node.Operator.TheVariants.{And, Or}
 use Rattle.spdx_parser.specs.declared.node.ExprNode.TheVariants.{Op}
 use Rattle.spdx_parser.specs.Tree.{node_of, postfix}
 use Rattle.std.specs.Fn.{CalledAt}
-use Rattle.spdx.specs.Written.{nows, placed_of}
+use Rattle.spdx.specs.Value.{nows, placed_of}
 use Rattle.spdx.proofs.Answering.{holds_by, fails_by}
 use Rattle.spdx.proofs.Evaluating.{begins, reads_requirement, reads_operator, evaluates}
 use Rattle.spdx.proofs.Logging.{finishes_log, fails}

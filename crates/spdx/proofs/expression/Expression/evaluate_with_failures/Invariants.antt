@@ -1,6 +1,6 @@
 use Rattle.std.proofs.Common.{◌+◌, ◌-◌, ◌≤◌, [], length, vec_len, vec_capacity}
 use Rattle.std.specs.Fn.{CalledAt}
-use Rattle.spdx.specs.Written.{nows}
+use Rattle.spdx.specs.Value.{nows}
 use Rattle.spdx.proofs.Evaluating.{Evaluating, CallsOn}
 use Rattle.spdx.proofs.Logging.{Logs}
 use Rattle.spdx.proofs.expression.Expression.evaluate_with_failures.Given as goal

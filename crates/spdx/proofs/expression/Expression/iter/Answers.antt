@@ -1,7 +1,7 @@
 use Rattle.std.proofs.Common.{◌∙◌, ap, map}
 use Rattle.spdx_parser.specs.Tree.{node_of}
 use Rattle.spdx_parser.specs.Nodes.{placed_node}
-use Rattle.spdx.specs.Written.{tree_of}
+use Rattle.spdx.specs.Value.{tree_of}
 use Rattle.spdx.specs.Iterators.{placed_nodes}
 use Rattle.spdx.proofs.PlacedNodes.{nodes_of_tree}
 use Rattle.spdx.proofs.expression.Expression.iter.Goals as goal

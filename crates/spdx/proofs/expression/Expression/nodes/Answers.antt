@@ -1,5 +1,5 @@
 use Rattle.std.proofs.Common.{◌∙◌, ap, map}
-use Rattle.spdx.specs.Written.{placed, placed_in, tree_of}
+use Rattle.spdx.specs.Value.{placed, placed_in, tree_of}
 use Rattle.spdx_parser.specs.Tree.{node_of}
 use Rattle.spdx.proofs.Nodes.{placed_of_tree}
 use Rattle.spdx.proofs.expression.Expression.nodes.Goals as goal

@@ -2,16 +2,16 @@ use Rattle.spdx_lexer.specs.Words.{words}
 use Rattle.std.proofs.Common.{◌≡◌, sym, ◌∙◌, ap, subst, rules}
 use Rattle.spdx_parser.specs.Tree.{Tree, postfix}
 use Rattle.spdx_parser.specs.Grammar.{IsTheTree}
-use Rattle.spdx_parser.specs.Parsed.{IsOfRows}
-use Rattle.spdx.specs.Written.{tree_of}
-use Rattle.spdx.specs.Coding.{tree_of_postfix}
+use Rattle.spdx_parser.specs.Meaning.{IsOfRows}
+use Rattle.spdx.specs.Value.{tree_of}
+use Rattle.spdx.specs.CodeLaws.{tree_of_postfix}
 use Rattle.spdx_lexer.specs.Reading.{reading}
 use Rattle.spdx_lexer.specs.Faults.{fault_of}
 use Rattle.spdx_lexer.specs.Code.{span_of}
 use Rattle.spdx_lexer.proofs.Laid.{reading_laid, laid_places}
 use Rattle.spdx_parser.proofs.Places.{fault_place}
 use Rattle.std.specs.List.{All}
-use Rattle.spdx_lexer.specs.Laid.{IsPlace}
+use Rattle.spdx_lexer.specs.Layout.{IsPlace}
 use Rattle.spdx.proofs.Leaves.{if_refused}
 use Rattle.spdx.proofs.expression.Expression.parse_mode.Goals as goal
 

@@ -1,7 +1,7 @@
 use Rattle.std.proofs.Common.{◌≡◌, ◌∙◌, ap, map, List, length, arith, subst}
 use Rattle.spdx_parser.specs.declared.node.ExprNode.{ExprNode}
 use Rattle.spdx_parser.specs.Tree.{leaves, node_of}
-use Rattle.spdx.specs.Written.{Written, placed, placed_in, tree_of}
+use Rattle.spdx.specs.Value.{Written, placed, placed_in, tree_of}
 use Rattle.spdx.proofs.Nodes.{placed_of_tree, spans_of_tree, length-placed_in}
 use Rattle.spdx.proofs.expression.Expression.requirements.Goals as goal
 

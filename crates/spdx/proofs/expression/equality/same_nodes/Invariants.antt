@@ -1,7 +1,7 @@
 use Rattle.std.proofs.Common.{◌≡◌, map, drop, length}
 use Rattle.std.specs.Cmp.Lexicographic.{pointwise}
 use Rattle.spdx_parser.specs.Tree.{node_of}
-use Rattle.spdx.specs.Alike.{same_node}
+use Rattle.spdx.specs.Equality.{same_node}
 use Rattle.spdx.proofs.expression.equality.same_nodes.Given as goal
 
 abbrev pub invariant-loop-i : goal.invariant-loop-i

@@ -1,7 +1,7 @@
 use Rattle.std.proofs.Common.{arith, ap, length}
 use Rattle.spdx_parser.specs.Tree.{postfix}
 use Rattle.spdx.specs.declared.expression.question.Question.{Question}
-use Rattle.spdx.specs.Judged.{question_tree}
+use Rattle.spdx.specs.Places.{question_tree}
 use Rattle.spdx.proofs.Places.{each_fits}
 use Rattle.spdx.proofs.expression.judge.are_all_true.Goals as goal
 

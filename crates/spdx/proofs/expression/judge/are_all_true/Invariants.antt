@@ -1,6 +1,6 @@
 use Rattle.std.proofs.Common.{◌≡◌, drop}
 use Rattle.std.specs.List.{list_all}
-use Rattle.spdx.specs.Judged.{answered}
+use Rattle.spdx.specs.Places.{answered}
 use Rattle.spdx.proofs.expression.judge.are_all_true.Given as goal
 
 abbrev pub invariant-loop-question : goal.invariant-loop-question

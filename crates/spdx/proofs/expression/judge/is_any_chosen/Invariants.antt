@@ -1,5 +1,5 @@
 use Rattle.std.proofs.Common.{◌≡◌, drop}
-use Rattle.spdx.specs.Judged.{any_at}
+use Rattle.spdx.specs.Places.{any_at}
 use Rattle.spdx.proofs.expression.judge.is_any_chosen.Given as goal
 
 abbrev pub invariant-loop-place : goal.invariant-loop-place

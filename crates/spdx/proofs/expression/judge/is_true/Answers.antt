@@ -5,7 +5,7 @@ use Rattle.spdx_parser.specs.declared.node.Operator.TheVariants.{And, Or}
 use Rattle.spdx_parser.specs.declared.node.ExprNode.{ExprNode}
 use Rattle.spdx_parser.specs.declared.node.ExprNode.TheVariants.{Op}
 use Rattle.spdx_parser.specs.Tree.{Tree, postfix, node_of}
-use Rattle.spdx.specs.Judged.{met_by, any_at, question_tree}
+use Rattle.spdx.specs.Places.{met_by, any_at, question_tree}
 use Rattle.spdx.proofs.Asking.{begins, leaf_there, reads_requirement, reads_operator, finishes}
 use Rattle.spdx.proofs.Places.{each_answer, answer_at}
 use Rattle.spdx.proofs.expression.judge.is_true.Goals as goal

@@ -1,5 +1,5 @@
 use Rattle.std.proofs.Common.{◌≡◌, map}
-use Rattle.spdx.specs.Judged.{met_by, any_at}
+use Rattle.spdx.specs.Places.{met_by, any_at}
 use Rattle.spdx.proofs.Asking.{Asking}
 use Rattle.spdx.proofs.expression.judge.is_true.Given as goal
 

@@ -1,5 +1,5 @@
 use Rattle.std.proofs.Common.{◌≡◌, drop, max}
-use Rattle.spdx.specs.Judged.{longest}
+use Rattle.spdx.specs.Places.{longest}
 use Rattle.spdx.proofs.expression.judge.longest_of.Given as goal
 
 abbrev pub invariant-loop-question : goal.invariant-loop-question

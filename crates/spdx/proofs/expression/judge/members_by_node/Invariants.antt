@@ -1,6 +1,6 @@
 use Rattle.std.proofs.Common.{◌≡◌, ◌++◌, drop, map}
-use Rattle.spdx.specs.Judged.{places_in}
-use Rattle.spdx.specs.Written.{nows}
+use Rattle.spdx.specs.Places.{places_in}
+use Rattle.spdx.specs.Value.{nows}
 use Rattle.spdx.proofs.expression.judge.members_by_node.Given as goal
 
 abbrev pub invariant-loop-node : goal.invariant-loop-node

@@ -1,8 +1,8 @@
 use Rattle.std.proofs.Common.{◌∙◌, ap, sym, ◌≡◌, length, map}
 use Rattle.std.proofs.lemmas.List.{length-map}
 use Rattle.spdx_parser.specs.Tree.{leaves, postfix, node_of}
-use Rattle.spdx.specs.Judged.{places}
-use Rattle.spdx.specs.Written.{nows}
+use Rattle.spdx.specs.Places.{places}
+use Rattle.spdx.specs.Value.{nows}
 use Rattle.spdx.proofs.Places.{places_of_tree}
 use Rattle.spdx.proofs.expression.judge.question_of.Goals as goal
 

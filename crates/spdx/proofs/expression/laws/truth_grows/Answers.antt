@@ -1,4 +1,4 @@
-use Rattle.spdx.specs.Growing.{truth_grows}
+use Rattle.spdx.specs.GrowthLaws.{truth_grows}
 use Rattle.spdx.proofs.expression.laws.truth_grows.Goals as goal
 
 pub returns : goal.returns

@@ -1,6 +1,6 @@
 use Rattle.std.proofs.Common.{◌≡◌, drop}
 use Rattle.spdx.specs.Choice.{satisfies_some}
-use Rattle.spdx.specs.Judged.{trees_of}
+use Rattle.spdx.specs.Places.{trees_of}
 use Rattle.spdx.proofs.expression.minimize.is_useful.Given as goal
 
 abbrev pub invariant-loop-expression : goal.invariant-loop-expression

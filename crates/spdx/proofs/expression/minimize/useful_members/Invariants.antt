@@ -5,10 +5,10 @@ use Rattle.std.specs.BTreeSet as tree
 use Rattle.spdx_catalogue.specs.declared.requirement.LicenseReq.{LicenseReq}
 use Rattle.spdx_catalogue.specs.Items.{requirement_of}
 use Rattle.spdx_catalogue.specs.contracts.requirement.LicenseReqOrd.TheImpl as req_ord
-use Rattle.spdx_licensee.specs.Alike.{same_requirement}
+use Rattle.spdx_licensee.specs.Equality.{same_requirement}
 use Rattle.spdx.specs.Choice.{first_ones, satisfies_some, useful}
-use Rattle.spdx.specs.Judged.{trees_of}
-use Rattle.spdx.specs.Written.{nows}
+use Rattle.spdx.specs.Places.{trees_of}
+use Rattle.spdx.specs.Value.{nows}
 use Rattle.spdx.proofs.expression.minimize.useful_members.Given as goal
 
 abbrev pub invariant-loop-licensee : goal.invariant-loop-licensee

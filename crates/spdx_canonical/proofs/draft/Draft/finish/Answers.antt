@@ -1,6 +1,6 @@
 use Rattle.std.proofs.Common.{◌≡◌, Option, None, String, Global, option_map, string_bytes, sym, subst, ◌∙◌}
-use Rattle.spdx_canonical.specs.Drafted.{Drafted, difference}
-use Rattle.spdx_canonical.specs.Shown.{bytes_of}
+use Rattle.spdx_canonical.specs.Draft.{Drafted, difference}
+use Rattle.spdx_canonical.specs.DraftModel.{bytes_of}
 use Rattle.spdx_canonical.proofs.Drafts.{all_written}
 use Rattle.spdx_canonical.proofs.draft.Draft.finish.Goals as goal
 

@@ -1,6 +1,6 @@
 use Rattle.std.proofs.Common.{◌≡◌, ◌-◌, ◌++◌, List, ℕ, Option, String, Global, length, option_map, string_bytes, ap, sym, subst, ◌∙◌, is_ok}
-use Rattle.spdx_canonical.specs.Drafted.{Drafted, extended, IsOff}
-use Rattle.spdx_canonical.specs.Shown.{bytes_of}
+use Rattle.spdx_canonical.specs.Draft.{Drafted, extended, IsOff}
+use Rattle.spdx_canonical.specs.DraftModel.{bytes_of}
 use Rattle.spdx_canonical.proofs.Drafts.{Off, either_off, still_off, now_off, goes_on, unbegun, err_any}
 use Rattle.spdx_canonical.proofs.draft.Draft.push.Goals as goal
 

@@ -4,7 +4,7 @@ use Rattle.spdx_catalogue.specs.Names.{begins_caseless}
 use Rattle.spdx_catalogue.specs.Rows.{ImpreciseRow, imprecise_of}
 use Rattle.spdx_catalogue.specs.declared.row.ImpreciseName.{ImpreciseName}
 use Rattle.spdx_catalogue.specs.LookUps.{imprecise_row}
-use Rattle.spdx_catalogue.specs.Shown.{shown}
+use Rattle.spdx_catalogue.specs.CatalogueModel.{rows_shown}
 use Rattle.spdx_catalogue.proofs.Listed.{prefix_taken}
 use Rattle.spdx_catalogue.proofs.Mapped.{find_map}
 use Rattle.spdx_catalogue.proofs.catalogue.Catalogue.imprecise_name.Goals as goal
@@ -13,9 +13,9 @@ pub returns-clause-value : goal.returns-clause-value
 returns-clause-value c =
     let rows : List ImpreciseName = c.self.inside.imprecise.items in
     let own : option_copied c.imprecise_front.result ≡ find (λ (r : ImpreciseName). begins_caseless (string_bytes r.prefix) c.args.text.now) rows = search rules in
-    let shown : option_map imprecise_of (option_copied c.imprecise_front.result) ≡ find (λ (r : ImpreciseRow). begins_caseless r.prefix c.args.text.now) (map imprecise_of rows) =
+    let rows_shown : option_map imprecise_of (option_copied c.imprecise_front.result) ≡ find (λ (r : ImpreciseRow). begins_caseless r.prefix c.args.text.now) (map imprecise_of rows) =
     ap (option_map imprecise_of) own ∙ sym (find_map (λ (r : ImpreciseRow). begins_caseless r.prefix c.args.text.now) imprecise_of rows) in
-    rw (← c.self.view_is) shown
+    rw (← c.self.view_is) rows_shown
 
 pub returns-clause-taken : goal.returns-clause-taken
 returns-clause-taken c =
@@ -23,4 +23,4 @@ returns-clause-taken c =
     let own : option_copied c.imprecise_front.result ≡ find (λ (r : ImpreciseName). begins_caseless (string_bytes r.prefix) c.args.text.now) rows = search rules in
     let shown_row : option_map imprecise_of (option_copied c.imprecise_front.result) ≡ imprecise_row (map imprecise_of rows) c.args.text.now =
     ap (option_map imprecise_of) own ∙ sym (find_map (λ (r : ImpreciseRow). begins_caseless r.prefix c.args.text.now) imprecise_of rows) in
-    prefix_taken (shown c.self.inside) c.self.invariant c.args.text.now c.imprecise_front.result shown_row
+    prefix_taken (rows_shown c.self.inside) c.self.invariant c.args.text.now c.imprecise_front.result shown_row

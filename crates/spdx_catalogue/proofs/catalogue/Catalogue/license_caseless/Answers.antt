@@ -10,6 +10,6 @@ pub returns : goal.returns
 returns c =
     let rows : List License = c.self.inside.licenses.items in
     let own : option_copied c.license_alike.result ≡ find (λ (r : License). str_eq_ignore_ascii_case (string_bytes r.name) c.args.name.now) rows = search rules in
-    let shown : option_map row_of (option_copied c.license_alike.result) ≡ find (λ (r : LicenseRow). str_eq_ignore_ascii_case r.name c.args.name.now) (map row_of rows) =
+    let rows_shown : option_map row_of (option_copied c.license_alike.result) ≡ find (λ (r : LicenseRow). str_eq_ignore_ascii_case r.name c.args.name.now) (map row_of rows) =
     ap (option_map row_of) own ∙ sym (find_map (λ (r : LicenseRow). str_eq_ignore_ascii_case r.name c.args.name.now) row_of rows) in
-    rw (← c.self.view_is) shown
+    rw (← c.self.view_is) rows_shown

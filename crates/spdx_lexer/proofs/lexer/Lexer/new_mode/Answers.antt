@@ -1,6 +1,6 @@
 use Rattle.std.proofs.Common.{◌≡◌, ℕ, ◌-◌, length, subst, arith}
 use Rattle.spdx_lexer.specs.Reading.{reading}
-use Rattle.spdx_lexer.specs.Laid.{AreLaid}
+use Rattle.spdx_lexer.specs.Layout.{AreLaid}
 use Rattle.spdx_lexer.proofs.Bound.{reading_few}
 use Rattle.spdx_lexer.proofs.Laid.{reading_laid, laid_places}
 use Rattle.spdx_lexer.proofs.lexer.Lexer.new_mode.Goals as goal

@@ -1,7 +1,7 @@
 use Rattle.std.proofs.Common.{ap, ◌∙◌}
 use Rattle.spdx.specs.Choice.{choice_of}
-use Rattle.spdx.specs.Judged.{trees_of}
-use Rattle.spdx_lines.specs.Kept.{trees_in}
+use Rattle.spdx.specs.Places.{trees_of}
+use Rattle.spdx_lines.specs.Trees.{trees_in}
 use Rattle.spdx_lines.proofs.Keeping.{choice_kept, all_written}
 use Rattle.spdx_lines.proofs.all_lines.AllLinesVerdicts.close.Goals as goal
 

@@ -1,6 +1,6 @@
 use Rattle.std.proofs.lemmas.List.Elements.{All-contains}
-use Rattle.spdx_parser.specs.Parsed.{IsOfRows}
-use Rattle.spdx_lines.specs.Kept.{trees_in}
+use Rattle.spdx_parser.specs.Meaning.{IsOfRows}
+use Rattle.spdx_lines.specs.Trees.{trees_in}
 use Rattle.spdx_lines.proofs.Keeping.{given_at, same_there}
 use Rattle.spdx_lines.proofs.kept.Kept.has.Goals as goal
 

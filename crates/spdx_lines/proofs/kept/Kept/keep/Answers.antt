@@ -1,6 +1,6 @@
 use Rattle.std.proofs.Common.{[], ◌∷◌, map, ap, ◌∙◌}
 use Rattle.std.proofs.lemmas.List.{map-append}
-use Rattle.spdx_lines.specs.Kept.{trees_in}
+use Rattle.spdx_lines.specs.Trees.{trees_in}
 use Rattle.spdx_lines.proofs.Keeping.{kept_again, kept_pushed, at_ok}
 use Rattle.spdx_lines.proofs.kept.Kept.keep.Goals as goal
 

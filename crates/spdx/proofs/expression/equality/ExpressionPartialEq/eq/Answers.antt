@@ -2,8 +2,8 @@ use Rattle.std.proofs.Common.{◌≡◌, ◌∙◌, sym, ap, Bool, List, map}
 use Rattle.std.specs.Cmp.Lexicographic.{pointwise}
 use Rattle.spdx_parser.specs.declared.node.ExprNode.{ExprNode}
 use Rattle.spdx_parser.specs.Tree.{Tree, Node, postfix, node_of}
-use Rattle.spdx.specs.Alike.{same_node, same_tree, tree_key}
-use Rattle.spdx.specs.Equality.{trees_decide, tree_told}
+use Rattle.spdx.specs.Equality.{same_node, same_tree, tree_key}
+use Rattle.spdx.specs.EqualityLaws.{trees_decide, tree_told}
 use Rattle.spdx.proofs.Alike.{same_in_postfix}
 use Rattle.spdx.proofs.expression.equality.ExpressionPartialEq.eq.Goals as goal
 

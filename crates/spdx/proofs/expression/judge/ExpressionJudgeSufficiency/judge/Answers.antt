@@ -1,6 +1,6 @@
 use Rattle.std.proofs.Common.{◌∙◌, ap}
 use Rattle.std.specs.List.{list_all}
-use Rattle.spdx.specs.Judged.{answered}
+use Rattle.spdx.specs.Places.{answered}
 use Rattle.spdx.proofs.Places.{all_answered}
 use Rattle.spdx.proofs.expression.judge.ExpressionJudgeSufficiency.judge.Goals as goal
 

@@ -1,0 +1,98 @@
+// The least choice of licensees.
+
+use crate::answer::{Answer, NoAnswer, fields};
+use spdx::expression::MinimizeError;
+use spdx::{
+    Catalogue, Expression, ExpressionJudge, Failure, LicenseReq, Licensee, select_least,
+    minimized_for_all,
+};
+use std::alloc::Global;
+
+// The licensees that the text names, with commas between.
+fn licensees<'c>(
+    alloc: Global,
+    catalogue: &'c Catalogue,
+    texts: &str,
+) -> Result<Vec<Licensee<'c>>, NoAnswer> {
+    let mut licensees = Vec::new(alloc);
+    for text in texts.split(',') {
+        if !text.is_empty() {
+            licensees.push(Licensee::parse(alloc, catalogue, text)?)?;
+        }
+    }
+    Ok(licensees)
+}
+
+type Chosen<'c> = Result<Vec<LicenseReq<'c>>, Failure<MinimizeError>>;
+
+// The requirements with commas between, or the error.
+fn shown(alloc: Global, chosen: Chosen<'_>) -> Answer {
+    let mut text = String::new(alloc);
+    match chosen {
+        Ok(requirements) => {
+            for requirement in &requirements {
+                let between = if text.is_empty() { "" } else { "," };
+                write!(text, "{between}{requirement}")?;
+            }
+        }
+        Err(Failure::Refused(error)) => write!(text, "{error}")?,
+        Err(Failure::Memory(_)) => return Err(NoAnswer::Memory),
+    }
+    Ok(text)
+}
+
+/// The choice for a text among the licensees, or the error.
+pub fn choice(alloc: Global, catalogue: &Catalogue, given: &str) -> Answer {
+    let (text, names) = fields(given)?;
+    let expression = Expression::parse(alloc, catalogue, text)?;
+    let accepted = licensees(alloc, catalogue, names)?;
+    shown(
+        alloc,
+        expression.minimized_requirements(alloc, accepted.as_slice()),
+    )
+}
+
+/// The choice for two texts together, or the error.
+pub fn joint(alloc: Global, catalogue: &Catalogue, given: &str) -> Answer {
+    let (first, others) = fields(given)?;
+    let (second, names) = fields(others)?;
+    let first = Expression::parse(alloc, catalogue, first)?;
+    let second = Expression::parse(alloc, catalogue, second)?;
+    let accepted = licensees(alloc, catalogue, names)?;
+    shown(
+        alloc,
+        minimized_for_all(alloc, &[&first, &second], accepted.as_slice()),
+    )
+}
+
+/// The choice for no text.
+pub fn for_none(alloc: Global, catalogue: &Catalogue, names: &str) -> Answer {
+    let accepted = licensees(alloc, catalogue, names)?;
+    shown(alloc, minimized_for_all(alloc, &[], accepted.as_slice()))
+}
+
+/// How many members the least selection has, and whether it took at most one question more than there are licensees.
+pub fn questions(alloc: Global, catalogue: &Catalogue, given: &str) -> Answer {
+    let (text, names) = fields(given)?;
+    let accepted = licensees(alloc, catalogue, names)?;
+    asked(alloc, catalogue, text, accepted.as_slice())
+}
+
+fn asked<'c>(
+    alloc: Global,
+    catalogue: &'c Catalogue,
+    text: &str,
+    accepted: &[Licensee<'c>],
+) -> Answer {
+    let expression = Expression::parse(alloc, catalogue, text)?;
+    let mut members = Vec::new(alloc);
+    for licensee in accepted {
+        members.push(licensee)?;
+    }
+    let mut judge = ExpressionJudge::new(alloc, &expression, members.as_slice())?;
+    let mut selection = Vec::from_elem(alloc, false, members.len())?;
+    let suffices = select_least(&mut judge, selection.as_mut_slice());
+    let are_few = judge.asked() <= (members.len() as u64).saturating_add(1);
+    let chosen = selection.iter().filter(|is_chosen| **is_chosen).count();
+    Ok(format!(in alloc; "{suffices}, {chosen} chosen, few questions: {are_few}")?)
+}
