@@ -7,7 +7,7 @@ ghost use Rattle.spdx.specs.Items.{requirement_of};
 ghost use Rattle.spdx.specs.MinimizeFaults.{refused_choice};
 ghost use Rattle.spdx.specs.Modes.{strict};
 ghost use Rattle.spdx.specs.Meaning.{IsReadFrom};
-ghost use Rattle.spdx.specs.ParserParsed.{IsRefused};
+ghost use Rattle.spdx.specs.ParserMeaning.{IsRefused};
 ghost use Rattle.spdx.specs.Value.{Written};
 
 use spdx::{Catalogue, Error, Expression, LicenseReq, Licensee};

@@ -6,7 +6,7 @@ ghost use Rattle.spdx.specs.Errors.{IfParse};
 ghost use Rattle.spdx.specs.Items.{requirement_of};
 ghost use Rattle.spdx.specs.Modes.{strict};
 ghost use Rattle.spdx.specs.Meaning.{IsReadFrom};
-ghost use Rattle.spdx.specs.ParserParsed.{IsRefused};
+ghost use Rattle.spdx.specs.ParserMeaning.{IsRefused};
 ghost use Rattle.spdx.specs.Value.{Written};
 ghost use Rattle.spdx_uses.specs.Policy.{accepts};
 

@@ -6,7 +6,7 @@ ghost use Rattle.spdx.specs.Canonical.{canonical_of};
 ghost use Rattle.spdx.specs.Errors.{IfParse};
 ghost use Rattle.spdx.specs.Modes.{lax};
 ghost use Rattle.spdx.specs.Meaning.{IsReadFrom};
-ghost use Rattle.spdx.specs.ParserParsed.{IsRefused};
+ghost use Rattle.spdx.specs.ParserMeaning.{IsRefused};
 ghost use Rattle.spdx.specs.Value.{Written};
 
 use spdx::{Catalogue, Error, Expression, ParseMode};

@@ -13,7 +13,7 @@ use Rattle.spdx.specs.Errors.{IfParse, error_of}
 use Rattle.spdx.specs.Failures.{IfRefused}
 use Rattle.spdx.specs.Modes.{lax}
 use Rattle.spdx.specs.Meaning.{IsReadFrom}
-use Rattle.spdx.specs.ParserParsed.{IsRefused}
+use Rattle.spdx.specs.ParserMeaning.{IsRefused}
 use Rattle.spdx.specs.Reading.{said}
 use Rattle.spdx.specs.Rows.{Rows}
 use Rattle.spdx.specs.Value.{Written}
