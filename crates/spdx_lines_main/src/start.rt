@@ -1,5 +1,4 @@
 //! The program over the system: its arguments, the catalogue's file and standard input. The outputs are handed in.
-#![tactic(auto)]
 
 use spdx_lines::program::{are_understood, serve};
 use spdx_lines::{Input as Lines, Output, write_all};
@@ -11,7 +10,7 @@ use std::{env, fs};
 
 /// Serves the arguments of the process. The first names the catalogue's file; the lines come from standard input. The
 /// answers go to `output`, and the line that tells of a fault to `faults`.
-pub fn start<R: Env + Files + Input + AllocGlobal, O: Write + Drop, F: Write + Drop>(
+pub(crate) fn start<R: Env + Files + Input + AllocGlobal, O: Write + Drop, F: Write + Drop>(
     rt: &R,
     output: O,
     faults: F,
