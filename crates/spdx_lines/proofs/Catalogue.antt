@@ -14,7 +14,8 @@ use Rattle.spdx_catalogue.specs.declared.error.CatalogueError.{CatalogueError}
 use Rattle.spdx_catalogue.specs.declared.error.Field.{Field}
 use Rattle.spdx_catalogue.specs.declared.error.ReadFault.{ReadFault}
 use Rattle.spdx_catalogue.specs.declared.error.ReadFault.TheVariants as fault
-use Rattle.spdx_lines.specs.Program.{rows_read, catalogue_of, IsTheCatalogue}
+use Rattle.spdx_lines.specs.Program.{IsTheCatalogue}
+use Rattle.spdx_lines.specs.Found.{rows_read, catalogue_of}
 
 -- what a value holds is never that it is no value
 unless_json : (o : Option CatalogueError) (c : Rows) → unless_fault o c ≡ Err fault.NotJson → ⊥

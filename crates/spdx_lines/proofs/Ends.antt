@@ -17,8 +17,8 @@ use Rattle.spdx_catalogue.specs.declared.error.ReadFault.{ReadFault}
 use Rattle.spdx_lines.specs.declared.program.Stop.{Stop}
 use Rattle.spdx_lines.specs.declared.program.Task.{Task}
 use Rattle.spdx_lines.specs.declared.program.Stop.TheVariants as stop
-use Rattle.spdx_lines.specs.Program.{Refusal, Usage, Unreadable, NoCatalogue, texts_of, task_in, catalogue_of, task_rule, with_licensees, with_rows, with_task, with_words, plan_of}
-use Rattle.spdx_lines.specs.Lines.{rule_of, rule_of_all}
+use Rattle.spdx_lines.specs.Program.{Refusal, Usage, Unreadable, NoCatalogue, texts_of, task_in, task_rule, with_licensees, with_rows, with_task, with_words, plan_of}
+use Rattle.spdx_lines.specs.Found.{found, catalogue_of, verdict, rule_of, rule_of_all}
 use Rattle.spdx_lines.specs.Ending.{Ending, Refused, HasMovedNothing, BreaksOff, RunsSo, Ends, StopsAt, stopped, run_ending, ending_of}
 
 pub keeps_all : (old : Option (List ℕ)) → Keeps old old
@@ -55,14 +55,14 @@ early (Ok rule) d h = begun_nothing rule d h
 early (Err refusal) d h = h
 
 -- the licensees are refused, or memory was wanted for them
-stops_before : (c : Rows) (task : Task) (r : Result (List Requirement) Refusal) (d : Devices) → HasMovedNothing d → (s : Stop) → StopsAt r s → Ends (with_licensees c task r) d (stopped s)
-stops_before c task r d moved stop.Usage h = (ap (with_licensees c task) h, moved)
-stops_before c task r d moved stop.Unreadable h = (ap (with_licensees c task) h, moved)
-stops_before c task r d moved (stop.Catalogue fault) h = (ap (with_licensees c task) h, moved)
-stops_before c task r d moved (stop.Licensee n error) h = (ap (with_licensees c task) h, moved)
+stops_before : (c : Rows) (task : Task) (r : Result (List Requirement) Refusal) (d : Devices) → HasMovedNothing d → (s : Stop) → StopsAt r s → Ends (with_licensees found c task r) d (stopped s)
+stops_before c task r d moved stop.Usage h = (ap (with_licensees found c task) h, moved)
+stops_before c task r d moved stop.Unreadable h = (ap (with_licensees found c task) h, moved)
+stops_before c task r d moved (stop.Catalogue fault) h = (ap (with_licensees found c task) h, moved)
+stops_before c task r d moved (stop.Licensee n error) h = (ap (with_licensees found c task) h, moved)
 stops_before c task r d moved (stop.Run Read) h = absurd h
 stops_before c task r d moved (stop.Run Write) h = absurd h
-stops_before c task r d moved (stop.Run Memory) h = early (with_licensees c task r) d moved
+stops_before c task r d moved (stop.Run Memory) h = early (with_licensees found c task r) d moved
 
 -- devices that nothing was asked of
 abbrev still : Told → Told → Devices
@@ -72,9 +72,9 @@ pub still_moved : (input output : Told) → HasMovedNothing (still input output)
 still_moved input output = (keeps_all input.bytes, keeps_all output.bytes)
 
 pub stopped_early : (c : Rows) (task : Task) (r : Result (List Requirement) Refusal) (input output : Told) (e : Ending) (s : Stop) →
-    e ≡ stopped s → StopsAt r s → Ends (with_licensees c task r) (still input output) e
+    e ≡ stopped s → StopsAt r s → Ends (with_licensees found c task r) (still input output) e
 stopped_early c task r input output e s is h =
-    subst (λ x. Ends (with_licensees c task r) (still input output) x) (sym is)
+    subst (λ x. Ends (with_licensees found c task r) (still input output) x) (sym is)
     (stops_before c task r (still input output) (still_moved input output) s h)
 
 pub memory_wanted : (plan : Result Rule Refusal) (input output : Told) (s : Stop) → s ≡ stop.Run Memory → Ends plan (still input output) (stopped s)
@@ -91,21 +91,21 @@ ran plan rule d (Err Memory) e h = subst (λ p. BreaksOff p d) (sym e) h.begun
 
 -- ---- the rule that is asked for
 
-pub each_rule : (c : Rows) (task : Task) (accepted : List Requirement) → task.is_joint ≡ false → task_rule c task accepted ≡ rule_of c task.mode accepted
+pub each_rule : (c : Rows) (task : Task) (accepted : List Requirement) → task.is_joint ≡ false → task_rule (verdict c task.mode) task accepted ≡ rule_of c task.mode accepted
 each_rule c task accepted e = ap (λ b. cond b (rule_of_all c task.mode accepted) (rule_of c task.mode accepted)) e
 
-pub joint_rule : (c : Rows) (task : Task) (accepted : List Requirement) → task.is_joint ≡ true → task_rule c task accepted ≡ rule_of_all c task.mode accepted
+pub joint_rule : (c : Rows) (task : Task) (accepted : List Requirement) → task.is_joint ≡ true → task_rule (verdict c task.mode) task accepted ≡ rule_of_all c task.mode accepted
 joint_rule c task accepted e = ap (λ b. cond b (rule_of_all c task.mode accepted) (rule_of c task.mode accepted)) e
 
 -- ---- what the words say
 
 pub plan_is : (words : Option (Bor (List (Bor (List ℕ))))) (catalogue : Option (Bor (List ℕ))) (w : Bor (List (Bor (List ℕ)))) (task : Task) (b : Bor (List ℕ)) (r : Result Rows ReadFault) →
-    words ≡ Some w → task_in (texts_of w.now) ≡ Some task → catalogue ≡ Some b → catalogue_of b.now ≡ r → plan_of words catalogue ≡ with_rows task (drop 2 (texts_of w.now)) r
+    words ≡ Some w → task_in (texts_of w.now) ≡ Some task → catalogue ≡ Some b → catalogue_of b.now ≡ r → plan_of found words catalogue ≡ with_rows found task (drop 2 (texts_of w.now)) r
 plan_is words catalogue w task b r p q s t =
-    ap (λ x. plan_of x catalogue) p
-    ∙ ap (λ x. with_words (texts_of w.now) x catalogue) q
-    ∙ ap (λ x. with_task task (drop 2 (texts_of w.now)) x) s
-    ∙ ap (λ x. with_rows task (drop 2 (texts_of w.now)) x) t
+    ap (λ x. plan_of found x catalogue) p
+    ∙ ap (λ x. with_words found (texts_of w.now) x catalogue) q
+    ∙ ap (λ x. with_task found task (drop 2 (texts_of w.now)) x) s
+    ∙ ap (λ x. with_rows found task (drop 2 (texts_of w.now)) x) t
 
 take_all : {A : Type 0} (xs : List A) → take (length xs) xs ≡ xs
 take_all [] = refl

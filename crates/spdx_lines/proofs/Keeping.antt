@@ -13,8 +13,9 @@ use Rattle.spdx.specs.Choice.{Choice, choice_of}
 use Rattle.spdx.specs.Doubles.{SameMembers}
 use Rattle.spdx.proofs.Doubles.{choice_same}
 use Rattle.spdx_lines.specs.declared.lines.LineMode.{LineMode}
-use Rattle.spdx_lines.specs.Verdict.{Accepted, verdict, tree_in, accepted_trees, choice_text, all_text}
-use Rattle.spdx_lines.specs.Lines.{rule_of_all, ClosesAlike}
+use Rattle.spdx_lines.specs.Verdict.{Accepted, tree_in, choice_text, all_text}
+use Rattle.spdx_lines.specs.Lines.{ClosesAlike}
+use Rattle.spdx_lines.specs.Found.{verdict, accepted_trees, rule_of_all}
 use Rattle.spdx_lines.specs.Answer.{AreKept}
 
 pub kept_none : (c : Rows) (kept : List Tree) → kept ≡ [] → AreKept c kept []

@@ -9,7 +9,8 @@ use Rattle.spdx_lexer.specs.Reading.{reading}
 use Rattle.spdx_licensee.specs.LicenseeText.{license_named, addition_named, licensee_named, Begins, licensee_word_fault, licensee_end_fault, Names, IsLicenseeFault, at_word, at_place, at_end}
 use Rattle.spdx_licensee.specs.Answers.{Answer, and_then, is_with, behind_addition, behind_with, behind_license, licensee_at}
 use Rattle.spdx_licensee.proofs.Theorem.{licensee_found, fault_found}
-use Rattle.spdx_lines.specs.Program.{licensee_of, IsTheLicensee}
+use Rattle.spdx_lines.specs.Program.{IsTheLicensee}
+use Rattle.spdx_lines.specs.Found.{licensee_of}
 
 -- ---- what the words of a licensee are
 

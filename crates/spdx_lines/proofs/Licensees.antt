@@ -5,7 +5,8 @@ use Rattle.spdx_catalogue.specs.Rows.{Rows}
 use Rattle.spdx_catalogue.specs.Items.{Requirement}
 use Rattle.spdx_lexer.specs.Words.{Fault, Span}
 use Rattle.spdx_licensee.specs.LicenseeText.{Names, IsLicenseeFault}
-use Rattle.spdx_lines.specs.Program.{Refusal, NoLicensee, texts_of, licensee_of, put_before, licensee_before, licensees_from}
+use Rattle.spdx_lines.specs.Program.{Refusal, NoLicensee, texts_of, put_before, licensee_before, licensees_from}
+use Rattle.spdx_lines.specs.Found.{found, licensee_of}
 use Rattle.spdx_lines.proofs.Licensee.{the_licensee}
 
 -- these licensees, and behind them what comes of the others
@@ -23,14 +24,14 @@ one_more reqs req (Err refusal) = refl
 
 -- one more is read
 pub read_one : (c : Rows) (n : ℕ) (text : List ℕ) (texts : List (List ℕ)) (reqs : List Requirement) (req : Requirement) (all : Result (List Requirement) Refusal) →
-    all ≡ behind reqs (licensees_from c n (text ∷ texts)) → licensee_of c text ≡ Ok req → all ≡ behind (reqs ++ req ∷ []) (licensees_from c (n + 1) texts)
+    all ≡ behind reqs (licensees_from found c n (text ∷ texts)) → licensee_of c text ≡ Ok req → all ≡ behind (reqs ++ req ∷ []) (licensees_from found c (n + 1) texts)
 read_one c n text texts reqs req all e k =
-    e ∙ ap (λ x. behind reqs (licensee_before n x (licensees_from c (n + 1) texts))) k ∙ one_more reqs req (licensees_from c (n + 1) texts)
+    e ∙ ap (λ x. behind reqs (licensee_before n x (licensees_from found c (n + 1) texts))) k ∙ one_more reqs req (licensees_from found c (n + 1) texts)
 
 -- the next is refused
 pub refused_one : (c : Rows) (n : ℕ) (text : List ℕ) (texts : List (List ℕ)) (reqs : List Requirement) (fault : Fault) (s : Span) (all : Result (List Requirement) Refusal) →
-    all ≡ behind reqs (licensees_from c n (text ∷ texts)) → licensee_of c text ≡ Err (fault, s) → all ≡ Err (NoLicensee n fault s)
-refused_one c n text texts reqs fault s all e k = e ∙ ap (λ x. behind reqs (licensee_before n x (licensees_from c (n + 1) texts))) k
+    all ≡ behind reqs (licensees_from found c n (text ∷ texts)) → licensee_of c text ≡ Err (fault, s) → all ≡ Err (NoLicensee n fault s)
+refused_one c n text texts reqs fault s all e k = e ∙ ap (λ x. behind reqs (licensee_before n x (licensees_from found c (n + 1) texts))) k
 
 -- no more are left
 pub read_all : (reqs : List Requirement) (all : Result (List Requirement) Refusal) → all ≡ behind reqs (Ok []) → all ≡ Ok reqs
@@ -44,15 +45,15 @@ word_next words i d lt =
     ap texts_of next
 
 module _ (c : Rows) (words : List (Bor (List ℕ))) (i : ℕ) (d : Bor (List ℕ)) (lt : i < length words) (all : Result (List Requirement) Refusal) where
-  next : (reqs : List Requirement) → all ≡ behind reqs (licensees_from c (i + 1) (texts_of (drop i words))) → all ≡ behind reqs (licensees_from c (i + 1) ((get_or words i d).now ∷ texts_of (drop (i + 1) words)))
-  next reqs e = e ∙ ap (λ texts. behind reqs (licensees_from c (i + 1) texts)) (word_next words i d lt)
+  next : (reqs : List Requirement) → all ≡ behind reqs (licensees_from found c (i + 1) (texts_of (drop i words))) → all ≡ behind reqs (licensees_from found c (i + 1) ((get_or words i d).now ∷ texts_of (drop (i + 1) words)))
+  next reqs e = e ∙ ap (λ texts. behind reqs (licensees_from found c (i + 1) texts)) (word_next words i d lt)
 
-  pub read_at : (reqs reqs' : List Requirement) (req : Requirement) → all ≡ behind reqs (licensees_from c (i + 1) (texts_of (drop i words))) → Names c (get_or words i d).now req →
-      reqs' ≡ reqs ++ req ∷ [] → all ≡ behind reqs' (licensees_from c (i + 1 + 1) (texts_of (drop (i + 1) words)))
+  pub read_at : (reqs reqs' : List Requirement) (req : Requirement) → all ≡ behind reqs (licensees_from found c (i + 1) (texts_of (drop i words))) → Names c (get_or words i d).now req →
+      reqs' ≡ reqs ++ req ∷ [] → all ≡ behind reqs' (licensees_from found c (i + 1 + 1) (texts_of (drop (i + 1) words)))
   read_at reqs reqs' req e h k =
       read_one c (i + 1) (get_or words i d).now (texts_of (drop (i + 1) words)) reqs req all (next reqs e) ((the_licensee c (get_or words i d).now).only_licensee req h)
-      ∙ ap (λ rs. behind rs (licensees_from c (i + 1 + 1) (texts_of (drop (i + 1) words)))) (sym k)
+      ∙ ap (λ rs. behind rs (licensees_from found c (i + 1 + 1) (texts_of (drop (i + 1) words)))) (sym k)
 
-  pub refused_at : (reqs : List Requirement) (fault : Fault) (s : Span) → all ≡ behind reqs (licensees_from c (i + 1) (texts_of (drop i words))) → IsLicenseeFault c (get_or words i d).now fault s → all ≡ Err (NoLicensee (i + 1) fault s)
+  pub refused_at : (reqs : List Requirement) (fault : Fault) (s : Span) → all ≡ behind reqs (licensees_from found c (i + 1) (texts_of (drop i words))) → IsLicenseeFault c (get_or words i d).now fault s → all ≡ Err (NoLicensee (i + 1) fault s)
   refused_at reqs fault s e h =
       refused_one c (i + 1) (get_or words i d).now (texts_of (drop (i + 1) words)) reqs fault s all (next reqs e) ((the_licensee c (get_or words i d).now).only_fault fault s h)

@@ -5,7 +5,8 @@ use Rattle.spdx_parser.specs.Tree.{Tree}
 use Rattle.spdx_parser.specs.Meaning.{IsOfRows}
 use Rattle.spdx.specs.Doubles.{SameMembers}
 use Rattle.spdx_lines.specs.declared.lines.LineMode.{LineMode}
-use Rattle.spdx_lines.specs.Verdict.{Accepted, verdict, verdict_text, counts_as_refused, tree_in}
+use Rattle.spdx_lines.specs.Verdict.{Accepted, verdict_text, counts_as_refused, tree_in}
+use Rattle.spdx_lines.specs.Found.{verdict}
 
 -- the line is accepted with this tree, and its first two columns are written
 pub record AcceptsSo (c : Rows) (mode : LineMode) (line old new : List ℕ) (t : Tree) : Type 0 where

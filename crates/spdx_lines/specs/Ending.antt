@@ -1,5 +1,6 @@
 -- How a program ends.
-use Rattle.std.specs.Prelude.{◌≡◌, ℕ, ◌==◌, if◌then◌else◌, Result, Ok, Err, List, [], false, codes}
+use Rattle.std.specs.Prelude.{◌≡◌, ℕ, ◌==◌, if◌then◌else◌, Option, Result, Ok, Err, List, [], false, codes}
+use Rattle.std.specs.Borrow.{Bor}
 use Rattle.std.specs.Io.KnownBytes.{Keeps, Appends}
 use Rattle.line_engine.specs.declared.lines.Summary.{Summary}
 use Rattle.line_engine.specs.declared.lines.RunFault.{RunFault}
@@ -12,7 +13,7 @@ use Rattle.spdx_lexer.specs.Faults.{fault_of}
 use Rattle.spdx_lexer.specs.Code.{span_of}
 use Rattle.spdx_lines.specs.declared.program.Stop.{Stop}
 use Rattle.spdx_lines.specs.declared.program.Stop.TheVariants as stop
-use Rattle.spdx_lines.specs.Program.{Refusal, Usage, Unreadable, NoCatalogue, NoLicensee, refusal_line}
+use Rattle.spdx_lines.specs.Program.{Refusal, Usage, Unreadable, NoCatalogue, NoLicensee, refusal_line, Meaning, IsTheMeaning, plan_of}
 
 -- the run came to its end, or broke off, or there was none
 pub data Ending : Type 0 where
@@ -85,3 +86,15 @@ run_ending (Err fault) = Broken fault
 abbrev pub ending_of : Result Summary Stop → Ending
 ending_of (Ok summary) = Done summary
 ending_of (Err s) = stopped s
+
+-- ---- the whole program
+
+-- It ends as the words and the catalogue's bytes have it, by what they and the lines mean; the status says how, and so
+-- does the line that is told.
+pub record Serves (words : Option (Bor (List (Bor (List ℕ))))) (catalogue : Option (Bor (List ℕ))) (d : Devices) (old new : Told) (status : ℕ) : Type 0 where
+  pub by : Meaning
+  pub is_meant : IsTheMeaning by
+  pub ending : Ending
+  pub status_is : status ≡ status_of ending
+  pub ends : Ends (plan_of by words catalogue) d ending
+  pub tells : Tells old new (ending_line ending)

@@ -1,7 +1,8 @@
 pub mod Outcome
 pub mod Verdict
 pub mod Lines
-pub mod Answer
 pub mod Trees
 pub mod Program
 pub mod Ending
+pub mod Found
+pub mod Answer

@@ -1,33 +1,52 @@
 -- The rules by which lines are answered.
-use Rattle.std.specs.Prelude.{◌≡◌, ℕ, List, []}
+use Rattle.std.specs.Prelude.{◌≡◌, ℕ, List, [], Result}
+use Rattle.line_engine.specs.declared.lines.RunFault.{RunFault}
+use Rattle.line_engine.specs.declared.lines.Summary.{Summary}
+use Rattle.line_engine.specs.Device.{Devices}
+use Rattle.line_engine.specs.Pieces.{SplitsAtLines}
 use Rattle.line_engine.specs.Rule.{Rule}
+use Rattle.line_engine.specs.Runs.{Runs}
 use Rattle.spdx_catalogue.specs.Rows.{Rows}
 use Rattle.spdx_catalogue.specs.Items.{Requirement}
 use Rattle.spdx.specs.Choice.{choice_of}
 use Rattle.spdx.specs.Doubles.{SameMembers}
 use Rattle.spdx_lines.specs.declared.lines.LineMode.{LineMode}
-use Rattle.spdx_lines.specs.Verdict.{verdict, verdict_text, choice_column, no_column, counts_as_refused, accepted_trees, all_text, IsTheVerdict}
+use Rattle.spdx_lines.specs.Verdict.{Verdict, verdict_text, choice_column, no_column, counts_as_refused, trees_by, all_text, IsTheVerdict}
 
 -- each line gives the text of its verdict with its own choice, and nothing stands behind them all
-abbrev pub rule_of : Rows → LineMode → List Requirement → Rule
-rule_of c mode accepted = record {
-  text = λ line. verdict_text (choice_column accepted) (verdict c mode line);
-  refuses = λ line. counts_as_refused (verdict c mode line);
+abbrev pub rule_by : (List ℕ → Verdict) → List Requirement → Rule
+rule_by verdict accepted = record {
+  text = λ line. verdict_text (choice_column accepted) (verdict line);
+  refuses = λ line. counts_as_refused (verdict line);
   closing = λ lines. [];
 }
 
 -- each line gives the text of its verdict without a choice, and behind them all stands the one for all accepted ones
-abbrev pub rule_of_all : Rows → LineMode → List Requirement → Rule
-rule_of_all c mode accepted = record {
-  text = λ line. verdict_text no_column (verdict c mode line);
-  refuses = λ line. counts_as_refused (verdict c mode line);
-  closing = λ lines. all_text (choice_of (accepted_trees c mode lines) accepted);
+abbrev pub rule_by_all : (List ℕ → Verdict) → List Requirement → Rule
+rule_by_all verdict accepted = record {
+  text = λ line. verdict_text no_column (verdict line);
+  refuses = λ line. counts_as_refused (verdict line);
+  closing = λ lines. all_text (choice_of (trees_by verdict lines) accepted);
 }
 
--- each line has one verdict
-abbrev pub HaveVerdicts : Rows → LineMode → Type 0
-HaveVerdicts c mode = (line : List ℕ) → IsTheVerdict c mode line (verdict c mode line)
+-- these are the verdicts of lines, and there are no others
+abbrev pub AreTheVerdicts : Rows → LineMode → (List ℕ → Verdict) → Type 0
+AreTheVerdicts c mode verdict = (line : List ℕ) → IsTheVerdict c mode line (verdict line)
 
 -- what stands behind all lines sees which lines there are, and not how often or in what order
 abbrev pub ClosesAlike : Rule → Type 0
 ClosesAlike rule = (lines others : List (List ℕ)) → SameMembers lines others → rule.closing lines ≡ rule.closing others
+
+-- the run answers each line by its verdict and its own choice; an input cut behind newlines is answered piece by piece
+pub record RunsByLine (c : Rows) (mode : LineMode) (accepted : List Requirement) (d : Devices) (result : Result Summary RunFault) : Type 0 where
+  pub verdict : List ℕ → Verdict
+  pub verdicts : AreTheVerdicts c mode verdict
+  pub splits : SplitsAtLines (rule_by verdict accepted)
+  pub runs : Runs (rule_by verdict accepted) d result
+
+-- the run answers each line by its verdict, and gives one choice for all of them, doubled or not
+pub record RunsForAll (c : Rows) (mode : LineMode) (accepted : List Requirement) (d : Devices) (result : Result Summary RunFault) : Type 0 where
+  pub verdict : List ℕ → Verdict
+  pub verdicts : AreTheVerdicts c mode verdict
+  pub doubles : ClosesAlike (rule_by_all verdict accepted)
+  pub runs : Runs (rule_by_all verdict accepted) d result

@@ -1,8 +1,6 @@
 -- What is said of a line.
-use Rattle.std.specs.Prelude.{◌≡◌, ℕ, Bool, true, false, List, [], ◌∷◌, ◌++◌, map, Ok, Err, if◌then◌else◌, codes, unwrap_or, IsUtf8}
-use Rattle.std.specs.Str.{is_utf8}
+use Rattle.std.specs.Prelude.{◌≡◌, ℕ, Bool, true, false, List, [], ◌∷◌, ◌++◌, map, Ok, codes, IsUtf8}
 use Rattle.std.specs.List.{flat_map, join_by}
-use Rattle.std.specs.Result.{result_ok}
 use Rattle.std.specs.Fmt.{decimal}
 use Rattle.spdx_catalogue.specs.Rows.{Rows}
 use Rattle.spdx_catalogue.specs.Items.{Requirement}
@@ -20,7 +18,6 @@ use Rattle.spdx_normal.specs.Normal.{normal_text}
 use Rattle.spdx.specs.Choice.{Choice, chosen, too_many, unmet, choice_of}
 use Rattle.spdx_lines.specs.declared.lines.LineMode.{LineMode}
 use Rattle.spdx_lines.specs.declared.lines.LineMode.TheVariants.{Strict, Lax, Normal}
-use Rattle.spdx_lines.specs.Outcome.{Outcome, outcome}
 
 -- an accepted line has a tree, and a text of it as its second column; a refused one a fault and its place
 pub data Verdict : Type 0 where
@@ -53,19 +50,7 @@ pub record IsTheVerdict (c : Rows) (mode : LineMode) (line : List ℕ) (v : Verd
   pub given : IsVerdict c mode line v
   pub only : (other : Verdict) → IsVerdict c mode line other → other ≡ v
 
--- ---- the verdict, found
-
-abbrev pub column : Rows → LineMode → List ℕ → Tree → List ℕ
-column c Strict line t = unwrap_or (result_ok (canonical_of c line)) []
-column c Lax line t = unwrap_or (result_ok (canonical_of c line)) []
-column c Normal line t = normal_text t
-
-abbrev pub verdict_of : (Tree → List ℕ) → Outcome → Verdict
-verdict_of column (Ok t) = Accepted t (column t)
-verdict_of column (Err fault) = Refused fault.0 fault.1
-
-unfoldable pub verdict : Rows → LineMode → List ℕ → Verdict
-verdict c mode line = if is_utf8 line then verdict_of (column c mode line) (outcome c (parse_mode mode) line) else BadUtf8
+-- ---- what comes of it
 
 -- a line that is no text counts as refused
 abbrev pub counts_as_refused : Verdict → Bool
@@ -80,8 +65,8 @@ tree_in (Refused fault s) = []
 tree_in BadUtf8 = []
 
 -- the trees of the accepted ones of these lines
-abbrev pub accepted_trees : Rows → LineMode → List (List ℕ) → List Tree
-accepted_trees c mode lines = flat_map (λ line. tree_in (verdict c mode line)) lines
+abbrev pub trees_by : (List ℕ → Verdict) → List (List ℕ) → List Tree
+trees_by verdict lines = flat_map (λ line. tree_in (verdict line)) lines
 
 -- ---- its text
 

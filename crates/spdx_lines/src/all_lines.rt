@@ -2,8 +2,7 @@
 
 ghost use Rattle.spdx_lines.specs.Answer.{AreKept};
 ghost use Rattle.spdx_lines.specs.Trees.{trees_in};
-ghost use Rattle.spdx_lines.specs.Lines.{rule_of_all};
-ghost use Rattle.spdx_lines.specs.Verdict.{accepted_trees};
+ghost use Rattle.spdx_lines.specs.Found.{accepted_trees, rule_of_all};
 
 use crate::answer::begin_answer;
 use crate::kept::Kept;

@@ -1,6 +1,6 @@
 // Answers to lines one by one.
 
-ghost use Rattle.spdx_lines.specs.Lines.{rule_of};
+ghost use Rattle.spdx_lines.specs.Found.{rule_of};
 
 use crate::answer::begin_answer;
 use crate::lines::LineMode;

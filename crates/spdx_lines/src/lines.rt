@@ -3,8 +3,8 @@
 ghost use Rattle.std.specs.Prelude.{◌≡◌, ◌<◌, length};
 ghost use Rattle.line_engine.specs.Device.{devices};
 ghost use Rattle.line_engine.specs.Runs.{Runs};
-ghost use Rattle.line_engine.specs.Pieces.{SplitsAtLines};
-ghost use Rattle.spdx_lines.specs.Lines.{rule_of, rule_of_all, HaveVerdicts, ClosesAlike};
+ghost use Rattle.spdx_lines.specs.Found.{rule_of, rule_of_all};
+ghost use Rattle.spdx_lines.specs.Lines.{RunsByLine, RunsForAll};
 ghost use Rattle.spdx_lines.specs.Verdict as spec;
 
 use crate::all_lines::AllLines;
@@ -47,7 +47,7 @@ impl LineMode {
 /// before the input is read on, and the output is flushed once, at the end. `Read` comes only where the input has
 /// failed, and `Write` only where the output has. After a fault, also one of memory, what was written is a beginning of
 /// the answers to the lines that were read whole; after `Read` it is all of them. An input that is cut behind newlines
-/// is answered piece by piece (`splits`).
+/// is answered piece by piece.
 pub fn run_in<'c, I: Source, O: Sink>(
     alloc: Global,
     cat: &'c Catalogue,
@@ -58,9 +58,7 @@ pub fn run_in<'c, I: Source, O: Sink>(
     buffer: &mut [u8],
 ) -> Result<Summary, RunFault>
     requires room { 0 < length buffer.old }
-    ensures verdicts { HaveVerdicts cat.now mode }
-    ensures splits { SplitsAtLines (rule_of cat.now mode accepted.now) }
-    ensures runs { Runs (rule_of cat.now mode accepted.now)
+    ensures { RunsByLine cat.now mode accepted.now
         (devices (I.told input.old) (I.told input.new) (O.told output.old) (O.told output.new))
         result }
 {
@@ -82,9 +80,23 @@ pub fn run<'c, I: Source, O: Sink>(
     input: &mut I,
     output: &mut O,
 ) -> Result<Summary, RunFault>
-    ensures verdicts { HaveVerdicts cat.now mode }
-    ensures splits { SplitsAtLines (rule_of cat.now mode accepted.now) }
-    ensures runs { Runs (rule_of cat.now mode accepted.now)
+    ensures { RunsByLine cat.now mode accepted.now
+        (devices (I.told input.old) (I.told input.new) (O.told output.old) (O.told output.new))
+        result }
+{
+    run_found(alloc, cat, mode, accepted, input, output)
+}
+
+// `run`, by the verdicts that are found.
+pub(crate) fn run_found<'c, I: Source, O: Sink>(
+    alloc: Global,
+    cat: &'c Catalogue,
+    mode: LineMode,
+    accepted: &[Licensee<'c>],
+    input: &mut I,
+    output: &mut O,
+) -> Result<Summary, RunFault>
+    ensures { Runs (rule_of cat.now mode accepted.now)
         (devices (I.told input.old) (I.told input.new) (O.told output.old) (O.told output.new))
         result }
 {
@@ -113,9 +125,7 @@ pub fn run_all_in<'c, I: Source, O: Sink>(
     buffer: &mut [u8],
 ) -> Result<Summary, RunFault>
     requires room { 0 < length buffer.old }
-    ensures verdicts { HaveVerdicts cat.now mode }
-    ensures doubles { ClosesAlike (rule_of_all cat.now mode accepted.now) }
-    ensures runs { Runs (rule_of_all cat.now mode accepted.now)
+    ensures { RunsForAll cat.now mode accepted.now
         (devices (I.told input.old) (I.told input.new) (O.told output.old) (O.told output.new))
         result }
 {
@@ -138,9 +148,23 @@ pub fn run_all<'c, I: Source, O: Sink>(
     input: &mut I,
     output: &mut O,
 ) -> Result<Summary, RunFault>
-    ensures verdicts { HaveVerdicts cat.now mode }
-    ensures doubles { ClosesAlike (rule_of_all cat.now mode accepted.now) }
-    ensures runs { Runs (rule_of_all cat.now mode accepted.now)
+    ensures { RunsForAll cat.now mode accepted.now
+        (devices (I.told input.old) (I.told input.new) (O.told output.old) (O.told output.new))
+        result }
+{
+    run_all_found(alloc, cat, mode, accepted, input, output)
+}
+
+// `run_all`, by the verdicts that are found.
+pub(crate) fn run_all_found<'c, I: Source, O: Sink>(
+    alloc: Global,
+    cat: &'c Catalogue,
+    mode: LineMode,
+    accepted: &[Licensee<'c>],
+    input: &mut I,
+    output: &mut O,
+) -> Result<Summary, RunFault>
+    ensures { Runs (rule_of_all cat.now mode accepted.now)
         (devices (I.told input.old) (I.told input.new) (O.told output.old) (O.told output.new))
         result }
 {

@@ -1,16 +1,15 @@
 // The program, apart from its arguments and files.
 
-ghost use Rattle.std.specs.Prelude.{◌≡◌, ℕ, ◌++◌, List, IfOk, IfErr, OnOk, Ok, is_some};
+ghost use Rattle.std.specs.Prelude.{◌≡◌, ◌++◌, IfOk, IfErr, OnOk, Ok, is_some};
 ghost use Rattle.line_engine.specs.Device.{devices};
 ghost use Rattle.line_engine.specs.Runs.{Runs};
-ghost use Rattle.spdx_catalogue.specs.Rows.{Rows};
 ghost use Rattle.spdx_lexer.specs.Code.{span_of};
 ghost use Rattle.spdx_lexer.specs.Faults.{fault_of};
-ghost use Rattle.spdx_lines.specs.Lines.{HaveVerdicts};
-ghost use Rattle.spdx_lines.specs.Program.{NoCatalogue, NoLicensee, texts_of, task_in, catalogue_of, licensee_of, licensees_from, task_rule, with_licensees, plan_of, refusal_line, IsTheCatalogue, IsTheLicensee};
-ghost use Rattle.spdx_lines.specs.Ending.{Ending, Ends, Tells, StopsAt, status_of, ending_line, stopped, ending_of};
+ghost use Rattle.spdx_lines.specs.Found.{found, verdict};
+ghost use Rattle.spdx_lines.specs.Program.{NoCatalogue, NoLicensee, texts_of, task_in, licensees_from, task_rule, with_licensees, plan_of, refusal_line};
+ghost use Rattle.spdx_lines.specs.Ending.{Ends, Serves, StopsAt, status_of, ending_line, stopped, ending_of};
 
-use crate::lines::{LineMode, run, run_all};
+use crate::lines::{LineMode, run_all_found, run_found};
 use crate::text::put_refusal;
 use line_engine::device::{Sink, Source};
 use line_engine::lines::{RunFault, Summary, write_all};
@@ -100,9 +99,9 @@ fn read_licensees<'c, 'w>(
     words: &[&'w str],
 ) -> Result<Vec<Licensee<'c>>, Stop<'w>>
     ensures ok { IfOk result (λ licensees.
-        licensees_from cat.now 1 (texts_of words.now) ≡ Ok licensees.items) }
+        licensees_from found cat.now 1 (texts_of words.now) ≡ Ok licensees.items) }
     ensures err { IfErr result (λ stop.
-        StopsAt (licensees_from cat.now 1 (texts_of words.now)) stop) }
+        StopsAt (licensees_from found cat.now 1 (texts_of words.now)) stop) }
 {
     let mut licensees = Vec::new(alloc);
     for (place, word) in words.iter().enumerate() {
@@ -125,7 +124,7 @@ fn run_with<'w, I: Source, O: Sink>(
     output: &mut O,
 ) -> Result<Summary, Stop<'w>>
     ensures { Ends
-        (with_licensees cat.now task (licensees_from cat.now 1 (texts_of licensees.now)))
+        (with_licensees found cat.now task (licensees_from found cat.now 1 (texts_of licensees.now)))
         (devices (I.told input.old) (I.told input.new) (O.told output.old) (O.told output.new))
         (ending_of result) }
 {
@@ -144,14 +143,14 @@ fn run_task<'c, I: Source, O: Sink>(
     input: &mut I,
     output: &mut O,
 ) -> Result<Summary, RunFault>
-    ensures { Runs (task_rule cat.now task.now accepted.now)
+    ensures { Runs (task_rule (verdict cat.now task.now.mode) task.now accepted.now)
         (devices (I.told input.old) (I.told input.new) (O.told output.old) (O.told output.new))
         result }
 {
     if task.is_joint {
-        run_all(alloc, cat, task.mode, accepted, input, output)
+        run_all_found(alloc, cat, task.mode, accepted, input, output)
     } else {
-        run(alloc, cat, task.mode, accepted, input, output)
+        run_found(alloc, cat, task.mode, accepted, input, output)
     }
 }
 
@@ -163,7 +162,7 @@ fn run_by<'w, I: Source, O: Sink>(
     input: &mut I,
     output: &mut O,
 ) -> Result<Summary, Stop<'w>>
-    ensures { Ends (plan_of words.entry catalogue.entry)
+    ensures { Ends (plan_of found words.entry catalogue.entry)
         (devices (I.told input.old) (I.told input.new) (O.told output.old) (O.told output.new))
         (ending_of result) }
 {
@@ -256,15 +255,9 @@ pub fn serve<I: Source, O: Sink, F: Write>(
     output: &mut O,
     faults: &mut Output<F>,
 ) -> u8
-    ensures ends { (ending : Ending) × (result ≡ status_of ending)
-        × Ends (plan_of words.entry catalogue.entry)
+    ensures { Serves words.entry catalogue.entry
         (devices (I.told input.old) (I.told input.new) (O.told output.old) (O.told output.new))
-        ending
-        × Tells (⟦<Output<F> as Sink>⟧.told faults.old) (⟦<Output<F> as Sink>⟧.told faults.new)
-        (ending_line ending) }
-    ensures catalogues { (bytes : List ℕ) → IsTheCatalogue bytes (catalogue_of bytes) }
-    ensures licensees { (c : Rows) (text : List ℕ) → IsTheLicensee c text (licensee_of c text) }
-    ensures verdicts { (c : Rows) (mode : LineMode) → HaveVerdicts c mode }
+        (⟦<Output<F> as Sink>⟧.told faults.old) (⟦<Output<F> as Sink>⟧.told faults.new) result }
 {
     let stop = match run_by(alloc, words, catalogue, input, output) {
         Ok(summary) => return u8::from(summary.refused != 0),

@@ -1,11 +1,13 @@
 use Rattle.std.proofs.Common.{refl}
 use Rattle.line_engine.proofs.Splitting.{splits}
-use Rattle.spdx_lines.specs.Lines.{rule_of}
+use Rattle.spdx_lines.specs.Found.{rule_of, verdict}
 use Rattle.spdx_lines.proofs.Verdict.{the_verdict}
 use Rattle.spdx_lines.proofs.lines.run_in.Goals as goal
 
-pub returns-clause-verdicts : goal.returns-clause-verdicts
-returns-clause-verdicts g c = the_verdict c.args.cat.now c.args.mode
-
-pub returns-clause-splits : goal.returns-clause-splits
-returns-clause-splits g c = splits (rule_of c.args.cat.now c.args.mode c.args.accepted.now) (λ lines. refl)
+pub returns : goal.returns
+returns g c = record {
+  verdict = verdict c.args.cat.now c.args.mode;
+  verdicts = the_verdict c.args.cat.now c.args.mode;
+  splits = splits (rule_of c.args.cat.now c.args.mode c.args.accepted.now) (λ lines. refl);
+  runs = c.run_in.ensures.runs;
+}

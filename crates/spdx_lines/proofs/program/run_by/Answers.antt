@@ -1,6 +1,7 @@
 use Rattle.std.proofs.Common.{Ok, Err, ap, subst, sym, ◌∙◌}
 use Rattle.line_engine.specs.Device.{devices}
 use Rattle.spdx_lines.specs.Program.{with_licensees, licensees_from, plan_of}
+use Rattle.spdx_lines.specs.Found.{found}
 use Rattle.spdx_lines.specs.Ending.{Ends, ending_of}
 use Rattle.spdx_lines.proofs.Catalogue.{the_catalogue}
 use Rattle.spdx_lines.proofs.Ends.{still_moved, memory_wanted, plan_is, words_behind}
@@ -13,7 +14,7 @@ returns-in-Ok g c =
     let read = (the_catalogue c.in-Some-catalogue.bytes.now).only_rows rows c.in-Ok.ensures.ok in
     let plan = plan_is c.args.words c.args.catalogue c.in-Some.words task c.in-Some-catalogue.bytes (Ok rows) c.in-Some.is (sym c.task_of.ensures ∙ c.in-Some-task_of.is) c.in-Some-catalogue.is read in
     let d = devices (g.I.Source.told c.args.input.now) (g.I.Source.told c.run_with.new.input) (g.O.Sink.told c.args.output.now) (g.O.Sink.told c.run_with.new.output) in
-    subst (λ p. Ends p d (ending_of c.run_with.result)) (sym (plan ∙ ap (λ texts. with_licensees rows task (licensees_from rows 1 texts)) (words_behind c.in-Some.words.now))) c.run_with.ensures
+    subst (λ p. Ends p d (ending_of c.run_with.result)) (sym (plan ∙ ap (λ texts. with_licensees found rows task (licensees_from found rows 1 texts)) (words_behind c.in-Some.words.now))) c.run_with.ensures
 
 pub returns-in-Err-Refused : goal.returns-in-Err-Refused
 returns-in-Err-Refused g c =
@@ -24,4 +25,4 @@ returns-in-Err-Refused g c =
 
 pub returns-in-Err-Memory : goal.returns-in-Err-Memory
 returns-in-Err-Memory g c =
-    memory_wanted (plan_of c.args.words c.args.catalogue) (g.I.Source.told c.args.input.now) (g.O.Sink.told c.args.output.now) c.from.result c.from.ensures
+    memory_wanted (plan_of found c.args.words c.args.catalogue) (g.I.Source.told c.args.input.now) (g.O.Sink.told c.args.output.now) c.from.result c.from.ensures

@@ -1,7 +1,7 @@
 use Rattle.std.proofs.Common.{sym, subst}
 use Rattle.spdx_lines.specs.Answer.{AreKept}
 use Rattle.spdx_lines.specs.Trees.{trees_in}
-use Rattle.spdx_lines.specs.Verdict.{accepted_trees}
+use Rattle.spdx_lines.specs.Found.{accepted_trees}
 use Rattle.spdx_lines.proofs.Keeping.{accepted_more}
 use Rattle.spdx_lines.proofs.all_lines.AllLinesVerdicts.answer.Goals as goal
 
