@@ -1,5 +1,6 @@
 pub mod Lines
 pub mod Device
+pub mod Stream
 pub mod Output
 pub mod Progress
 pub mod Rule

@@ -2,6 +2,7 @@
 
 ghost use Rattle.std.specs.Prelude.{◌≡◌, ◌-◌, ◌^◌, false};
 ghost use Rattle.line_engine.specs.Device.{told};
+ghost use Rattle.line_engine.specs.Stream.{reader_of, left_in, input_failed, writer_of, output_failed};
 
 use crate::device::{Failed, Sink, Source};
 use std::io::{Read, Write};
@@ -21,7 +22,7 @@ pub struct Input<R> {
 impl<R: Read> Input<R> {
     /// Has not failed.
     pub fn new(inner: R) -> Input<R>
-        ensures inner { result.inner ≡ inner }
+        ensures inner { reader_of result ≡ inner }
         ensures told { ⟦<Input<R> as Source>⟧.told result ≡ told (R.remaining inner) false }
         ensures left { ⟦<Input<R> as Source>⟧.left result ≡ 2 ^ 64 - 1 }
     {
@@ -34,7 +35,7 @@ impl<R: Read> Input<R> {
 
     /// The reader, behind the bytes that were read.
     pub fn into_inner(self) -> R
-        ensures inner { result ≡ self.inner }
+        ensures inner { result ≡ reader_of self }
         ensures remaining { R.remaining result ≡ (⟦<Input<R> as Source>⟧.told self).bytes }
     {
         let Input {
@@ -47,9 +48,9 @@ impl<R: Read> Input<R> {
 }
 
 impl<R: Read> Source for Input<R> {
-    ghost told = { λ input. told (R.remaining input.inner) input.has_failed };
+    ghost told = { λ input. told (R.remaining (reader_of input)) (input_failed input) };
 
-    ghost left = { λ input. input.left };
+    ghost left = { λ input. left_in input };
 
     fn read(&mut self, buffer: &mut [u8]) -> Result<usize, Failed> {
         if self.has_failed || (self.left == 0 && !buffer.is_empty()) {
@@ -85,7 +86,7 @@ pub struct Output<W> {
 impl<W: Write> Output<W> {
     /// Has not failed.
     pub fn new(inner: W) -> Output<W>
-        ensures inner { result.inner ≡ inner }
+        ensures inner { writer_of result ≡ inner }
         ensures told { ⟦<Output<W> as Sink>⟧.told result ≡ told (W.contents inner) false }
     {
         Output {
@@ -96,7 +97,7 @@ impl<W: Write> Output<W> {
 
     /// The writer, with the bytes that it took.
     pub fn into_inner(self) -> W
-        ensures inner { result ≡ self.inner }
+        ensures inner { result ≡ writer_of self }
         ensures contents { W.contents result ≡ (⟦<Output<W> as Sink>⟧.told self).bytes }
     {
         let Output {
@@ -108,7 +109,7 @@ impl<W: Write> Output<W> {
 }
 
 impl<W: Write> Sink for Output<W> {
-    ghost told = { λ output. told (W.contents output.inner) output.has_failed };
+    ghost told = { λ output. told (W.contents (writer_of output)) (output_failed output) };
 
     fn write(&mut self, bytes: &[u8]) -> Result<usize, Failed> {
         if self.has_failed {
