@@ -6,10 +6,10 @@ use Rattle.spdx_parser.specs.declared.node.Operator.{Operator}
 use Rattle.spdx_parser.specs.declared.node.ExpressionReq.{ExpressionReq}
 use Rattle.spdx_parser.specs.declared.node.ExprNode.{ExprNode}
 use Rattle.spdx_parser.specs.Tree.{Tree, Node, Op, postfix, leaves, node_of}
-use Rattle.spdx.specs.Truth.{joined, truth_of}
-use Rattle.spdx.specs.Value.{requirements_in}
-use Rattle.spdx.proofs.Nodes.{requirement_at, requirements_of_tree}
-use Rattle.spdx.proofs.Machine.{stack_behind, LeavesOne, stack_behind_postfix, leaves_one_postfix}
+use Rattle.spdx_evaluation.specs.Truth.{joined, truth_of}
+use Rattle.spdx_evaluation.specs.Requirements.{requirements_in}
+use Rattle.spdx_evaluation.proofs.Nodes.{requirement_at, requirements_of_tree}
+use Rattle.spdx_evaluation.proofs.Machine.{stack_behind, LeavesOne, length-join_newest, stack_behind_postfix, leaves_one_postfix}
 
 -- after i nodes, of which `leaf` are requirements: what the stack is worth, and what is still needed
 pub record Asking (nodes : List ExprNode) (i : ℕ) (answers : List Bool) (leaf : ℕ) (s : Stack) : Type 0 where
@@ -66,11 +66,6 @@ pub two_there : (nodes : List ExprNode) (i : ℕ) (answers : List Bool) (leaf : 
 two_there nodes i answers leaf s d o v lt is =
     let before : LeavesOne (Op o ∷ map node_of (drop (i + 1) nodes)) (length s.items) = subst (λ (z : List ExprNode). LeavesOne (map node_of z) (length s.items)) (nodes_from nodes i d (ExprNode.Op o) lt is) v.enough in
     before.0
-
-length-join_newest : (join : Bool → Bool → Bool) (xs : List Bool) → 2 ≤ length xs → length (join_newest join xs) ≡ length xs - 1
-length-join_newest join [] h = absurd (omega arith)
-length-join_newest join (x ∷ []) h = absurd (omega arith)
-length-join_newest join (x ∷ y ∷ zs) h = omega arith
 
 pub reads_operator : (nodes : List ExprNode) (i : ℕ) (answers : List Bool) (leaf : ℕ) (s : Stack) (d : ExprNode) (o : Operator) (new : Stack)
     → Asking nodes i answers leaf s → i < length nodes → get_or nodes i d ≡ ExprNode.Op o → new.items ≡ join_newest (joined o) s.items → new.room ≡ s.room → Asking nodes (i + 1) answers leaf new

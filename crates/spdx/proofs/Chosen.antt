@@ -10,9 +10,9 @@ use Rattle.spdx_parser.specs.declared.node.ExprNode.{ExprNode}
 use Rattle.spdx_parser.specs.Tree.{Tree, postfix, leaves, node_of}
 use Rattle.least_selection.specs.Selection.{IsLeast, NoneSuffices}
 use Rattle.spdx_licensee.specs.Equality.{same_requirement}
-use Rattle.spdx.specs.Value.{requirements_in}
+use Rattle.spdx_evaluation.specs.Requirements.{requirements_in}
 use Rattle.spdx.specs.Choice.{first_ones, suffices_for, chosen_of, chosen, unmet, choice_among, choice_by, too_many, least_of}
-use Rattle.spdx.proofs.Nodes.{requirement_at, requirements_of_tree}
+use Rattle.spdx_evaluation.proofs.Nodes.{requirement_at, requirements_of_tree}
 use Rattle.spdx.proofs.Selections.{IsLeast-least_of, none_found}
 
 any_each : (p : Requirement → Bool) (rs : List ExpressionReq) → list_any (λ r. p (requirement_of r.req)) rs ≡ list_any p (map requirement_at rs)

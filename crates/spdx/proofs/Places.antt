@@ -9,12 +9,13 @@ use Rattle.spdx_parser.specs.declared.node.ExpressionReq.{ExpressionReq}
 use Rattle.spdx_parser.specs.declared.node.ExprNode.{ExprNode}
 use Rattle.spdx_parser.specs.Tree.{Tree, leaves, postfix, node_of}
 use Rattle.spdx_licensee.specs.Satisfies.{satisfies}
-use Rattle.spdx.specs.Value.{requirements_in}
-use Rattle.spdx.specs.Truth.{truth_of}
-use Rattle.spdx.specs.Choice.{any_chosen, holds, suffices_for}
+use Rattle.spdx_evaluation.specs.Requirements.{requirements_in}
+use Rattle.spdx_evaluation.specs.Truth.{truth_of}
+use Rattle.spdx.specs.Choice.{any_chosen, suffices_for}
+use Rattle.spdx_evaluation.specs.Truth.{holds}
 use Rattle.spdx.specs.declared.expression.question.Question.{Question}
 use Rattle.spdx.specs.Places.{places_from, places, places_in, any_at, question_tree, met_by, IsOver, answered, longest}
-use Rattle.spdx.proofs.Nodes.{requirement_at, requirements_of_tree}
+use Rattle.spdx_evaluation.proofs.Nodes.{requirement_at, requirements_of_tree}
 
 none_chosen : (ms : List Requirement) (r : Requirement) → any_chosen ms [] r ≡ false
 none_chosen [] r = refl

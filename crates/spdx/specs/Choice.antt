@@ -1,12 +1,12 @@
 -- The least choice of licensees that makes expressions true.
-use Rattle.std.specs.Prelude.{◌≡◌, ℕ, zero, suc, Bool, true, false, ◌&&◌, ◌||◌, cond, List, [], ◌∷◌, ◌++◌, Option, Some, None, length, map, nat_lt}
+use Rattle.std.specs.Prelude.{◌≡◌, ℕ, zero, suc, Bool, true, false, ◌&&◌, ◌||◌, cond, List, [], ◌∷◌, ◌++◌, Option, Some, None, length, nat_lt}
 use Rattle.std.specs.List.{filter, find, list_all, list_any}
 use Rattle.spdx_catalogue.specs.Items.{Requirement}
 use Rattle.spdx_parser.specs.Tree.{Tree, leaves}
 use Rattle.spdx_licensee.specs.Satisfies.{satisfies}
 use Rattle.least_selection.specs.Selection.{IsLeast, NeedsEach}
 use Rattle.spdx_licensee.specs.Equality.{same_requirement}
-use Rattle.spdx.specs.Truth.{truth_of}
+pub use Rattle.spdx_evaluation.specs.Truth.{holds}
 
 -- those that are the same as none before them
 abbrev pub first_ones : List Requirement → List Requirement → List Requirement
@@ -26,10 +26,6 @@ abbrev pub any_chosen : List Requirement → List Bool → Requirement → Bool
 any_chosen [] selection r = false
 any_chosen (m ∷ ms) [] r = false
 any_chosen (m ∷ ms) (b ∷ bs) r = (b && satisfies m r) || any_chosen ms bs r
-
--- whether the tree is true where each requirement has its answer
-abbrev pub holds : (Requirement → Bool) → Tree → Bool
-holds answer t = truth_of t (map answer (leaves t))
 
 -- every tree is true, where the answer to a requirement is that some chosen member satisfies it
 abbrev pub suffices_for : List Tree → List Requirement → List Bool → Bool

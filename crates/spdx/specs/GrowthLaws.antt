@@ -8,8 +8,9 @@ use Rattle.spdx_parser.specs.declared.node.Operator.TheVariants.{And, Or}
 use Rattle.spdx_parser.specs.Tree.{Tree, Leaf, Join, leaves}
 use Rattle.spdx_licensee.specs.Satisfies.{satisfies}
 use Rattle.least_selection.specs.Selection.{IsWithin}
-use Rattle.spdx.specs.Truth.{joined, truth_of}
-use Rattle.spdx.specs.Choice.{any_chosen, holds, suffices_for}
+use Rattle.spdx_evaluation.specs.Truth.{joined, truth_of}
+use Rattle.spdx.specs.Choice.{any_chosen, suffices_for}
+use Rattle.spdx_evaluation.specs.Truth.{holds}
 
 both_grow : (a b x y : Bool) → (a ≡ true → x ≡ true) → (b ≡ true → y ≡ true) → (a && b) ≡ true → (x && y) ≡ true
 both_grow false b x y f g h = let e : false ≡ true = h in cc

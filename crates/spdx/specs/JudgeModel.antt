@@ -4,7 +4,7 @@ use Rattle.spdx_catalogue.specs.Items.{Requirement}
 use Rattle.spdx_parser.specs.Tree.{Tree}
 use Rattle.spdx.specs.declared.expression.judge.ExpressionJudge.{ExpressionJudge}
 use Rattle.spdx.specs.Places.{question_tree}
-use Rattle.spdx.specs.Value.{nows}
+use Rattle.spdx_evaluation.specs.Requirements.{nows}
 
 -- the trees of its expressions
 abbrev pub judged_trees : ExpressionJudge → List Tree

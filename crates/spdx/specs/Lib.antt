@@ -2,8 +2,6 @@ pub mod Value
 pub mod CodeLaws
 pub mod ExpressionModel
 pub mod Iterators
-pub mod Truth
-pub mod Calls
 pub mod Equality
 pub mod EqualityLaws
 pub mod Meaning
@@ -15,7 +13,6 @@ pub mod Laws
 pub mod Doubles
 pub mod MinimizeFaults
 pub mod Errors
-pub mod ByRequirement
 -- What contracts of this crate's calls cite of the crates below, so that callers name this crate alone. Where two
 -- modules have one name, the crate's word stands before it.
 pub use Rattle.spdx_catalogue.specs.Failures
@@ -56,6 +53,11 @@ pub use Rattle.spdx_parser.specs.Nodes
 pub use Rattle.spdx_parser.specs.Meaning as ParserMeaning
 pub use Rattle.spdx_parser.specs.Spans
 pub use Rattle.spdx_parser.specs.Tree
+pub use Rattle.spdx_evaluation.specs.ByRequirement
+pub use Rattle.spdx_evaluation.specs.Calls
+pub use Rattle.spdx_evaluation.specs.Postfix
+pub use Rattle.spdx_evaluation.specs.Requirements
+pub use Rattle.spdx_evaluation.specs.Truth
 pub use Rattle.spdx_canonical.specs.Canonical
 pub use Rattle.spdx_canonical.specs.Code as CanonicalCode
 pub use Rattle.spdx_canonical.specs.Law as CanonicalLaw

@@ -6,8 +6,9 @@ use Rattle.spdx_catalogue.specs.Items.{Requirement, requirement_of}
 use Rattle.spdx_parser.specs.declared.node.ExprNode.{ExprNode}
 use Rattle.spdx_parser.specs.Tree.{Tree, leaves, postfix}
 use Rattle.spdx_licensee.specs.Satisfies.{satisfies}
-use Rattle.spdx.specs.Value.{Written, requirements_in}
-use Rattle.spdx.specs.Truth.{truth_of}
+use Rattle.spdx.specs.Value.{Written}
+use Rattle.spdx_evaluation.specs.Requirements.{requirements_in}
+use Rattle.spdx_evaluation.specs.Truth.{truth_of}
 use Rattle.spdx.specs.declared.expression.question.Question.{Question}
 
 -- the trees of some expressions

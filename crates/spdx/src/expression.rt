@@ -3,7 +3,9 @@
 ghost use Rattle.std.specs.Prelude.{◌≡◌, ◌<◌, ◌^◌, IfOk, List, length, map, string_bytes};
 ghost use Rattle.spdx_parser.specs.Tree.{Tree, postfix, leaves, node_of};
 ghost use Rattle.spdx_parser.specs.Spans.{requirement_spans};
-ghost use Rattle.spdx.specs.Value.{Written, IsPostfix, tree_of, placed, placed_of, placed_in};
+ghost use Rattle.spdx.specs.Value.{Written, placed};
+ghost use Rattle.spdx_evaluation.specs.Postfix.{IsPostfix, tree_in};
+ghost use Rattle.spdx_evaluation.specs.Requirements.{placed_of, placed_in};
 ghost use Rattle.spdx.specs.Iterators.{nodes_left, placed_nodes, requirements_left};
 
 use smallvec::SmallVec;
@@ -93,7 +95,7 @@ impl<'c> Expression<'c> {
 
     // The nodes, of which a caller then knows that they are the postfix list of the tree.
     pub(crate) fn nodes(&self) -> &[ExprNode<'c>]
-        ensures tree { tree_of (map node_of result.now) ≡ self.now.tree }
+        ensures tree { tree_in result.now ≡ self.now.tree }
         ensures postfix { IsPostfix (map node_of result.now) }
         ensures placed { placed_in result.now ≡ placed self.now }
     {

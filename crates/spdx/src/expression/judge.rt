@@ -4,16 +4,16 @@ ghost use Rattle.std.specs.Prelude.{◌≡◌, ◌≤◌, [], ◌∷◌, IfOk, l
 ghost use Rattle.std.specs.List.{list_all};
 ghost use Rattle.spdx_catalogue.specs.Items.{requirement_of};
 ghost use Rattle.spdx_parser.specs.Tree.{leaves, postfix};
-ghost use Rattle.spdx.specs.Value.{nows};
+ghost use Rattle.spdx_evaluation.specs.Requirements.{nows};
 ghost use Rattle.spdx.specs.Places.{trees_of, places, places_in, met_by, any_at, question_tree, IsOver, answered, longest};
 
 use crate::expression::Expression;
 use crate::expression::question::Question;
-use spdx_catalogue::LicenseReq;
+use bit_stack::Truths;
 use least_selection::Sufficiency;
+use spdx_catalogue::LicenseReq;
 use spdx_licensee::Licensee;
 use spdx_parser::node::{ExprNode, Operator};
-use bit_stack::Truths;
 use std::alloc::{AllocError, Global};
 use std::slice;
 

@@ -8,13 +8,13 @@ ghost use Rattle.spdx_licensee.specs.Satisfies as spec;
 ghost use Rattle.spdx_catalogue.specs.Failures.{IfRefused};
 ghost use Rattle.spdx.specs.Choice.{satisfies_some, useful, chosen, chosen_of, choice_of, IsLeastChoice};
 ghost use Rattle.spdx.specs.Places.{trees_of};
-ghost use Rattle.spdx.specs.Value.{nows};
+ghost use Rattle.spdx_evaluation.specs.Requirements.{nows};
 ghost use Rattle.spdx.specs.MinimizeFaults.{refused_choice, minimize_text, minimize_description};
 
 use crate::expression::Expression;
 use crate::expression::judge::ExpressionJudge;
-use spdx_catalogue::{Failure, LicenseReq};
 use least_selection::select_least;
+use spdx_catalogue::{Failure, LicenseReq};
 use spdx_licensee::Licensee;
 use spdx_parser::node::ExprNode;
 use std::alloc::{AllocError, Global};

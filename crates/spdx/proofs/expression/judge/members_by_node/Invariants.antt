@@ -1,6 +1,6 @@
 use Rattle.std.proofs.Common.{◌≡◌, ◌++◌, drop, map}
 use Rattle.spdx.specs.Places.{places_in}
-use Rattle.spdx.specs.Value.{nows}
+use Rattle.spdx_evaluation.specs.Requirements.{nows}
 use Rattle.spdx.proofs.expression.judge.members_by_node.Given as goal
 
 abbrev pub invariant-loop-node : goal.invariant-loop-node

@@ -2,7 +2,7 @@ use Rattle.std.proofs.Common.{◌∙◌, ap, sym, ◌≡◌, length, map}
 use Rattle.std.proofs.lemmas.List.{length-map}
 use Rattle.spdx_parser.specs.Tree.{leaves, postfix, node_of}
 use Rattle.spdx.specs.Places.{places}
-use Rattle.spdx.specs.Value.{nows}
+use Rattle.spdx_evaluation.specs.Requirements.{nows}
 use Rattle.spdx.proofs.Places.{places_of_tree}
 use Rattle.spdx.proofs.expression.judge.question_of.Goals as goal
 

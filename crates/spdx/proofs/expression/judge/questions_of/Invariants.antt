@@ -1,6 +1,6 @@
 use Rattle.std.proofs.Common.{◌≡◌, ◌++◌, drop, map}
 use Rattle.spdx.specs.Places.{trees_of, question_tree, IsOver}
-use Rattle.spdx.specs.Value.{nows}
+use Rattle.spdx_evaluation.specs.Requirements.{nows}
 use Rattle.spdx.proofs.expression.judge.questions_of.Given as goal
 
 abbrev pub invariant-loop-expr : goal.invariant-loop-expr

@@ -4,7 +4,7 @@ use denote.Ref.{Bor}
 use Rattle.spdx_catalogue.specs.declared.requirement.LicenseReq.{LicenseReq}
 use Rattle.spdx_catalogue.specs.Items.{Requirement, requirement_of}
 use Rattle.spdx.specs.Choice.{chosen_of}
-use Rattle.spdx.specs.Value.{nows}
+use Rattle.spdx_evaluation.specs.Requirements.{nows}
 use Rattle.spdx.proofs.Chosen.{chosen_more}
 use Rattle.spdx.proofs.expression.minimize.chosen_requirements.Goals as goal
 use Rattle.spdx.proofs.expression.minimize.chosen_requirements.Goals.{then-selection-place+in_ok-try_clone+in_ok-push, else-selection-place}

@@ -1,7 +1,7 @@
 use Rattle.std.proofs.Common.{◌≡◌, ◌++◌, drop, map}
 use Rattle.spdx_catalogue.specs.Items.{requirement_of}
 use Rattle.spdx.specs.Choice.{chosen_of}
-use Rattle.spdx.specs.Value.{nows}
+use Rattle.spdx_evaluation.specs.Requirements.{nows}
 use Rattle.spdx.proofs.expression.minimize.chosen_requirements.Given as goal
 
 abbrev pub invariant-loop-place : goal.invariant-loop-place

@@ -4,7 +4,7 @@ use Rattle.spdx_catalogue.specs.Items.{Requirement}
 use Rattle.least_selection.specs.Selection.{IsLeast, NeedsEach, NoneSuffices}
 use Rattle.spdx.specs.Choice.{useful, chosen, chosen_of}
 use Rattle.spdx.specs.Places.{trees_of}
-use Rattle.spdx.specs.Value.{nows}
+use Rattle.spdx_evaluation.specs.Requirements.{nows}
 use Rattle.spdx.proofs.Chosen.{choice_least, choice_unmet, of_judge}
 use Rattle.spdx.proofs.expression.minimize.minimized_for_all.Goals as goal
 

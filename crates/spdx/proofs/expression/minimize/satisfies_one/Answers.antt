@@ -5,7 +5,7 @@ use Rattle.spdx_catalogue.specs.Items.{requirement_of}
 use Rattle.spdx_licensee.specs.Satisfies.{satisfies}
 use Rattle.spdx_parser.specs.declared.node.ExprNode.{ExprNode}
 use Rattle.spdx_parser.specs.Tree.{postfix, node_of}
-use Rattle.spdx.specs.Value.{requirements_in}
+use Rattle.spdx_evaluation.specs.Requirements.{requirements_in}
 use Rattle.spdx.proofs.Chosen.{any_in_tree, found_at}
 use Rattle.spdx.proofs.expression.minimize.satisfies_one.Goals as goal
 

@@ -10,7 +10,7 @@ use Rattle.spdx_catalogue.specs.contracts.requirement.LicenseReqOrd.TheImpl as r
 use Rattle.spdx_licensee.specs.Equality.{same_requirement}
 use Rattle.spdx.specs.Choice.{first_ones, satisfies_some}
 use Rattle.spdx.specs.Places.{trees_of}
-use Rattle.spdx.specs.Value.{nows}
+use Rattle.spdx_evaluation.specs.Requirements.{nows}
 use Rattle.spdx.proofs.Chosen.{first_more}
 use Rattle.spdx.proofs.Told.{told}
 use Rattle.spdx.proofs.expression.minimize.useful_members.Goals as goal

@@ -8,7 +8,7 @@ use Rattle.spdx_catalogue.specs.contracts.requirement.LicenseReqOrd.TheImpl as r
 use Rattle.spdx_licensee.specs.Equality.{same_requirement}
 use Rattle.spdx.specs.Choice.{first_ones, satisfies_some, useful}
 use Rattle.spdx.specs.Places.{trees_of}
-use Rattle.spdx.specs.Value.{nows}
+use Rattle.spdx_evaluation.specs.Requirements.{nows}
 use Rattle.spdx.proofs.expression.minimize.useful_members.Given as goal
 
 abbrev pub invariant-loop-licensee : goal.invariant-loop-licensee

@@ -1,7 +1,7 @@
 use Rattle.std.proofs.Common.{◌≡◌}
 use Rattle.std.specs.Fn.{CalledAt}
-use Rattle.spdx.proofs.Evaluating.{Evaluating, CallsOn}
-use Rattle.spdx.proofs.expression.evaluate.truth_over.Given as goal
+use Rattle.spdx_evaluation.proofs.Evaluating.{Evaluating, CallsOn}
+use Rattle.spdx_evaluation.proofs.truth.truth_over.Given as goal
 
 abbrev pub invariant-loop-node : goal.invariant-loop-node
 invariant-loop-node g l = record {

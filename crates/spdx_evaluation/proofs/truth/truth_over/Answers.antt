@@ -2,10 +2,10 @@ use Rattle.std.proofs.Common.{rules, of_calls, arith, refl, sym, ◌∙◌, ◌�
 use Rattle.spdx_parser.specs.declared.node.Operator.TheVariants.{And, Or}
 use Rattle.spdx_parser.specs.declared.node.ExprNode.TheVariants.{Op}
 use Rattle.spdx_parser.specs.Tree.{node_of}
-use Rattle.spdx.specs.Value.{tree_of}
-use Rattle.spdx.proofs.Evaluating.{begins, reads_requirement, reads_operator, two_there, one_left, finishes, evaluates}
-use Rattle.spdx.proofs.expression.evaluate.truth_over.Goals as goal
-use Rattle.spdx.proofs.expression.evaluate.truth_over.Goals.{in-Req, in-Op-And, in-Op-Or}
+use Rattle.spdx_evaluation.specs.Postfix.{tree_of}
+use Rattle.spdx_evaluation.proofs.Evaluating.{begins, reads_requirement, reads_operator, two_there, one_left, finishes, evaluates}
+use Rattle.spdx_evaluation.proofs.truth.truth_over.Goals as goal
+use Rattle.spdx_evaluation.proofs.truth.truth_over.Goals.{in-Req, in-Op-And, in-Op-Or}
 
 pub loop-node-init : goal.loop-node-init
 loop-node-init g c = record {

@@ -8,11 +8,11 @@ use Rattle.spdx_parser.specs.declared.node.Operator.{Operator}
 use Rattle.spdx_parser.specs.declared.node.ExpressionReq.{ExpressionReq}
 use Rattle.spdx_parser.specs.declared.node.ExprNode.{ExprNode}
 use Rattle.spdx_parser.specs.Tree.{Tree, Node, Op, postfix, leaves, node_of}
-use Rattle.spdx.specs.Truth.{joined, truth_of}
-use Rattle.spdx.specs.Value.{requirements_in}
-use Rattle.spdx.specs.Calls.{CallsGive, AsksFor, Evaluates}
-use Rattle.spdx.proofs.Nodes.{requirement_at, requirements_of_tree, requirements_in-append}
-use Rattle.spdx.proofs.Machine.{stack_behind, LeavesOne, stack_behind_postfix, leaves_one_postfix}
+use Rattle.spdx_evaluation.specs.Truth.{joined, truth_of}
+use Rattle.spdx_evaluation.specs.Requirements.{requirements_in}
+use Rattle.spdx_evaluation.specs.Calls.{CallsGive, AsksFor, Evaluates}
+use Rattle.spdx_evaluation.proofs.Nodes.{requirement_at, requirements_of_tree, requirements_in-append}
+use Rattle.spdx_evaluation.proofs.Machine.{stack_behind, LeavesOne, length-join_newest, stack_behind_postfix, leaves_one_postfix}
 
 pub calls_more : {F A R : Type 0} (S : F → A → R → F → Type 0) (f : F) (xs : List A) (bs : List R) (g : F) (x : A) (b : R) (h : F) → CallsGive S f xs bs g → S g x b h → CallsGive S f (xs ++ x ∷ []) (bs ++ b ∷ []) h
 calls_more {F} S f [] [] g x b h e s = (h, subst (λ (z : F). S z x b h) e s, refl)
@@ -84,11 +84,6 @@ reads_requirement {F} S f g nodes i s d r b h new v lt node called items room =
           subst (λ (n : ℕ). LeavesOne (map node_of (drop (i + 1) nodes)) n) (sym one_more) before;
       room = omega (arith, v.room, one_more, room);
     }
-
-length-join_newest : (join : Bool → Bool → Bool) (xs : List Bool) → 2 ≤ length xs → length (join_newest join xs) ≡ length xs - 1
-length-join_newest join [] h = absurd (omega arith)
-length-join_newest join (x ∷ []) h = absurd (omega arith)
-length-join_newest join (x ∷ y ∷ zs) h = omega arith
 
 -- at an operator there are two truths
 pub two_there : {F : Type 0} (S : F → ExpressionReq → Bool → F → Type 0) (f g : F) (nodes : List ExprNode) (i : ℕ) (s : Stack) (d : ExprNode) (o : Operator)

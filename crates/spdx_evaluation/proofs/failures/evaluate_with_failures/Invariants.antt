@@ -1,9 +1,9 @@
 use Rattle.std.proofs.Common.{◌+◌, ◌-◌, ◌≤◌, [], length, vec_len, vec_capacity}
 use Rattle.std.specs.Fn.{CalledAt}
-use Rattle.spdx.specs.Value.{nows}
-use Rattle.spdx.proofs.Evaluating.{Evaluating, CallsOn}
-use Rattle.spdx.proofs.Logging.{Logs}
-use Rattle.spdx.proofs.expression.Expression.evaluate_with_failures.Given as goal
+use Rattle.spdx_evaluation.specs.Requirements.{nows}
+use Rattle.spdx_evaluation.proofs.Evaluating.{Evaluating, CallsOn}
+use Rattle.spdx_evaluation.proofs.Logging.{Logs}
+use Rattle.spdx_evaluation.proofs.failures.evaluate_with_failures.Given as goal
 
 abbrev pub invariant-loop-node : goal.invariant-loop-node
 invariant-loop-node g l = record {

@@ -10,7 +10,7 @@ use Rattle.spdx_parser.specs.declared.node.ExprNode.{ExprNode}
 use Rattle.spdx_parser.specs.Tree.{Tree, Leaf, Join, Node, Op, Req, postfix, leaves, node_of}
 use Rattle.spdx_lexer.specs.Code.{span_of}
 use Rattle.spdx_parser.specs.Spans.{requirement_spans, node_span}
-use Rattle.spdx.specs.Value.{PlacedRequirement, placed_of, requirements_in, placed_in}
+use Rattle.spdx_evaluation.specs.Requirements.{PlacedRequirement, placed_of, requirements_in, placed_in}
 
 abbrev pub requirement_at : ExpressionReq → Requirement
 requirement_at r = requirement_of r.req

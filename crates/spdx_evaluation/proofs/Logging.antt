@@ -6,9 +6,9 @@ use Rattle.bit_stack.specs.Truths.{Stack}
 use Rattle.spdx_parser.specs.declared.node.ExpressionReq.{ExpressionReq}
 use Rattle.spdx_parser.specs.declared.node.ExprNode.{ExprNode}
 use Rattle.spdx_parser.specs.Tree.{Tree, postfix, node_of}
-use Rattle.spdx.specs.Value.{Written, placed_of, placed, requirements_in, placed_in, kept_if_false}
-use Rattle.spdx.specs.Calls.{CallsGive, EvaluatesToFalse, refused}
-use Rattle.spdx.proofs.Evaluating.{Evaluating, Evaluated, finishes, asks_of_tree, CallsOn}
+use Rattle.spdx_evaluation.specs.Requirements.{placed_of, requirements_in, placed_in, kept_if_false}
+use Rattle.spdx_evaluation.specs.Calls.{CallsGive, EvaluatesToFalse, refused}
+use Rattle.spdx_evaluation.proofs.Evaluating.{Evaluating, Evaluated, finishes, asks_of_tree, CallsOn}
 
 -- a call beside a list that keeps what was refused
 pub record Logs {F A : Type 0} (S : F → A → Bool → F → Type 0) (f : F × List A) (x : A) (b : Bool) (g : F × List A) : Type 0 where
@@ -55,7 +55,7 @@ finishes_log S f g failed nodes i s truth rest t v le items tree =
     }
 
 -- as callers are told it
-pub fails : {F : Type 0} (S : F → LicenseReq → Bool → F → Type 0) (f g : F) (failed : List ExpressionReq) (nodes : List ExprNode) (truth : Bool) (w : Written)
-    → map node_of nodes ≡ postfix w.tree → placed_in nodes ≡ placed w → truth ≡ false → Logged S f nodes w.tree g failed truth → EvaluatesToFalse S f w (map placed_of failed) g
-fails S f g failed nodes truth w tree places is_false v =
-    (v.evaluated.answers, asks_of_tree S f g nodes w.tree v.evaluated.answers tree v.evaluated.calls, sym v.evaluated.value ∙ is_false, v.failures ∙ ap (λ z. refused z v.evaluated.answers) places)
+pub fails : {F : Type 0} (S : F → LicenseReq → Bool → F → Type 0) (f g : F) (failed : List ExpressionReq) (nodes : List ExprNode) (truth : Bool) (t : Tree)
+    → map node_of nodes ≡ postfix t → truth ≡ false → Logged S f nodes t g failed truth → EvaluatesToFalse S f t (placed_in nodes) (map placed_of failed) g
+fails S f g failed nodes truth t tree is_false v =
+    (v.evaluated.answers, asks_of_tree S f g nodes t v.evaluated.answers tree v.evaluated.calls, sym v.evaluated.value ∙ is_false, v.failures)

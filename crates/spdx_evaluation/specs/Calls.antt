@@ -3,8 +3,8 @@ use Rattle.std.specs.Prelude.{◌≡◌, Bool, true, false, List, [], ◌∷◌}
 use Rattle.spdx_catalogue.specs.declared.requirement.LicenseReq.{LicenseReq}
 use Rattle.spdx_catalogue.specs.Items.{Requirement, requirement_of}
 use Rattle.spdx_parser.specs.Tree.{Tree, leaves}
-use Rattle.spdx.specs.Value.{Written, PlacedRequirement, placed}
-use Rattle.spdx.specs.Truth.{truth_of}
+use Rattle.spdx_evaluation.specs.Requirements.{PlacedRequirement}
+use Rattle.spdx_evaluation.specs.Truth.{truth_of}
 
 -- Called at each of xs in order, each call in the state that the one before left, a closure that was in state f answered bs
 -- and was left in state g. `S f x b h` says what one call does: called at x in state f, it answers b and is left in state h.
@@ -30,6 +30,6 @@ refused (x ∷ xs) (false ∷ bs) = x ∷ refused xs bs
 abbrev pub Evaluates : {F : Type 0} → (F → LicenseReq → Bool → F → Type 0) → F → Tree → Bool → F → Type 0
 Evaluates S f t truth g = (answers : List Bool) × CallsGive (AsksFor S) f (leaves t) answers g × (truth ≡ truth_of t answers)
 
--- the same where the truth is false, with every requirement whose answer was false
-abbrev pub EvaluatesToFalse : {F : Type 0} → (F → LicenseReq → Bool → F → Type 0) → F → Written → List PlacedRequirement → F → Type 0
-EvaluatesToFalse S f w failed g = (answers : List Bool) × CallsGive (AsksFor S) f (leaves w.tree) answers g × (truth_of w.tree answers ≡ false) × (failed ≡ refused (placed w) answers)
+-- the same where the truth is false, with every requirement of the tree, of those with their places, whose answer was false
+abbrev pub EvaluatesToFalse : {F : Type 0} → (F → LicenseReq → Bool → F → Type 0) → F → Tree → List PlacedRequirement → List PlacedRequirement → F → Type 0
+EvaluatesToFalse S f t placed failed g = (answers : List Bool) × CallsGive (AsksFor S) f (leaves t) answers g × (truth_of t answers ≡ false) × (failed ≡ refused placed answers)

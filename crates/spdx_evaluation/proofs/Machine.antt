@@ -2,9 +2,9 @@
 use Rattle.std.proofs.Common.{◌≡◌, ℕ, ◌+◌, ◌-◌, ◌≤◌, Bool, false, List, [], ◌∷◌, ◌++◌, length, take, drop, refl, sym, ◌∙◌, ap, subst, arith, get_or}
 use Rattle.std.proofs.lemmas.List.{append_assoc, length-append, length-drop, length-take-le, take-append-drop}
 use Rattle.bit_stack.specs.Truths.{join_newest}
-use Rattle.spdx_parser.specs.declared.node.Operator.{Operator}
 use Rattle.spdx_parser.specs.Tree.{Tree, Leaf, Join, Node, Op, Req, postfix, leaves}
-use Rattle.spdx.specs.Truth.{joined, truth_of}
+use Rattle.spdx_evaluation.specs.PostfixLaws.{regroup}
+use Rattle.spdx_evaluation.specs.Truth.{joined, truth_of}
 
 -- what the nodes make of a stack, over answers to the requirements among them
 abbrev pub stack_behind : List Node → List Bool → List Bool → List Bool
@@ -18,8 +18,10 @@ LeavesOne [] n = n ≡ 1
 LeavesOne (Req r ∷ ns) n = LeavesOne ns (n + 1)
 LeavesOne (Op o ∷ ns) n = (2 ≤ n) × LeavesOne ns (n - 1)
 
-regroup : (o : Operator) (l r : Tree) (ns : List Node) → postfix (Join o l r) ++ ns ≡ postfix l ++ (postfix r ++ Op o ∷ ns)
-regroup o l r ns = simp append_assoc
+pub length-join_newest : (join : Bool → Bool → Bool) (xs : List Bool) → 2 ≤ length xs → length (join_newest join xs) ≡ length xs - 1
+length-join_newest join [] h = absurd (omega arith)
+length-join_newest join (x ∷ []) h = absurd (omega arith)
+length-join_newest join (x ∷ y ∷ zs) h = omega arith
 
 pub stack_behind_postfix : (t : Tree) (answers more : List Bool) (ns : List Node) (stack : List Bool) → length answers ≡ length (leaves t) → stack_behind (postfix t ++ ns) (answers ++ more) stack ≡ stack_behind ns more (truth_of t answers ∷ stack)
 stack_behind_postfix (Leaf r) [] more ns stack e = absurd (omega arith)

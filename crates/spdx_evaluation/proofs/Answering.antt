@@ -6,11 +6,11 @@ use Rattle.spdx_catalogue.specs.declared.requirement.LicenseReq.{LicenseReq}
 use Rattle.spdx_catalogue.specs.Items.{Requirement}
 use Rattle.spdx_lexer.specs.Words.{Span}
 use Rattle.spdx_parser.specs.Tree.{Tree, leaves}
-use Rattle.spdx.specs.ByRequirement.{AnswersBy, FailsBy}
-use Rattle.spdx.specs.Calls.{CallsGive, AsksFor, refused, Evaluates, EvaluatesToFalse}
-use Rattle.spdx.specs.Choice.{holds}
-use Rattle.spdx.specs.Truth.{truth_of}
-use Rattle.spdx.specs.Value.{Written, PlacedRequirement, placed}
+use Rattle.spdx_evaluation.specs.ByRequirement.{AnswersBy, FailsBy}
+use Rattle.spdx_evaluation.specs.Calls.{CallsGive, AsksFor, refused, Evaluates, EvaluatesToFalse}
+use Rattle.spdx_evaluation.specs.Truth.{holds}
+use Rattle.spdx_evaluation.specs.Truth.{truth_of}
+use Rattle.spdx_evaluation.specs.Requirements.{PlacedRequirement}
 
 -- a requirement is kept exactly if its answer is false
 keeps : (b : Bool) (x : PlacedRequirement) (xs : List PlacedRequirement) (bs : List Bool) (kept : List PlacedRequirement) → refused xs bs ≡ kept → refused (x ∷ xs) (b ∷ bs) ≡ cond (not b) (x ∷ kept) kept
@@ -36,7 +36,9 @@ module _ {F : Type 0} (S : F → LicenseReq → Bool → F → Type 0) (f : F) (
   pub holds_by : (t : Tree) (truth : Bool) (g : F) → Evaluates S f t truth g → truth ≡ holds h t
   holds_by t truth g (answers, calls, is) = is ∙ ap (truth_of t) (answers_are f refl (leaves t) answers g calls)
 
-  pub fails_by : (w : Written) (failed : List PlacedRequirement) (g : F) → EvaluatesToFalse S f w failed g → FailsBy h w failed
-  fails_by w failed g (answers, calls, is, failed_are) =
-      let known = answers_are f refl (leaves w.tree) answers g calls in
-      (sym (ap (truth_of w.tree) known) ∙ is, failed_are ∙ ap (refused (placed w)) known ∙ refused_are h (leaves w.tree) w.spans)
+  pub fails_by : (t : Tree) (spans : List Span) (placed failed : List PlacedRequirement) (g : F) → placed ≡ zip (leaves t) spans → EvaluatesToFalse S f t placed failed g → FailsBy h t placed failed
+  fails_by t spans placed failed g apart (answers, calls, is, failed_are) =
+      let known = answers_are f refl (leaves t) answers g calls in
+      let kept : refused placed (map h (leaves t)) ≡ filter (λ p. not (h p.0)) placed =
+      subst (λ (z : List PlacedRequirement). refused z (map h (leaves t)) ≡ filter (λ p. not (h p.0)) z) (sym apart) (refused_are h (leaves t) spans) in
+      (sym (ap (truth_of t) known) ∙ is, failed_are ∙ ap (refused placed) known ∙ kept)
