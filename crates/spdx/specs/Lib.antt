@@ -12,7 +12,6 @@ pub mod JudgeModel
 pub mod Laws
 pub mod Doubles
 pub mod MinimizeFaults
-pub mod Errors
 -- What contracts of this crate's calls cite of the crates below, so that callers name this crate alone. Where two
 -- modules have one name, the crate's word stands before it.
 pub use Rattle.spdx_catalogue.specs.Failures
@@ -53,6 +52,8 @@ pub use Rattle.spdx_parser.specs.Nodes
 pub use Rattle.spdx_parser.specs.Meaning as ParserMeaning
 pub use Rattle.spdx_parser.specs.Spans
 pub use Rattle.spdx_parser.specs.Tree
+pub use Rattle.spdx_error.specs.Errors
+pub use Rattle.spdx_error.specs.MinimizeTexts
 pub use Rattle.spdx_evaluation.specs.ByRequirement
 pub use Rattle.spdx_evaluation.specs.Calls
 pub use Rattle.spdx_evaluation.specs.Postfix

@@ -1,6 +1,6 @@
 //! The least choice of licensees that makes expressions true.
 
-ghost use Rattle.std.specs.Prelude.{◌≡◌, [], ◌∷◌, Some, Bool, List, IfOk, IfErr, length, map};
+ghost use Rattle.std.specs.Prelude.{◌≡◌, [], ◌∷◌, Bool, List, IfOk, IfErr, length, map};
 ghost use Rattle.std.specs.List.{list_any};
 ghost use Rattle.spdx_catalogue.specs.Items.{requirement_of};
 ghost use Rattle.spdx_parser.specs.Tree.{leaves};
@@ -9,54 +9,18 @@ ghost use Rattle.spdx_catalogue.specs.Failures.{IfRefused};
 ghost use Rattle.spdx.specs.Choice.{satisfies_some, useful, chosen, chosen_of, choice_of, IsLeastChoice};
 ghost use Rattle.spdx.specs.Places.{trees_of};
 ghost use Rattle.spdx_evaluation.specs.Requirements.{nows};
-ghost use Rattle.spdx.specs.MinimizeFaults.{refused_choice, minimize_text, minimize_description};
+ghost use Rattle.spdx.specs.MinimizeFaults.{refused_choice};
 
 use crate::expression::Expression;
 use crate::expression::judge::ExpressionJudge;
 use least_selection::select_least;
 use spdx_catalogue::{Failure, LicenseReq};
+use spdx_error::MinimizeError;
 use spdx_licensee::Licensee;
 use spdx_parser::node::ExprNode;
 use std::alloc::{AllocError, Global};
 use std::collections::BTreeSet;
-use std::{fmt, slice};
-
-/// Why there is no choice of licensees.
-#[derive(Clone, Copy, Debug, PartialEq, Eq)]
-pub enum MinimizeError {
-    /// So many licensees are useful, which is more than 1,024.
-    TooManyRequirements(usize),
-    /// Not even all useful licensees together make the expressions true.
-    RequirementsUnmet,
-}
-
-impl MinimizeError {
-    /// What the error says, apart from the number.
-    pub fn description(&self) -> &'static str
-        ensures { result.now ≡ minimize_description self.now }
-    {
-        match self {
-            MinimizeError::TooManyRequirements(_) => "too many requirements in license expression",
-            MinimizeError::RequirementsUnmet => {
-                "the expression was not satisfied by the provided list of licensees"
-            }
-        }
-    }
-}
-
-impl fmt::Display for MinimizeError {
-    ghost output = { λ e. Some (minimize_text e) };
-
-    fn fmt<W: fmt::Write>(&self, f: &mut fmt::Formatter<W>) -> fmt::Result {
-        match self {
-            MinimizeError::TooManyRequirements(count) => write!(
-                f,
-                "the license expression required {count} licensees which exceeds the limit of 1024"
-            ),
-            MinimizeError::RequirementsUnmet => f.write_str(self.description()),
-        }
-    }
-}
+use std::slice;
 
 impl<'c> Expression<'c> {
     /// The requirements of the licensees in the least choice that makes the expression true:

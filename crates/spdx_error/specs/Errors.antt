@@ -6,10 +6,10 @@ use Rattle.spdx_catalogue.specs.declared.error.ReadFault.{ReadFault}
 use Rattle.spdx_catalogue.specs.Faults.{read_text}
 use Rattle.spdx_lexer.specs.declared.error.ParseError.{ParseError}
 use Rattle.spdx_lexer.specs.Faults as lexer
-use Rattle.spdx.specs.declared.expression.minimize.MinimizeError.{MinimizeError}
-use Rattle.spdx.specs.declared.error.Error.{Error}
-use Rattle.spdx.specs.declared.error.Error.TheVariants.{Catalogue, Parse, Minimize, Memory}
-use Rattle.spdx.specs.MinimizeFaults.{minimize_text}
+use Rattle.spdx_error.specs.declared.minimize_error.MinimizeError.{MinimizeError}
+use Rattle.spdx_error.specs.declared.error.Error.{Error}
+use Rattle.spdx_error.specs.declared.error.Error.TheVariants.{Catalogue, Parse, Minimize, Memory}
+use Rattle.spdx_error.specs.MinimizeTexts.{minimize_text}
 
 -- the text of what was refused
 abbrev pub library_text : Error → List ℕ
