@@ -1,10 +1,4 @@
 pub mod Leaves
 pub mod Alike
-pub mod Selections
-pub mod Asking
-pub mod Places
-pub mod Chosen
-pub mod Doubles
-pub mod Told
 pub mod Telling
 pub mod PlacedNodes

@@ -1,5 +1,6 @@
 -- An expression as it was written: its text, its tree, and the places of its requirements.
-use Rattle.std.specs.Prelude.{ℕ, List}
+use Rattle.std.specs.Prelude.{ℕ, List, map}
+use denote.Ref.{Bor}
 use Rattle.std.specs.List.{zip}
 use Rattle.spdx_lexer.specs.Words.{Span}
 use Rattle.spdx_parser.specs.Tree.{Tree, leaves}
@@ -14,3 +15,7 @@ pub record Written : Type 0 where
 -- the requirements from left to right, each with its place
 abbrev pub placed : Written → List PlacedRequirement
 placed w = zip (leaves w.tree) w.spans
+
+-- the trees of some expressions
+abbrev pub trees_of : List (Bor Written) → List Tree
+trees_of es = map (λ e. e.now.tree) es

@@ -17,17 +17,16 @@ mod equality;
 pub mod evaluate;
 pub mod iterators;
 pub mod judge;
-pub mod laws;
 pub mod minimize;
 mod normal;
 mod parser;
-mod question;
 mod texts;
 
 pub use iterators::{Nodes, Requirements};
 pub use judge::ExpressionJudge;
 pub use minimize::minimized_for_all;
 pub use spdx_error::MinimizeError;
+pub use spdx_minimize::laws;
 // The default of a node fills the unused places of a `SmallVec`; it means nothing, and no call gives it.
 pub use spdx_parser::node::{ExprNode, ExpressionReq, Operator};
 

@@ -3,8 +3,8 @@ use Rattle.std.specs.Prelude.{◌≡◌, ℕ, List, []}
 use Rattle.line_engine.specs.Rule.{Rule}
 use Rattle.spdx_catalogue.specs.Rows.{Rows}
 use Rattle.spdx_catalogue.specs.Items.{Requirement}
-use Rattle.spdx.specs.Choice.{choice_of}
-use Rattle.spdx.specs.Doubles.{SameMembers}
+use Rattle.spdx_minimize.specs.Choice.{choice_of}
+use Rattle.spdx_minimize.specs.Doubles.{SameMembers}
 use Rattle.spdx_lines.specs.declared.lines.LineMode.{LineMode}
 use Rattle.spdx_lines.specs.Verdict.{verdict, verdict_text, choice_column, no_column, counts_as_refused, accepted_trees, all_text, IsTheVerdict}
 
