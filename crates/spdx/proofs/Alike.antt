@@ -5,8 +5,8 @@ use Rattle.std.proofs.lemmas.Bool.Decides.{same_from_decides}
 use Rattle.spdx_parser.specs.declared.node.Operator.{Operator}
 use Rattle.spdx_parser.specs.Tree.{Tree, Leaf, Join, Node, Op, Req, postfix}
 use Rattle.std.proofs.lemmas.List.{append-nil}
-use Rattle.spdx.specs.Value.{join_trees, trees_behind}
-use Rattle.spdx.specs.CodeLaws.{trees_behind_postfix}
+use Rattle.spdx_evaluation.specs.Postfix.{join_trees, trees_behind}
+use Rattle.spdx_evaluation.specs.PostfixLaws.{trees_behind_postfix}
 use Rattle.spdx_licensee.specs.Equality.{same_requirement}
 use Rattle.spdx_licensee.specs.EqualityLaws.{both_true, true_both}
 use Rattle.spdx.specs.Equality.{same_operator, same_node, same_tree}

@@ -1,15 +1,4 @@
-pub mod Nodes
 pub mod Leaves
-pub mod Machine
-pub mod Evaluating
-pub mod Logging
 pub mod Alike
-pub mod Selections
-pub mod Asking
-pub mod Places
-pub mod Chosen
-pub mod Doubles
-pub mod Told
 pub mod Telling
 pub mod PlacedNodes
-pub mod Answering

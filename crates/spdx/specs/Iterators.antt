@@ -3,7 +3,8 @@ use Rattle.std.specs.Prelude.{List, [], ◌∷◌, Some, None, map}
 use Rattle.spdx_lexer.specs.Words.{Span}
 use Rattle.spdx_parser.specs.Tree.{Node, Op, Req, postfix}
 use Rattle.spdx_parser.specs.Nodes.{PlacedNode, placed_node}
-use Rattle.spdx.specs.Value.{Written, PlacedRequirement, placed_in}
+use Rattle.spdx.specs.Value.{Written}
+use Rattle.spdx_evaluation.specs.Requirements.{PlacedRequirement, placed_in}
 use Rattle.spdx.specs.declared.expression.iterators.Nodes.{Nodes}
 use Rattle.spdx.specs.declared.expression.iterators.Requirements.{Requirements}
 

@@ -2,20 +2,10 @@ pub mod Value
 pub mod CodeLaws
 pub mod ExpressionModel
 pub mod Iterators
-pub mod Truth
-pub mod Calls
 pub mod Equality
 pub mod EqualityLaws
 pub mod Meaning
-pub mod Choice
-pub mod GrowthLaws
-pub mod Places
 pub mod JudgeModel
-pub mod Laws
-pub mod Doubles
-pub mod MinimizeFaults
-pub mod Errors
-pub mod ByRequirement
 -- What contracts of this crate's calls cite of the crates below, so that callers name this crate alone. Where two
 -- modules have one name, the crate's word stands before it.
 pub use Rattle.spdx_catalogue.specs.Failures
@@ -56,6 +46,18 @@ pub use Rattle.spdx_parser.specs.Nodes
 pub use Rattle.spdx_parser.specs.Meaning as ParserMeaning
 pub use Rattle.spdx_parser.specs.Spans
 pub use Rattle.spdx_parser.specs.Tree
+pub use Rattle.spdx_error.specs.Errors
+pub use Rattle.spdx_error.specs.MinimizeTexts
+pub use Rattle.spdx_evaluation.specs.ByRequirement
+pub use Rattle.spdx_evaluation.specs.Calls
+pub use Rattle.spdx_evaluation.specs.Postfix
+pub use Rattle.spdx_evaluation.specs.Requirements
+pub use Rattle.spdx_evaluation.specs.Truth
+pub use Rattle.spdx_minimize.specs.Choice
+pub use Rattle.spdx_minimize.specs.Doubles
+pub use Rattle.spdx_minimize.specs.GrowthLaws
+pub use Rattle.spdx_minimize.specs.Laws
+pub use Rattle.spdx_minimize.specs.MinimizeFaults
 pub use Rattle.spdx_canonical.specs.Canonical
 pub use Rattle.spdx_canonical.specs.Code as CanonicalCode
 pub use Rattle.spdx_canonical.specs.Law as CanonicalLaw

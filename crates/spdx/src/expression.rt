@@ -3,7 +3,9 @@
 ghost use Rattle.std.specs.Prelude.{◌≡◌, ◌<◌, ◌^◌, IfOk, List, length, map, string_bytes};
 ghost use Rattle.spdx_parser.specs.Tree.{Tree, postfix, leaves, node_of};
 ghost use Rattle.spdx_parser.specs.Spans.{requirement_spans};
-ghost use Rattle.spdx.specs.Value.{Written, IsPostfix, tree_of, placed, placed_of, placed_in};
+ghost use Rattle.spdx.specs.Value.{Written, placed};
+ghost use Rattle.spdx_evaluation.specs.Postfix.{IsPostfix, tree_in};
+ghost use Rattle.spdx_evaluation.specs.Requirements.{placed_of, placed_in};
 ghost use Rattle.spdx.specs.Iterators.{nodes_left, placed_nodes, requirements_left};
 
 use smallvec::SmallVec;
@@ -15,16 +17,16 @@ mod equality;
 pub mod evaluate;
 pub mod iterators;
 pub mod judge;
-pub mod laws;
 pub mod minimize;
 mod normal;
 mod parser;
-mod question;
 mod texts;
 
 pub use iterators::{Nodes, Requirements};
 pub use judge::ExpressionJudge;
-pub use minimize::{MinimizeError, minimized_for_all};
+pub use minimize::minimized_for_all;
+pub use spdx_error::MinimizeError;
+pub use spdx_minimize::laws;
 // The default of a node fills the unused places of a `SmallVec`; it means nothing, and no call gives it.
 pub use spdx_parser::node::{ExprNode, ExpressionReq, Operator};
 
@@ -93,7 +95,7 @@ impl<'c> Expression<'c> {
 
     // The nodes, of which a caller then knows that they are the postfix list of the tree.
     pub(crate) fn nodes(&self) -> &[ExprNode<'c>]
-        ensures tree { tree_of (map node_of result.now) ≡ self.now.tree }
+        ensures tree { tree_in result.now ≡ self.now.tree }
         ensures postfix { IsPostfix (map node_of result.now) }
         ensures placed { placed_in result.now ≡ placed self.now }
     {

@@ -9,9 +9,9 @@ use Rattle.spdx_catalogue.specs.Rows.{Rows}
 use Rattle.spdx_catalogue.specs.Items.{Requirement}
 use Rattle.spdx_parser.specs.Tree.{Tree}
 use Rattle.spdx_parser.specs.Meaning.{IsOfRows}
-use Rattle.spdx.specs.Choice.{Choice, choice_of}
-use Rattle.spdx.specs.Doubles.{SameMembers}
-use Rattle.spdx.proofs.Doubles.{choice_same}
+use Rattle.spdx_minimize.specs.Choice.{Choice, choice_of}
+use Rattle.spdx_minimize.specs.Doubles.{SameMembers}
+use Rattle.spdx_minimize.proofs.Doubles.{choice_same}
 use Rattle.spdx_lines.specs.declared.lines.LineMode.{LineMode}
 use Rattle.spdx_lines.specs.Verdict.{Accepted, tree_in, choice_text, all_text}
 use Rattle.spdx_lines.specs.Lines.{ClosesAlike}

@@ -3,7 +3,7 @@ use Rattle.std.specs.Prelude.{◌≡◌, ℕ, true, List, [], ◌∷◌, ◌++�
 use Rattle.spdx_catalogue.specs.Rows.{Rows}
 use Rattle.spdx_parser.specs.Tree.{Tree}
 use Rattle.spdx_parser.specs.Meaning.{IsOfRows}
-use Rattle.spdx.specs.Doubles.{SameMembers}
+use Rattle.spdx_minimize.specs.Doubles.{SameMembers}
 use Rattle.spdx_lines.specs.declared.lines.LineMode.{LineMode}
 use Rattle.spdx_lines.specs.Verdict.{Accepted, verdict_text, counts_as_refused, tree_in}
 use Rattle.spdx_lines.specs.Found.{verdict}

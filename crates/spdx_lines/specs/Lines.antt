@@ -8,8 +8,8 @@ use Rattle.line_engine.specs.Rule.{Rule}
 use Rattle.line_engine.specs.Runs.{Runs}
 use Rattle.spdx_catalogue.specs.Rows.{Rows}
 use Rattle.spdx_catalogue.specs.Items.{Requirement}
-use Rattle.spdx.specs.Choice.{choice_of}
-use Rattle.spdx.specs.Doubles.{SameMembers}
+use Rattle.spdx_minimize.specs.Choice.{choice_of}
+use Rattle.spdx_minimize.specs.Doubles.{SameMembers}
 use Rattle.spdx_lines.specs.declared.lines.LineMode.{LineMode}
 use Rattle.spdx_lines.specs.Verdict.{Verdict, verdict_text, choice_column, no_column, counts_as_refused, trees_by, all_text, IsTheVerdict}
 

@@ -4,7 +4,7 @@ ghost use Rattle.std.specs.Prelude.{◌≡◌, [], ◌∷◌, ◌++◌, List, ma
 ghost use Rattle.spdx_catalogue.specs.Rows.{Rows};
 ghost use Rattle.spdx_parser.specs.Meaning.{IsOfRows};
 ghost use Rattle.spdx_parser.specs.Tree.{Tree};
-ghost use Rattle.spdx.specs.Places.{trees_of};
+ghost use Rattle.spdx.specs.Value.{trees_of};
 ghost use Rattle.spdx_lines.specs.Answer.{AreKept};
 ghost use Rattle.spdx_lines.specs.Trees.{trees_in};
 

@@ -9,8 +9,8 @@ ghost use Rattle.spdx_lexer.specs.Code.{span_of};
 ghost use Rattle.spdx_lexer.specs.Faults.{fault_of};
 ghost use Rattle.spdx_canonical.specs.Canonical.{canonical_of};
 ghost use Rattle.spdx_parser.specs.Tree.{Tree};
-ghost use Rattle.spdx.specs.Choice.{choice_of};
-ghost use Rattle.spdx.specs.Places.{trees_of};
+ghost use Rattle.spdx_minimize.specs.Choice.{choice_of};
+ghost use Rattle.spdx.specs.Value.{trees_of};
 ghost use Rattle.spdx_lines.specs.Verdict.{Refused, IsColumn, choice_text, refusal_text, verdict_text};
 
 use crate::lines::LineMode;

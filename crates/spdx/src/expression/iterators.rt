@@ -2,7 +2,7 @@
 
 ghost use Rattle.std.specs.Prelude.{◌≡◌, map};
 ghost use Rattle.spdx_parser.specs.Nodes.{placed_node};
-ghost use Rattle.spdx.specs.Value.{placed_of, placed_in};
+ghost use Rattle.spdx_evaluation.specs.Requirements.{placed_of, placed_in};
 
 use spdx_parser::node::{ExprNode, ExpressionReq};
 

@@ -1,19 +1,14 @@
 //! Judging selections of licensees.
 
-ghost use Rattle.std.specs.Prelude.{◌≡◌, ◌≤◌, [], ◌∷◌, IfOk, length, map, true};
-ghost use Rattle.std.specs.List.{list_all};
-ghost use Rattle.spdx_catalogue.specs.Items.{requirement_of};
-ghost use Rattle.spdx_parser.specs.Tree.{leaves, postfix};
-ghost use Rattle.spdx.specs.Value.{nows};
-ghost use Rattle.spdx.specs.Places.{trees_of, places, places_in, met_by, any_at, question_tree, IsOver, answered, longest};
+ghost use Rattle.std.specs.Prelude.{◌≡◌, [], ◌∷◌, IfOk, length};
+ghost use Rattle.spdx_evaluation.specs.Requirements.{nows};
+ghost use Rattle.spdx_minimize.specs.Trees.{trees_in};
+ghost use Rattle.spdx.specs.Value.{trees_of};
 
 use crate::expression::Expression;
-use crate::expression::question::Question;
-use spdx_catalogue::LicenseReq;
 use least_selection::Sufficiency;
 use spdx_licensee::Licensee;
-use spdx_parser::node::{ExprNode, Operator};
-use bit_stack::Truths;
+use spdx_minimize::{NodesJudge, TreeNodes};
 use std::alloc::{AllocError, Global};
 use std::slice;
 
@@ -26,16 +21,11 @@ use std::slice;
 /// it up to the first that is chosen.
 #[derive(Drop)]
 pub struct ExpressionJudge<'a, 'c: 'a> {
-    questions: Vec<Question<'a, 'c>>,
-    members: Vec<&'a Licensee<'c>>,
-    truths: Truths,
-    asked: u64,
-    ghost over: { IsOver (nows members.items) questions.items },
-    ghost room: { longest questions.items ≤ truths.room },
+    of_nodes: NodesJudge<'a, 'c>,
 }
 
 impl<'a, 'c: 'a> ExpressionJudge<'a, 'c> {
-    ghost use Rattle.spdx.specs.JudgeModel.{judged_trees, judged_members};
+    ghost use Rattle.spdx.specs.JudgeModel.{judged_trees, judged_members, judged_count, questions_asked};
 
     /// The judge of one expression over these members.
     pub fn new(
@@ -45,14 +35,16 @@ impl<'a, 'c: 'a> ExpressionJudge<'a, 'c> {
     ) -> Result<Self, AllocError>
         ensures tree { IfOk result (λ judge. judged_trees judge ≡ expr.now.tree ∷ []) }
         ensures members { IfOk result (λ judge. judged_members judge ≡ nows members.now) }
-        ensures count { IfOk result (λ judge. length judge.members.items ≡ length members.now) }
-        ensures asked { IfOk result (λ judge. judge.asked ≡ 0) }
+        ensures count { IfOk result (λ judge. judged_count judge ≡ length members.now) }
+        ensures asked { IfOk result (λ judge. questions_asked judge ≡ 0) }
     {
-        Self::new_all(alloc, slice::from_ref(&expr), members)
+        let list = TreeNodes::new(expr.nodes());
+        let of_nodes = NodesJudge::new(alloc, slice::from_ref(&list), members)?;
+        Ok(ExpressionJudge { of_nodes })
     }
 
     /// The judge of these expressions over these members. Each member is compared with each
-    /// requirement once.
+    /// requirement once. While it is made, a list of the expressions takes memory.
     pub fn new_all(
         alloc: Global,
         exprs: &[&'a Expression<'c>],
@@ -60,174 +52,54 @@ impl<'a, 'c: 'a> ExpressionJudge<'a, 'c> {
     ) -> Result<Self, AllocError>
         ensures trees { IfOk result (λ judge. judged_trees judge ≡ trees_of exprs.now) }
         ensures members { IfOk result (λ judge. judged_members judge ≡ nows members.now) }
-        ensures count { IfOk result (λ judge. length judge.members.items ≡ length members.now) }
-        ensures asked { IfOk result (λ judge. judge.asked ≡ 0) }
+        ensures count { IfOk result (λ judge. judged_count judge ≡ length members.now) }
+        ensures asked { IfOk result (λ judge. questions_asked judge ≡ 0) }
     {
-        let questions = questions_of(alloc, exprs, members)?;
-        let members = Vec::from_slice(alloc, members)?;
-        let truths = Truths::with_room(alloc, longest_of(questions.as_slice()))?;
-        Ok(ExpressionJudge {
-            questions,
-            members,
-            truths,
-            asked: 0,
-        })
+        let lists = nodes_of_all(alloc, exprs)?;
+        let of_nodes = NodesJudge::new(alloc, lists.as_slice(), members)?;
+        Ok(ExpressionJudge { of_nodes })
     }
 
     /// How many questions were asked; at most `u64::MAX` are counted.
     pub fn asked(&self) -> u64
-        ensures { result ≡ self.now.asked }
+        ensures { result ≡ questions_asked self.now }
     {
-        self.asked
+        self.of_nodes.asked()
     }
 }
 
 impl<'a, 'c: 'a> Sufficiency for ExpressionJudge<'a, 'c> {
-    ghost use Rattle.spdx.specs.JudgeModel.{judged_trees, judged_members};
-    ghost use Rattle.spdx.specs.Choice.{suffices_for};
-    ghost use Rattle.spdx.specs.GrowthLaws.{suffices_grows};
+    ghost use Rattle.spdx.specs.JudgeModel.{judged_trees, judged_members, judged_count, questions_asked};
+    ghost use Rattle.spdx_minimize.specs.Choice.{suffices_for};
+    ghost use Rattle.spdx_minimize.specs.GrowthLaws.{suffices_grows};
 
-    ghost count = { λ judge. length judge.members.items };
+    ghost count = { λ judge. judged_count judge };
 
     ghost suffices = { λ judge selection. suffices_for (judged_trees judge) (judged_members judge) selection };
 
-    ghost asked = { λ judge. judge.asked };
+    ghost asked = { λ judge. questions_asked judge };
 
     fn members(&self) -> usize {
-        self.members.len()
+        self.of_nodes.members()
     }
 
     fn judge(&mut self, selection: &[bool]) -> bool {
-        self.asked = self.asked.saturating_add(1);
-        are_all_true(&mut self.truths, self.questions.as_slice(), selection)
+        self.of_nodes.judge(selection)
     }
 
     ghost grows = { λ judge some more e h f. suffices_grows (judged_trees judge) (judged_members judge) some more h f };
 }
 
-// The questions of these expressions to these members.
-fn questions_of<'a, 'c>(
+/// The nodes of each of the expressions.
+pub(crate) fn nodes_of_all<'a, 'c>(
     alloc: Global,
     exprs: &[&'a Expression<'c>],
-    members: &[&Licensee<'_>],
-) -> Result<Vec<Question<'a, 'c>>, AllocError>
-    ensures trees { IfOk result (λ questions.
-        map question_tree questions.items ≡ trees_of exprs.now) }
-    ensures over { IfOk result (λ questions. IsOver (nows members.now) questions.items) }
+) -> Result<Vec<TreeNodes<'a, 'c>>, AllocError>
+    ensures { IfOk result (λ lists. trees_in lists.items ≡ trees_of exprs.now) }
 {
-    let mut questions = Vec::with_capacity(alloc, exprs.len())?;
+    let mut lists = Vec::with_capacity(alloc, exprs.len())?;
     for expr in exprs {
-        questions.push(question_of(alloc, *expr, members)?)?;
+        lists.push(TreeNodes::new(expr.nodes()))?;
     }
-    Ok(questions)
-}
-
-// The question of this expression to these members.
-fn question_of<'a, 'c>(
-    alloc: Global,
-    expression: &'a Expression<'c>,
-    members: &[&Licensee<'_>],
-) -> Result<Question<'a, 'c>, AllocError>
-    ensures tree { IfOk result (λ question. question_tree question ≡ expression.now.tree) }
-    ensures met_by { IfOk result (λ question.
-        met_by question ≡ map (places (nows members.now)) (leaves expression.now.tree)) }
-{
-    let met_by = members_by_node(alloc, members, expression.nodes())?;
-    Ok(Question { expression, met_by })
-}
-
-// For each requirement among the nodes the places of the members that satisfy it.
-fn members_by_node(
-    alloc: Global,
-    members: &[&Licensee<'_>],
-    nodes: &[ExprNode<'_>],
-) -> Result<Vec<Vec<usize>>, AllocError>
-    ensures { IfOk result (λ met_by.
-        map (λ v. v.items) met_by.items ≡ places_in (nows members.now) nodes.now) }
-{
-    let mut met_by = Vec::new(alloc);
-    for node in nodes {
-        if let ExprNode::Req(requirement) = node {
-            met_by.push(places_of(alloc, members, &requirement.req)?)?;
-        }
-    }
-    Ok(met_by)
-}
-
-// The places of the members that satisfy the requirement.
-fn places_of(
-    alloc: Global,
-    members: &[&Licensee<'_>],
-    requirement: &LicenseReq<'_>,
-) -> Result<Vec<usize>, AllocError>
-    ensures { IfOk result (λ found.
-        found.items ≡ places (nows members.now) (requirement_of requirement.now)) }
-{
-    let mut found = Vec::new(alloc);
-    for place in 0..members.len() {
-        if members[place].satisfies(requirement) {
-            found.push(place)?;
-        }
-    }
-    Ok(found)
-}
-
-// The nodes of the longest.
-fn longest_of(questions: &[Question<'_, '_>]) -> usize
-    ensures { result ≡ longest questions.now }
-{
-    let mut most = 0;
-    for question in questions {
-        most = most.max(question.expression.nodes().len());
-    }
-    most
-}
-
-// Whether the selection makes every expression true.
-fn are_all_true(truths: &mut Truths, questions: &[Question<'_, '_>], selection: &[bool]) -> bool
-    requires { longest questions.now ≤ truths.old.room }
-    ensures answer { result ≡ list_all (answered selection.now) questions.now }
-    ensures room { truths.new.room ≡ truths.old.room }
-{
-    for question in questions {
-        if !is_true(truths, question, selection) {
-            return false;
-        }
-    }
-    true
-}
-
-// Whether the selection makes the expression true.
-fn is_true(truths: &mut Truths, question: &Question<'_, '_>, selection: &[bool]) -> bool
-    requires { length (postfix (question_tree question.now)) ≤ truths.old.room }
-    ensures answer { result ≡ answered selection.now question.now }
-    ensures room { truths.new.room ≡ truths.old.room }
-{
-    let nodes = question.expression.nodes();
-    let met_by = question.met_by.as_slice();
-    let mut leaf = 0;
-    truths.clear();
-    for node in nodes {
-        match node {
-            ExprNode::Req(_) => {
-                truths.push(is_any_chosen(met_by[leaf].as_slice(), selection));
-                leaf += 1;
-            }
-            ExprNode::Op(Operator::And) => truths.both(),
-            ExprNode::Op(Operator::Or) => truths.either(),
-        }
-    }
-    truths.take()
-}
-
-// Whether a member at one of these places is chosen.
-fn is_any_chosen(places: &[usize], selection: &[bool]) -> bool
-    ensures { result ≡ any_at selection.now places.now }
-{
-    for place in places {
-        if matches!(selection.get(*place), Some(true)) {
-            return true;
-        }
-    }
-    false
+    Ok(lists)
 }

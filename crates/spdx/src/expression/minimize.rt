@@ -1,62 +1,20 @@
 //! The least choice of licensees that makes expressions true.
 
-ghost use Rattle.std.specs.Prelude.{◌≡◌, [], ◌∷◌, Some, Bool, List, IfOk, IfErr, length, map};
-ghost use Rattle.std.specs.List.{list_any};
-ghost use Rattle.spdx_catalogue.specs.Items.{requirement_of};
-ghost use Rattle.spdx_parser.specs.Tree.{leaves};
-ghost use Rattle.spdx_licensee.specs.Satisfies as spec;
+ghost use Rattle.std.specs.Prelude.{◌≡◌, [], ◌∷◌, IfOk, IfErr, map};
 ghost use Rattle.spdx_catalogue.specs.Failures.{IfRefused};
-ghost use Rattle.spdx.specs.Choice.{satisfies_some, useful, chosen, chosen_of, choice_of, IsLeastChoice};
-ghost use Rattle.spdx.specs.Places.{trees_of};
-ghost use Rattle.spdx.specs.Value.{nows};
-ghost use Rattle.spdx.specs.MinimizeFaults.{refused_choice, minimize_text, minimize_description};
+ghost use Rattle.spdx_catalogue.specs.Items.{requirement_of};
+ghost use Rattle.spdx_minimize.specs.Choice.{useful, chosen, choice_of, IsLeastChoice};
+ghost use Rattle.spdx_minimize.specs.MinimizeFaults.{refused_choice};
+ghost use Rattle.spdx.specs.Value.{trees_of};
 
 use crate::expression::Expression;
-use crate::expression::judge::ExpressionJudge;
+use crate::expression::judge::nodes_of_all;
 use spdx_catalogue::{Failure, LicenseReq};
-use least_selection::select_least;
+use spdx_error::MinimizeError;
 use spdx_licensee::Licensee;
-use spdx_parser::node::ExprNode;
-use std::alloc::{AllocError, Global};
-use std::collections::BTreeSet;
-use std::{fmt, slice};
-
-/// Why there is no choice of licensees.
-#[derive(Clone, Copy, Debug, PartialEq, Eq)]
-pub enum MinimizeError {
-    /// So many licensees are useful, which is more than 1,024.
-    TooManyRequirements(usize),
-    /// Not even all useful licensees together make the expressions true.
-    RequirementsUnmet,
-}
-
-impl MinimizeError {
-    /// What the error says, apart from the number.
-    pub fn description(&self) -> &'static str
-        ensures { result.now ≡ minimize_description self.now }
-    {
-        match self {
-            MinimizeError::TooManyRequirements(_) => "too many requirements in license expression",
-            MinimizeError::RequirementsUnmet => {
-                "the expression was not satisfied by the provided list of licensees"
-            }
-        }
-    }
-}
-
-impl fmt::Display for MinimizeError {
-    ghost output = { λ e. Some (minimize_text e) };
-
-    fn fmt<W: fmt::Write>(&self, f: &mut fmt::Formatter<W>) -> fmt::Result {
-        match self {
-            MinimizeError::TooManyRequirements(count) => write!(
-                f,
-                "the license expression required {count} licensees which exceeds the limit of 1024"
-            ),
-            MinimizeError::RequirementsUnmet => f.write_str(self.description()),
-        }
-    }
-}
+use spdx_minimize::{TreeNodes, least_choice};
+use std::alloc::Global;
+use std::slice;
 
 impl<'c> Expression<'c> {
     /// The requirements of the licensees in the least choice that makes the expression true:
@@ -78,7 +36,8 @@ impl<'c> Expression<'c> {
             IsLeastChoice (self.now.tree ∷ []) (useful (self.now.tree ∷ []) accepted.now)
             (map requirement_of reqs.items)) }
     {
-        minimized_for_all(alloc, slice::from_ref(&self), accepted)
+        let list = TreeNodes::new(self.nodes());
+        least_choice(alloc, slice::from_ref(&list), accepted)
     }
 }
 
@@ -93,7 +52,8 @@ impl<'c> Expression<'c> {
 ///
 /// Each distinct licensee is compared with each requirement at most twice, and licensees with one
 /// another about `n * log n` times for n of them. Then at most one question more than there are
-/// useful licensees is asked, each a walk over the nodes of the expressions.
+/// useful licensees is asked, each a walk over the nodes of the expressions. A list of the
+/// expressions takes memory.
 ///
 /// # Errors
 ///
@@ -113,81 +73,6 @@ pub fn minimized_for_all<'a, 'c: 'a>(
         IsLeastChoice (trees_of exprs.now) (useful (trees_of exprs.now) accepted.now)
         (map requirement_of reqs.items)) }
 {
-    let members = useful_members(alloc, exprs, accepted)?;
-    let count = members.len();
-    if count > 1024 {
-        return Err(Failure::Refused(MinimizeError::TooManyRequirements(count)));
-    }
-    let mut judge = ExpressionJudge::new_all(alloc, exprs, members.as_slice())?;
-    let mut selection = Vec::from_elem(alloc, false, count)?;
-    let places = selection.as_mut_slice();
-    if !select_least(&mut judge, places) {
-        return Err(Failure::Refused(MinimizeError::RequirementsUnmet));
-    }
-    Ok(chosen_requirements(alloc, members.as_slice(), places)?)
-}
-
-// The useful ones of these licensees.
-fn useful_members<'a, 'c>(
-    alloc: Global,
-    exprs: &[&Expression<'_>],
-    accepted: &'a [Licensee<'c>],
-) -> Result<Vec<&'a Licensee<'c>>, AllocError>
-    ensures { IfOk result (λ members.
-        nows members.items ≡ useful (trees_of exprs.now) accepted.now) }
-{
-    let mut seen: BTreeSet<&'a LicenseReq<'c>> = BTreeSet::new(alloc);
-    let mut members = Vec::new(alloc);
-    for licensee in accepted {
-        if seen.insert(licensee.req())? && is_useful(licensee, exprs) {
-            members.push(licensee)?;
-        }
-    }
-    Ok(members)
-}
-
-// Whether the licensee satisfies a requirement of some expression.
-fn is_useful(licensee: &Licensee<'_>, exprs: &[&Expression<'_>]) -> bool
-    ensures { result ≡ satisfies_some (trees_of exprs.now) licensee.now }
-{
-    for expression in exprs {
-        if satisfies_one(licensee, expression) {
-            return true;
-        }
-    }
-    false
-}
-
-// Whether the licensee satisfies a requirement of the expression.
-fn satisfies_one(licensee: &Licensee<'_>, expression: &Expression<'_>) -> bool
-    ensures { result ≡ list_any (spec.satisfies licensee.now) (leaves expression.now.tree) }
-{
-    let nodes = expression.nodes();
-    for node in nodes {
-        if let ExprNode::Req(requirement) = node
-            && licensee.satisfies(&requirement.req)
-        {
-            return true;
-        }
-    }
-    false
-}
-
-// The requirements of the chosen members.
-fn chosen_requirements<'c>(
-    alloc: Global,
-    members: &[&Licensee<'c>],
-    selection: &[bool],
-) -> Result<Vec<LicenseReq<'c>>, AllocError>
-    requires { length selection.now ≡ length members.now }
-    ensures { IfOk result (λ reqs.
-        map requirement_of reqs.items ≡ chosen_of (nows members.now) selection.now) }
-{
-    let mut requirements = Vec::new(alloc);
-    for place in 0..members.len() {
-        if selection[place] {
-            requirements.push(members[place].req().try_clone(alloc)?)?;
-        }
-    }
-    Ok(requirements)
+    let lists = nodes_of_all(alloc, exprs)?;
+    least_choice(alloc, lists.as_slice(), accepted)
 }

@@ -5,7 +5,7 @@ use Rattle.spdx_lexer.specs.Words.{Span}
 use Rattle.spdx_parser.specs.declared.node.ExprNode.{ExprNode}
 use Rattle.spdx_parser.specs.Tree.{Node, node_of}
 use Rattle.spdx_parser.specs.Spans.{requirement_spans, node_span}
-use Rattle.spdx.proofs.Nodes.{spans_more}
+use Rattle.spdx_evaluation.proofs.Nodes.{spans_more}
 use Rattle.spdx.proofs.expression.clone_nodes.Goals as goal
 
 nodes_more : (copy nodes : List ExprNode) (i : ℕ) (d n m : ExprNode) → i < length nodes → n ≡ get_or nodes i d → node_of m ≡ node_of n

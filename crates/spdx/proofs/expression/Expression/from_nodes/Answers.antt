@@ -1,6 +1,6 @@
 use Rattle.std.proofs.Common.{◌∙◌, ap}
-use Rattle.spdx.specs.Value.{tree_of}
-use Rattle.spdx.specs.CodeLaws.{tree_of_postfix}
+use Rattle.spdx_evaluation.specs.Postfix.{tree_of}
+use Rattle.spdx_evaluation.specs.PostfixLaws.{tree_of_postfix}
 use Rattle.spdx.proofs.expression.Expression.from_nodes.Goals as goal
 
 pub returns-clause-tree : goal.returns-clause-tree

@@ -3,8 +3,8 @@ use Rattle.std.proofs.Common.{◌≡◌, sym, ◌∙◌, ap, subst, rules}
 use Rattle.spdx_parser.specs.Tree.{Tree, postfix}
 use Rattle.spdx_parser.specs.Grammar.{IsTheTree}
 use Rattle.spdx_parser.specs.Meaning.{IsOfRows}
-use Rattle.spdx.specs.Value.{tree_of}
-use Rattle.spdx.specs.CodeLaws.{tree_of_postfix}
+use Rattle.spdx_evaluation.specs.Postfix.{tree_of}
+use Rattle.spdx_evaluation.specs.PostfixLaws.{tree_of_postfix}
 use Rattle.spdx_lexer.specs.Reading.{reading}
 use Rattle.spdx_lexer.specs.Faults.{fault_of}
 use Rattle.spdx_lexer.specs.Code.{span_of}

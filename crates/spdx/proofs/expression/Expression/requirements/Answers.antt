@@ -1,15 +1,17 @@
-use Rattle.std.proofs.Common.{◌≡◌, ◌∙◌, ap, map, List, length, arith, subst}
+use Rattle.std.proofs.Common.{◌≡◌, ◌∙◌, ap, List, length, arith, subst}
 use Rattle.spdx_parser.specs.declared.node.ExprNode.{ExprNode}
-use Rattle.spdx_parser.specs.Tree.{leaves, node_of}
-use Rattle.spdx.specs.Value.{Written, placed, placed_in, tree_of}
-use Rattle.spdx.proofs.Nodes.{placed_of_tree, spans_of_tree, length-placed_in}
+use Rattle.spdx_parser.specs.Tree.{leaves}
+use Rattle.spdx.specs.Value.{Written, placed}
+use Rattle.spdx_evaluation.specs.Requirements.{placed_in}
+use Rattle.spdx_evaluation.specs.Postfix.{tree_in}
+use Rattle.spdx_evaluation.proofs.Nodes.{placed_of_tree, spans_of_tree, length-placed_in}
 use Rattle.spdx.proofs.expression.Expression.requirements.Goals as goal
 
 pub returns-clause-requirements : goal.returns-clause-requirements
 returns-clause-requirements c =
     let nodes = c.self.inside.nodes.items in
     ap placed_in (c.new.ensures ∙ c.as_slice.ensures)
-    ∙ placed_of_tree nodes (tree_of (map node_of nodes)) c.self.invariant
+    ∙ placed_of_tree nodes (tree_in nodes) c.self.invariant
     ∙ ap placed c.self.view_is
 
 pub returns-clause-bound : goal.returns-clause-bound
@@ -20,5 +22,5 @@ returns-clause-bound c =
 pub returns-clause-places : goal.returns-clause-places
 returns-clause-places c =
     let nodes = c.self.inside.nodes.items in
-    let inside = spans_of_tree nodes (tree_of (map node_of nodes)) c.self.invariant in
+    let inside = spans_of_tree nodes (tree_in nodes) c.self.invariant in
     subst (λ (w : Written). length w.spans ≡ length (leaves w.tree)) c.self.view_is inside

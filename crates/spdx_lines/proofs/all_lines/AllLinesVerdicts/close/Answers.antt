@@ -1,6 +1,6 @@
 use Rattle.std.proofs.Common.{ap, ◌∙◌}
-use Rattle.spdx.specs.Choice.{choice_of}
-use Rattle.spdx.specs.Places.{trees_of}
+use Rattle.spdx_minimize.specs.Choice.{choice_of}
+use Rattle.spdx.specs.Value.{trees_of}
 use Rattle.spdx_lines.specs.Trees.{trees_in}
 use Rattle.spdx_lines.proofs.Keeping.{choice_kept, all_written}
 use Rattle.spdx_lines.proofs.all_lines.AllLinesVerdicts.close.Goals as goal

@@ -1,5 +1,5 @@
 use Rattle.std.proofs.Common.{◌≡◌, map, take}
-use Rattle.spdx.specs.Places.{trees_of}
+use Rattle.spdx.specs.Value.{trees_of}
 use Rattle.spdx_lines.proofs.kept.Kept.all.Given as goal
 
 abbrev pub invariant-loop-expression : goal.invariant-loop-expression

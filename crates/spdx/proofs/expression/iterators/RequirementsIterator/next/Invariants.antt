@@ -1,5 +1,5 @@
 use Rattle.std.proofs.Common.{◌≡◌, drop}
-use Rattle.spdx.specs.Value.{placed_in}
+use Rattle.spdx_evaluation.specs.Requirements.{placed_in}
 use Rattle.spdx.proofs.expression.iterators.RequirementsIterator.next.Given as goal
 
 abbrev pub invariant-loop-i : goal.invariant-loop-i

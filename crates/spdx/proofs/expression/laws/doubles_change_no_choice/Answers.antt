@@ -1,5 +1,0 @@
-use Rattle.spdx.proofs.Doubles.{choice_same}
-use Rattle.spdx.proofs.expression.laws.doubles_change_no_choice.Goals as goal
-
-pub returns : goal.returns
-returns c = λ trees others licensees same. choice_same trees others same licensees

@@ -1,5 +1,0 @@
-use Rattle.spdx.proofs.Selections.{least_of-IsLeast, IsLeast-least_of}
-use Rattle.spdx.proofs.expression.laws.first_is_least.Goals as goal
-
-pub returns : goal.returns
-returns c = λ suffices n s. (least_of-IsLeast suffices n s, IsLeast-least_of suffices n s)

@@ -1,8 +1,0 @@
-use Rattle.std.proofs.Common.{◌≡◌, ◌++◌, drop, map}
-use Rattle.spdx_catalogue.specs.Items.{requirement_of}
-use Rattle.spdx.specs.Choice.{chosen_of}
-use Rattle.spdx.specs.Value.{nows}
-use Rattle.spdx.proofs.expression.minimize.chosen_requirements.Given as goal
-
-abbrev pub invariant-loop-place : goal.invariant-loop-place
-invariant-loop-place l = map requirement_of l.requirements.items ++ chosen_of (nows (drop l.place l.members)) (drop l.place l.selection) ≡ chosen_of (nows l.members) l.selection

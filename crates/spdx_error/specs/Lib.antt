@@ -1,0 +1,2 @@
+pub mod MinimizeTexts
+pub mod Errors

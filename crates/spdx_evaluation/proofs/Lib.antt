@@ -1,0 +1,5 @@
+pub mod Nodes
+pub mod Machine
+pub mod Evaluating
+pub mod Logging
+pub mod Answering

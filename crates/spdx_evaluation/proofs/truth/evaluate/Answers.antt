@@ -1,0 +1,18 @@
+use Rattle.std.proofs.Common.{arith, sym, ap, ◌∙◌, ◌≡◌, length, true, false}
+use Rattle.std.proofs.lemmas.List.{length-map}
+use Rattle.std.specs.Fn.{CalledAt}
+use Rattle.spdx_parser.specs.Tree.{postfix, node_of}
+use Rattle.spdx_evaluation.specs.Postfix.{tree_in}
+use Rattle.spdx_evaluation.proofs.Answering.{holds_by}
+use Rattle.spdx_evaluation.proofs.Nodes.{length-postfix}
+use Rattle.spdx_evaluation.proofs.truth.evaluate.Goals as goal
+
+pub returns-in_err-truths-clause-no_memory : goal.returns-in_err-truths-clause-no_memory
+returns-in_err-truths-clause-no_memory g c = λ few.
+    let nodes = c.args.nodes.now in
+    let t = tree_in nodes in
+    let len : length nodes ≡ length (postfix t) = sym (length-map nodes node_of) ∙ ap length c.requires.tree in
+    let both : false ≡ true = c.in_err-truths.ensures.inline (omega (arith, len, length-postfix t, few)) in cc
+
+pub returns-clause-by : goal.returns-clause-by
+returns-clause-by g c = λ h by. holds_by (CalledAt g.F.FnMut) c.args.f.now h by (tree_in c.args.nodes.now) c.truth_over.result c.truth_over.new.f c.truth_over.ensures.truth
