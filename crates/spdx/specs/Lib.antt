@@ -61,5 +61,6 @@ pub use Rattle.spdx_minimize.specs.MinimizeFaults
 pub use Rattle.spdx_canonical.specs.Canonical
 pub use Rattle.spdx_canonical.specs.Code as CanonicalCode
 pub use Rattle.spdx_canonical.specs.Law as CanonicalLaw
+pub use Rattle.spdx_fix.specs.Fix
 pub use Rattle.spdx_normal.specs.Law as NormalLaw
 pub use Rattle.spdx_normal.specs.Normal

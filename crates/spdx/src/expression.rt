@@ -15,6 +15,7 @@ use std::marker::Model;
 mod canonical;
 mod equality;
 pub mod evaluate;
+mod fix;
 pub mod iterators;
 pub mod judge;
 pub mod minimize;

@@ -23,6 +23,7 @@ from_json
 parse_mode
 try_clone
 canonicalize
+fix
 evaluate
 evaluate_with_failures
 Licensee::parse
@@ -43,6 +44,7 @@ fn answer(alloc: Global, json: &[u8], call: &str) -> Answer {
         "parse_mode" => reading::parse_mode(alloc, &catalogue, reading::REFERENCES),
         "try_clone" => reading::try_clone(alloc, &catalogue),
         "canonicalize" => reading::canonicalize(alloc, &catalogue, reading::LAX),
+        "fix" => reading::fix(alloc, &catalogue, reading::LAX),
         "Licensee::parse" => reading::licensee(alloc, &catalogue, reading::REFERENCES),
         "evaluate" => trees::evaluate(alloc, &catalogue),
         "evaluate_with_failures" => trees::evaluate_with_failures(alloc, &catalogue),

@@ -48,6 +48,15 @@ pub fn canonicalize(alloc: Global, catalogue: &Catalogue, text: &str) -> Answer 
     }
 }
 
+/// Mends a text that has a fix.
+pub fn fix(alloc: Global, catalogue: &Catalogue, text: &str) -> Answer {
+    match Expression::fix(alloc, catalogue, text) {
+        Ok(Some(fix)) => Ok(fix),
+        Ok(None) => Err(End::Otherwise("no fix")),
+        Err(_) => Err(End::InTheCall),
+    }
+}
+
 /// Reads a licensee that is a reference.
 pub fn licensee(alloc: Global, catalogue: &Catalogue, text: &str) -> Answer {
     match Licensee::parse(alloc, catalogue, text) {

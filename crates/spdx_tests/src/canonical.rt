@@ -38,3 +38,14 @@ pub fn normal(alloc: Global, catalogue: &Catalogue, text: &str) -> Answer {
         Ok("not read back".to_string(alloc)?)
     }
 }
+
+/// The fix, which has none itself, or `none`.
+pub fn fix(alloc: Global, catalogue: &Catalogue, text: &str) -> Answer {
+    let Some(fix) = Expression::fix(alloc, catalogue, text)? else {
+        return Ok("none".to_string(alloc)?);
+    };
+    match Expression::fix(alloc, catalogue, fix.as_str())? {
+        None => Ok(fix),
+        Some(_) => Ok("not mended".to_string(alloc)?),
+    }
+}

@@ -91,6 +91,7 @@ fn answer(alloc: Global, catalogue: &Catalogue, call: &str, given: &str) -> Answ
         "canonical text" => canonical::text(alloc, catalogue, given),
         "canonical text, read strictly" => canonical::read_strictly(alloc, catalogue, given),
         "normal text" => canonical::normal(alloc, catalogue, given),
+        "fix" => canonical::fix(alloc, catalogue, given),
         "licensee" => licensees::named(alloc, catalogue, given),
         "licensee copied" => copies::licensee(alloc, catalogue, given),
         "satisfied" => licensees::satisfied(alloc, catalogue, given),
