@@ -9,5 +9,5 @@ mod nodes;
 pub mod parser;
 mod step;
 
-pub use crate::node::{ExprNode, ExpressionReq, Operator};
+pub use crate::node::{ExprNode, ExpressionReq, NodeList, Operator};
 pub use crate::parser::parse_nodes;

@@ -4,12 +4,11 @@ ghost use Rattle.std.specs.Prelude.{◌≡◌, [], ◌∷◌, ◌++◌, OnOk, ma
 ghost use Rattle.spdx_parser.specs.Nodes.{placed_node};
 ghost use Rattle.spdx_parser.specs.State.{operators};
 
-use crate::node::{ExprNode, Operator};
-use smallvec::SmallVec;
+use crate::node::{ExprNode, NodeList, Operator};
 use std::alloc::AllocError;
 
 /// One more node.
-pub fn put<'c>(nodes: &mut SmallVec<ExprNode<'c>, 5>, node: ExprNode<'c>) -> Result<(), AllocError>
+pub fn put<'c>(nodes: &mut NodeList<'c>, node: ExprNode<'c>) -> Result<(), AllocError>
     ensures { OnOk result (map placed_node nodes.new.items
         ≡ map placed_node nodes.old.items ++ placed_node node.entry ∷ []) }
 {
@@ -19,7 +18,7 @@ pub fn put<'c>(nodes: &mut SmallVec<ExprNode<'c>, 5>, node: ExprNode<'c>) -> Res
 
 /// An operator, so many times.
 pub fn put_operators(
-    nodes: &mut SmallVec<ExprNode<'_>, 5>,
+    nodes: &mut NodeList<'_>,
     operator: Operator,
     count: usize,
 ) -> Result<(), AllocError>

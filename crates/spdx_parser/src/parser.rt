@@ -12,7 +12,7 @@ ghost use Rattle.spdx_parser.specs.declared.node.ExprNode.{ExprNode};
 
 use crate::last::{Last, is_closing, reason, terms};
 use crate::name::Name;
-use crate::node::ExprNode;
+use crate::node::NodeList;
 use smallvec::SmallVec;
 use spdx_catalogue::{Catalogue, Failure};
 use spdx_lexer::error::{ParseError, Reason};
@@ -23,7 +23,7 @@ use std::marker::Model;
 use std::ops::Range;
 
 /// How many left sides of OR wait for their right side, and above them how many of AND.
-#[derive(Clone, Copy, Default)]
+#[derive(Clone, Copy)]
 pub struct Frame {
     pub ors: usize,
     pub ands: usize,
@@ -36,23 +36,14 @@ pub struct Opened {
     pub around: Frame,
 }
 
-impl Default for Opened {
-    fn default() -> Self {
-        Opened {
-            place: 0..0,
-            around: Frame { ors: 0, ands: 0 },
-        }
-    }
-}
-
 /// The nodes so far, the parentheses that are open with the frames around them, the innermost
 /// frame, what was read last, the licence that is no requirement yet, and where the last licence
 /// stands.
 #[derive(Drop)]
 pub struct Parser<'c, 't> {
     pub alloc: Global,
-    pub nodes: SmallVec<ExprNode<'c>, 5>,
-    pub opened: SmallVec<Opened, 4>,
+    pub nodes: NodeList<'c>,
+    pub opened: Vec<Opened>,
     pub frame: Frame,
     pub last: Last<'c>,
     pub license: Option<Name<'c, 't>>,
@@ -141,7 +132,7 @@ pub fn parse_nodes<'c, 't>(
     catalogue: &'c Catalogue,
     text: &'t str,
     mode: ParseMode,
-) -> Result<SmallVec<ExprNode<'c>, 5>, Failure<ParseError<'t>>>
+) -> Result<NodeList<'c>, Failure<ParseError<'t>>>
     ensures ok { IfOk result (λ nodes. IsParsed catalogue.now mode text.now nodes.items) }
     ensures err { IfErr result (IfRefused (λ error. IsRefused catalogue.now mode text.now error)) }
     ensures spans { IfOk result (λ nodes. All (IsPlace text.now) (requirement_spans nodes.items)) }
@@ -149,7 +140,7 @@ pub fn parse_nodes<'c, 't>(
     let mut parser = Parser {
         alloc,
         nodes: SmallVec::new(alloc),
-        opened: SmallVec::new(alloc),
+        opened: Vec::new(alloc),
         frame: Frame { ors: 0, ands: 0 },
         last: Last::Due,
         license: None,

@@ -1,4 +1,4 @@
-use Rattle.std.proofs.Common.{◌≡◌, ◌≤◌, None, Ok, Err, [], ◌∷◌, ◌++◌, length, refl, sym, ◌∙◌, ap, subst, arith}
+use Rattle.std.proofs.Common.{◌≡◌, ◌<◌, ◌≤◌, true, false, None, Ok, Err, [], ◌∷◌, ◌++◌, length, refl, sym, ◌∙◌, ap, subst, arith}
 use Rattle.std.specs.List.{All}
 use Rattle.std.specs.Prelude.{◌==◌}
 use Rattle.spdx_lexer.specs.Words.{Unexpected}
@@ -47,7 +47,7 @@ returns-then-not-branch-clause-err c =
     let shown = ap (λ (s : State). length s.opened == 0) (sym c.self.view_is) ∙ ap (λ n. n == 0) (opened_length c.self.inside.opened.items) in
     let last = ap (λ (s : State). fault_behind c.args.mode s.last c.is_empty-none_open.result (word_of c.in-Ok.found.token)) c.self.view_is in
     refused c.args.catalogue.now c.args.mode c.args.text.now c.refusal-then-not-branch.result _ _ _ c.refusal-then-not-branch.ensures
-    (stops c.args.catalogue.now c.args.mode c.args.text.now read _ _ c.loop-item.self r (word_of c.in-Ok.found.token) (span_of c.in-Ok.found.span) left c.read.new.self c.is_empty-none_open.result (fault_of c.reason.result) next (rw t at c.in_ok-read.ensures) (c.is_empty-none_open.ensures ∙ sym shown) (c.reason.ensures ∙ last)) refl refl refl
+    (stops c.args.catalogue.now c.args.mode c.args.text.now read _ _ c.loop-item.self r (word_of c.in-Ok.found.token) (span_of c.in-Ok.found.span) left c.read.new.self c.is_empty-none_open.result (fault_of c.reason.result) next (rw t at c.in_ok-read.ensures) (c.is_empty-none_open.ensures ∙ ap (λ n. n == 0) c.self.inside.opened.ok.0 ∙ sym shown) (c.reason.ensures ∙ last)) refl refl refl
 
 pub loop-item-preserved : goal.loop-item-preserved
 loop-item-preserved c =
@@ -82,7 +82,7 @@ pub returns-clause-ok : goal.returns-clause-ok
 returns-clause-ok c nodes is =
     let (read, r) = c.loop-item.invariant in
     let last = ap (λ (s : State). is_closing s.last) (sym c.self-2.view_is) in
-    let opened = ap (λ (s : State). s.opened) (sym c.self-2.view_is) ∙ opened_nil c.self-2.inside.opened.items c.in_default.ensures.variant.1 in
+    let opened = ap (λ (s : State). s.opened) (sym c.self-2.view_is) ∙ opened_nil c.self-2.inside.opened.items (subst (λ n. 0 < n → false ≡ true) c.self-2.inside.opened.ok.0 c.in_default.ensures.variant.1) in
     ends_well c.args.catalogue.now c.args.mode c.args.text.now read _ _ c.loop-item.self r c.in-None.ensures.steps.0 c.is_well_formed.ensures (last ∙ sym c.is_closing.ensures ∙ c.if-not-is_closing.false) opened nodes
     (is ∙ c.in_ok-finish.ensures ∙ ap (λ (s : State). all_joined (require s None)) c.self-2.view_is)
 
