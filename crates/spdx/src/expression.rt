@@ -9,6 +9,7 @@ ghost use Rattle.spdx_evaluation.specs.Requirements.{placed_of, placed_in};
 ghost use Rattle.spdx.specs.Iterators.{nodes_left, placed_nodes, requirements_left};
 
 use smallvec::SmallVec;
+use spdx_parser::node::NodeList;
 use std::alloc::{AllocError, Global};
 use std::marker::Model;
 
@@ -40,7 +41,7 @@ pub use spdx_parser::node::{ExprNode, ExpressionReq, Operator};
 #[derive(Drop)]
 pub struct Expression<'c> {
     original: String,
-    nodes: SmallVec<ExprNode<'c>, 5>,
+    nodes: NodeList<'c>,
 }
 
 impl<'c> Model for Expression<'c> {
@@ -61,7 +62,7 @@ impl<'c> Model for Expression<'c> {
 
 impl<'c> Expression<'c> {
     /// The expression with this text, whose nodes are the postfix list of its tree.
-    pub(crate) fn from_nodes(original: String, nodes: SmallVec<ExprNode<'c>, 5>) -> Self
+    pub(crate) fn from_nodes(original: String, nodes: NodeList<'c>) -> Self
         requires { IsPostfix (map node_of nodes.items) }
         ensures text { result.text ≡ string_bytes original }
         ensures tree { (t : Tree) → map node_of nodes.entry.items ≡ postfix t → result.tree ≡ t }
@@ -114,10 +115,7 @@ impl<'c> Expression<'c> {
 }
 
 // The nodes once more, spans included.
-fn clone_nodes<'c>(
-    alloc: Global,
-    nodes: &[ExprNode<'c>],
-) -> Result<SmallVec<ExprNode<'c>, 5>, AllocError>
+fn clone_nodes<'c>(alloc: Global, nodes: &[ExprNode<'c>]) -> Result<NodeList<'c>, AllocError>
     ensures nodes { IfOk result (λ copy. map node_of copy.items ≡ map node_of nodes.now) }
     ensures spans { IfOk result (λ copy. requirement_spans copy.items ≡ requirement_spans nodes.now) }
 {

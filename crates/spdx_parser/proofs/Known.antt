@@ -15,9 +15,9 @@ use Rattle.spdx_lexer.specs.Groups.{license_reference, addition_reference, exact
 use Rattle.spdx_lexer.specs.Reading.{go_on, behind, items, reading}
 use Rattle.spdx_lexer.proofs.Found.{first_all, mapped, allowed, lexeme_all}
 use Rattle.spdx_parser.specs.Tree.{Tree, Leaf}
-use Rattle.spdx_parser.specs.Last.{Last, Listed, Joined, next_last, last_behind}
+use Rattle.spdx_parser.specs.Last.{Last, Joined, next_last, last_behind}
 use Rattle.spdx_parser.specs.Meaning.{IsOfRows, IsLicenseOf, IsAdditionOf}
-use Rattle.spdx_parser.specs.Code.{IsLicenseRow}
+use Rattle.spdx_parser.specs.Code.{IsLicenseRow, IsKnown}
 use Rattle.spdx_parser.specs.Grammar.{Derives}
 use Rattle.spdx_parser.proofs.Threaded as Threaded
 
@@ -50,12 +50,7 @@ module _ (c : Rows) where
   front_known [] more h = tt
   front_known (p ∷ read) more h = (h.0, front_known read more h.1)
 
-  -- of a last word that is a listed licence
-  abbrev pub LastKnown : Last → Type 0
-  LastKnown (Listed r) = IsLicenseRow c r
-  LastKnown _ = Unit {0}
-
-  next_known : (last : Last) (w : Word) → WordKnown w → LastKnown (next_last last w)
+  next_known : (last : Last) (w : Word) → WordKnown w → IsKnown c (next_last last w)
   next_known last (Spdx r) h = h
   next_known last (LicenseRef d n) h = tt
   next_known last (Exception r) h = tt
@@ -69,7 +64,7 @@ module _ (c : Rows) where
   next_known last And h = tt
   next_known last Or h = tt
 
-  pub last_known : (last : Last) (ws : List Word) → LastKnown last → AllKnown ws → LastKnown (last_behind last ws)
+  pub last_known : (last : Last) (ws : List Word) → IsKnown c last → AllKnown ws → IsKnown c (last_behind last ws)
   last_known last [] h all = h
   last_known last (w ∷ ws) h all = last_known (next_last last w) ws (next_known last w all.0) all.1
 

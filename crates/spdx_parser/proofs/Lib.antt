@@ -1,11 +1,10 @@
 pub mod Complete
 pub mod Sound
 pub mod Theorem
-pub mod Nodes
-pub mod Steps
 pub mod Later
-pub mod Seen
 pub mod Known
-pub mod Loop
 pub mod Threaded
 pub mod Places
+pub mod Shown
+pub mod Seen
+pub mod Loop

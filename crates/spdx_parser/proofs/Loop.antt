@@ -1,7 +1,7 @@
 -- The words that were read so far, and what one more comes to.
-use Rattle.std.proofs.Common.{◌≡◌, ℕ, ◌+◌, ◌<◌, Bool, true, false, List, [], ◌∷◌, ◌++◌, length, map, Option, Some, None, Ok, Err, refl, sym, ◌∙◌, ap, subst, arith, append_assoc, append-nil, length-append}
+use Rattle.std.proofs.Common.{◌≡◌, ℕ, ◌+◌, ◌<◌, ◌≤◌, ◌^◌, Bool, true, false, List, [], ◌∷◌, ◌++◌, length, map, reverse, Option, Some, None, Ok, Err, refl, sym, ◌∙◌, ap, subst, arith, append_assoc, append-nil, length-append}
 use Rattle.std.specs.Prelude.{◌==◌}
-use Rattle.std.proofs.lemmas.List.{map-append, length-map}
+use Rattle.std.proofs.lemmas.List.{map-append, length-map, length-reverse, reverse-append}
 use Rattle.spdx_catalogue.specs.Rows.{Rows}
 use Rattle.spdx_catalogue.specs.RowRules.{is_well_formed}
 use Rattle.spdx_lexer.specs.declared.token.ParseMode.{ParseMode}
@@ -9,30 +9,29 @@ use Rattle.spdx_lexer.specs.Words.{Word, CloseParen, Fault, Empty, Unexpected, U
 use Rattle.spdx_lexer.specs.Code.{span_of}
 use Rattle.spdx_lexer.specs.Reading.{reading}
 use Rattle.spdx_parser.specs.declared.node.ExprNode.{ExprNode}
-use Rattle.spdx_parser.specs.declared.frames.Opened.{Opened}
-use Rattle.spdx_parser.specs.declared.frames.Parser.{Parser}
-use Rattle.spdx_parser.specs.declared.phase.Name.{Name}
-use Rattle.spdx_parser.specs.declared.phase.Phase.{Phase}
+use Rattle.spdx_parser.specs.declared.parser.Frame.{Frame}
+use Rattle.spdx_parser.specs.declared.parser.Opened.{Opened}
 use Rattle.spdx_parser.specs.Tree.{Tree}
-use Rattle.spdx_parser.specs.Last.{Due, last_of, is_closing, terms}
+use Rattle.spdx_parser.specs.Nodes.{PlacedNode, placed_node}
+use Rattle.spdx_parser.specs.Last.{Due, last_of, next_last, is_license, is_closing, terms}
+use Rattle.spdx_parser.specs.Spans.{license_spans}
 use Rattle.spdx_parser.specs.Grammar.{Derives, IsViable}
 use Rattle.spdx_parser.specs.Faults.{opens, closes, fault_behind, word_fault, empty, short, unclosed, IsFaultOf, at_word, at_place, at_end, HasNoTree}
 use Rattle.spdx_lexer.specs.declared.error.ParseError.{ParseError}
 use Rattle.spdx_lexer.specs.Faults.{fault_of}
 use Rattle.spdx_catalogue.specs.declared.error.Failure.{Failure}
 use Rattle.spdx_catalogue.specs.declared.error.Failure.TheVariants.{Refused}
-use Rattle.smallvec.specs.SmallVec.{SmallVec}
 use Rattle.spdx_catalogue.specs.Failures.{IfRefused}
 use Rattle.spdx_parser.specs.Meaning.{IsParsed, IsRefused}
 use Rattle.spdx_parser.specs.Machine as machine
-use Rattle.spdx_parser.specs.Code.{Seen, nothing_seen, see, seen_behind, places_of, arounds, frames_of, last_in, Fits, Shows, Answers, IsRowKnown, IsBuilt}
+use Rattle.spdx_parser.specs.Code.{IsKnown}
+use Rattle.spdx_parser.specs.State.{State, start, step, all_joined, require, if_taken}
+use Rattle.spdx_parser.specs.ParserModel.{opened_of}
 use Rattle.spdx_parser.proofs.Complete.{complete}
 use Rattle.spdx_parser.proofs.Theorem.{run_front, viable, not_viable, the_tree, no_tree}
-use Rattle.spdx_parser.proofs.Seen.{Nest, whole, nest_more, none_open_is, last_open, seen_last, seen_spans, seen_more, words_on}
-use Rattle.spdx_parser.proofs.Known.{LastKnown, last_known, words_known, tree_known}
-
-abbrev pub seen_of : List Placed → Seen
-seen_of read = seen_behind nothing_seen read
+use Rattle.spdx_parser.proofs.Shown.{Shows, Goes, FramesFit, add_span, places_in, spans_of, places_of, goes, ends, not_ended, ended_spans, starts, bare_nodes, places_nodes}
+use Rattle.spdx_parser.proofs.Seen.{Nest, whole, nest_more, none_open_is, last_open, last_more, spans_more, words_on}
+use Rattle.spdx_parser.proofs.Known.{last_known, words_known, tree_known}
 
 abbrev pub is_nil : List Placed → Bool
 is_nil [] = true
@@ -41,19 +40,16 @@ is_nil (p ∷ read) = false
 pub span_is : (a b at len : ℕ) → a ≡ at → b ≡ at + len → (let s : Span = record { from = a; to = b } in s) ≡ span at len
 span_is a b at len e f = ap (λ (x : ℕ). let s : Span = record { from = x; to = b } in s) e ∙ ap (λ (x : ℕ). let s : Span = record { from = at; to = x } in s) f
 
-pub popped_none : {A : Type 0} (items : List A) → (0 < length items → false ≡ true) → items ≡ []
-popped_none [] h = refl
-popped_none (x ∷ items) h = let more : 0 < length (x ∷ items) = omega arith in let f = h more in absurd cc
+-- the parentheses that are open, the innermost first
+pub opened_nil : (items : List Opened) → (0 < length items → false ≡ true) → map opened_of (reverse items) ≡ []
+opened_nil [] h = refl
+opened_nil (x ∷ items) h = let more : 0 < length (x ∷ items) = omega arith in let f = h more in absurd cc
 
--- nothing is taken off where no parenthesis is open
-pub shows_popped : (p : machine.Phase) (f : machine.Frame) (seen : Seen) (old : Parser) (opened : SmallVec Opened) → old.opened.items ≡ opened.items ++ [] → Shows p f [] seen old → Shows p f [] seen (record old { opened = opened })
-shows_popped p f seen old opened e s =
-    let same : old.opened.items ≡ opened.items = e ∙ append-nil opened.items in
-    record {
-      stands = record { nodes_are = s.stands.nodes_are; frame_is = s.stands.frame_is; frames_are = ap arounds (sym same) ∙ s.stands.frames_are; places_are = ap places_of (sym same) ∙ s.stands.places_are; spans_are = s.stands.spans_are };
-      phase_fits = s.phase_fits;
-      last_is = s.last_is;
-    }
+pub opened_cons : (all rest : List Opened) (o : Opened) → all ≡ rest ++ o ∷ [] → map opened_of (reverse all) ≡ opened_of o ∷ map opened_of (reverse rest)
+opened_cons all rest o e = ap (λ xs. map opened_of (reverse xs)) e ∙ ap (map opened_of) (reverse-append rest (o ∷ []))
+
+pub opened_length : (items : List Opened) → length (map opened_of (reverse items)) ≡ length items
+opened_length items = length-map (reverse items) opened_of ∙ length-reverse items
 
 -- ---- lists of items
 
@@ -105,25 +101,20 @@ module _ (c : Rows) (m : ParseMode) (text : List ℕ) where
       let refusal : IsRefused c m text error = record { no_tree = fault_no_tree (fault_of error.reason) (span_of error.span) fault; fault_is = fault; text_is = original } in
       subst (λ (x : Failure ParseError). IfRefused (λ (e : ParseError). IsRefused c m text e) x) (sym is) refusal
 
-  -- the words so far, with what is left of the reading
-  pub record Reads (read : List Placed) (left : List Item) (is_empty : Bool) (parser : Parser) : Type 0 where
+  -- the words so far, with what is left of the reading, and what the parser holds behind them
+  pub record Reads (read : List Placed) (left : List Item) (is_empty : Bool) (s : State) : Type 0 where
     pub so_far : reading c m 0 text ≡ map Ok read ++ left
     pub state : machine.State
     pub reached : machine.run c m (Some machine.start) (words read) ≡ Some state
-    pub shows : Shows state.phase state.frame state.outer (seen_of read) parser
-    pub nest : Nest read (seen_of read).places
+    pub shows : Shows state.phase state.frame state.outer s
+    pub last_is : s.last ≡ last_of (words read)
+    pub spans_are : spans_of s ≡ license_spans Due read
+    pub nest : Nest read (places_of s)
+    pub frames_fit : FramesFit (length read) s
     pub begun : is_empty ≡ is_nil read
 
-  pub nothing_read : (left : List Item) (parser : Parser) → reading c m 0 text ≡ left → Shows machine.Due machine.empty_frame [] nothing_seen parser → Reads [] left true parser
-  nothing_read left parser e s = record { so_far = e; state = machine.start; reached = refl; shows = s; nest = whole refl; begun = refl }
-
-  row_of_phase : (phase : Phase) → LastKnown c (last_in phase) → IsRowKnown c phase
-  row_of_phase Phase.Due h = tt
-  row_of_phase (Phase.Fresh id) h = h
-  row_of_phase (Phase.Named name) h = tt
-  row_of_phase (Phase.Joined name) h = tt
-  row_of_phase Phase.Added h = tt
-  row_of_phase Phase.Closed h = tt
+  pub nothing_read : (left : List Item) → reading c m 0 text ≡ left → Reads [] left true start
+  nothing_read left e = record { so_far = e; state = machine.start; reached = refl; shows = starts; last_is = refl; spans_are = refl; nest = whole refl; frames_fit = (omega arith, tt); begun = refl }
 
   -- a `)` is taken where a parenthesis is open
   open_before : (p : machine.Phase) (f : machine.Frame) (fs : List machine.Frame) (s : machine.State) → machine.act c m p f fs CloseParen ≡ Some s → 0 < length fs
@@ -134,64 +125,69 @@ module _ (c : Rows) (m : ParseMode) (text : List ℕ) where
   open_before (machine.Joined l) f [] s e = absurd cc
   open_before (machine.Whole t) f [] s e = absurd cc
 
-  frames_long : (fs : List machine.Frame) → length (frames_of fs) ≡ length fs
-  frames_long [] = refl
-  frames_long (f ∷ fs) = let more = frames_long fs in length-append (frames_of fs) _ ∙ omega arith
+  module _ (read : List Placed) (left : List Item) (is_empty : Bool) (s : State) (r : Reads read left is_empty s) where
+    places_long : length (places_of s) ≡ length s.opened
+    places_long = length-map s.opened (λ (o : Span × Frame). o.0)
 
-  module _ (read : List Placed) (left : List Item) (is_empty : Bool) (parser : Parser) (r : Reads read left is_empty parser) where
-    last_now : last_in parser.phase ≡ last_of (words read)
-    last_now = r.shows.last_is ∙ seen_last nothing_seen read
+    opened_long : length s.opened ≡ length r.state.outer
+    opened_long = sym (length-map s.opened (λ (o : Span × Frame). o.1)) ∙ ap length r.shows.frames_are ∙ length-map r.state.outer _
 
-    places_long : length (seen_of read).places ≡ length parser.opened.items
-    places_long = ap length (sym r.shows.stands.places_are) ∙ length-map parser.opened.items (λ (o : Opened). span_of o.place)
-
-    opened_long : length parser.opened.items ≡ length r.state.outer
-    opened_long = sym (length-map parser.opened.items (λ (o : Opened). o.around)) ∙ ap length r.shows.stands.frames_are ∙ frames_long r.state.outer
-
-    pub row_known : is_well_formed c ≡ true → IsRowKnown c parser.phase
-    row_known well = row_of_phase parser.phase (subst (LastKnown c) (sym last_now) (last_known c Due (words read) tt (words_known c well m text read left r.so_far)))
+    pub row_known : is_well_formed c ≡ true → IsKnown c s.last
+    row_known well = subst (IsKnown c) (sym r.last_is) (last_known c Due (words read) tt (words_known c well m text read left r.so_far))
 
     pub is_viable : IsViable c m (words read)
     is_viable = viable c m (words read) r.state r.reached
 
-    words_more : (w : Word) (s : Span) → words (read ++ (w, s) ∷ []) ≡ words read ++ w ∷ []
-    words_more w s = words_on read ((w, s) ∷ [])
+    words_more : (w : Word) (at : Span) → words (read ++ (w, at) ∷ []) ≡ words read ++ w ∷ []
+    words_more w at = words_on read ((w, at) ∷ [])
+
+    step_goes : (w : Word) (at : Span) → Goes s w at (machine.step c m r.state w) (step c m s (w, at))
+    step_goes w at = goes c m r.state.phase r.state.frame r.state.outer s w at r.shows
 
     -- a word that was taken
-    pub takes : (w : Word) (s : Span) (more : List Item) (new : Parser) → left ≡ Ok (w, s) ∷ more → Answers (machine.step c m r.state w) true (see (seen_of read) w s) new → Reads (read ++ (w, s) ∷ []) more false new
-    takes w s more new next a = go (machine.step c m r.state w) refl a
+    pub takes : (w : Word) (at : Span) (more : List Item) (next : State) → left ≡ Ok (w, at) ∷ more → step c m s (w, at) ≡ if_taken true next → Reads (read ++ (w, at) ∷ []) more false next
+    takes w at more next is taken = go (machine.step c m r.state w) refl (subst (Goes s w at (machine.step c m r.state w)) taken (step_goes w at))
       where
         nil_more : (xs : List Placed) (p : Placed) → is_nil (xs ++ p ∷ []) ≡ false
         nil_more [] p = refl
         nil_more (x ∷ xs) p = refl
 
-        go : (o : Option machine.State) → machine.step c m r.state w ≡ o → Answers o true (see (seen_of read) w s) new → Reads (read ++ (w, s) ∷ []) more false new
-        go None h k = absurd cc
-        go (Some state) h k = record {
-          so_far = r.so_far ∙ ap (λ xs. map Ok read ++ xs) next ∙ sym (append_assoc (map Ok read) (Ok (w, s) ∷ []) more) ∙ ap (λ xs. xs ++ more) (sym (map-append Ok read ((w, s) ∷ [])));
+        go : (o : Option machine.State) → machine.step c m r.state w ≡ o → Goes s w at o (Some next) → Reads (read ++ (w, at) ∷ []) more false next
+        go None h k = absurd k
+        go (Some state) h (shows, k) = record {
+          so_far = r.so_far ∙ ap (λ xs. map Ok read ++ xs) is ∙ sym (append_assoc (map Ok read) (Ok (w, at) ∷ []) more) ∙ ap (λ xs. xs ++ more) (sym (map-append Ok read ((w, at) ∷ [])));
           state = state;
-          reached = ap (λ ws. machine.run c m (Some machine.start) ws) (words_more w s) ∙ run_front c m (words read) (w ∷ []) (Some r.state) r.reached ∙ h;
-          shows = subst (λ seen. Shows state.phase state.frame state.outer seen new) (sym (seen_more nothing_seen read w s)) k.1;
-          nest = subst (λ (seen : Seen). Nest (read ++ (w, s) ∷ []) seen.places) (sym (seen_more nothing_seen read w s))
-              (nest_more read (seen_of read).places w s r.nest (λ close. subst (λ n. 0 < n) (sym (places_long ∙ opened_long)) (open_before r.state.phase r.state.frame r.state.outer state (subst (λ x. machine.step c m r.state x ≡ Some state) close h))));
-          begun = sym (nil_more read (w, s));
+          reached = ap (λ ws. machine.run c m (Some machine.start) ws) (words_more w at) ∙ run_front c m (words read) (w ∷ []) (Some r.state) r.reached ∙ h;
+          shows = shows;
+          last_is = k.last_is ∙ ap (λ last. next_last last w) r.last_is ∙ sym (last_more Due (words read) w) ∙ ap last_of (sym (words_more w at));
+          spans_are = k.spans_are ∙ ap (λ last. add_span (is_license last w) (spans_of s) at) r.last_is ∙ ap (λ xs. add_span (is_license (last_of (words read)) w) xs at) r.spans_are ∙ sym (spans_more Due read w at);
+          nest = subst (Nest (read ++ (w, at) ∷ [])) (sym k.places_are)
+              (nest_more read (places_of s) w at r.nest (λ close. subst (λ n. 0 < n) (sym (places_long ∙ opened_long)) (open_before r.state.phase r.state.frame r.state.outer state (subst (λ x. machine.step c m r.state x ≡ Some state) close h))));
+          frames_fit = subst (λ n. FramesFit n next) (sym (length-append read ((w, at) ∷ []))) (k.frames_fit (length read) r.frames_fit);
+          begun = sym (nil_more read (w, at));
         }
 
     -- a word that was refused
-    pub stops : (w : Word) (s : Span) (more : List Item) (new : Parser) (none : Bool) (f : Fault) → left ≡ Ok (w, s) ∷ more → Answers (machine.step c m r.state w) false (see (seen_of read) w s) new → none ≡ (length parser.opened.items == 0) → f ≡ fault_behind m (last_in parser.phase) none w → IsFaultOf c m text f s
-    stops w s more new none f next a tells is =
-        let fault : f ≡ word_fault m (words read) w =
-        is ∙ ap (λ b. fault_behind m (last_in parser.phase) b w) (tells ∙ sym (ap (λ n. n == 0) places_long) ∙ sym (none_open_is read (seen_of read).places r.nest))
-        ∙ ap (λ last. fault_behind m last (opens (words read) == closes (words read)) w) last_now in
-        subst (λ x. IsFaultOf c m text x s) (sym fault) (at_word read w more (r.so_far ∙ ap (λ xs. map Ok read ++ xs) next) is_viable (go (machine.step c m r.state w) refl a))
+    pub stops : (w : Word) (at : Span) (more : List Item) (next : State) (none : Bool) (f : Fault) → left ≡ Ok (w, at) ∷ more → step c m s (w, at) ≡ if_taken false next → none ≡ (length s.opened == 0) → f ≡ fault_behind m s.last none w → IsFaultOf c m text f at
+    stops w at more next none f is refused tells fault =
+        let same : f ≡ word_fault m (words read) w =
+        fault ∙ ap (λ b. fault_behind m s.last b w) (tells ∙ sym (ap (λ n. n == 0) places_long) ∙ sym (none_open_is read (places_of s) r.nest))
+        ∙ ap (λ last. fault_behind m last (opens (words read) == closes (words read)) w) r.last_is in
+        subst (λ x. IsFaultOf c m text x at) (sym same) (at_word read w more (r.so_far ∙ ap (λ xs. map Ok read ++ xs) is) is_viable (go (machine.step c m r.state w) refl (subst (Goes s w at (machine.step c m r.state w)) refused (step_goes w at))))
       where
-        go : (o : Option machine.State) → machine.step c m r.state w ≡ o → Answers o false (see (seen_of read) w s) new → IsViable c m (words read ++ w ∷ []) → ⊥
+        go : (o : Option machine.State) → machine.step c m r.state w ≡ o → Goes s w at o None → IsViable c m (words read ++ w ∷ []) → ⊥
         go None h k v = not_viable c m (words read ++ w ∷ []) v.0 v.1 (run_front c m (words read) (w ∷ []) (Some r.state) r.reached ∙ h) v.2
-        go (Some state) h k v = let x : false ≡ true = k.0 in absurd cc
+        go (Some state) h k v = k
 
     -- a place that is no word
-    pub lexes_no_more : (f : Fault) (s : Span) (more : List Item) → left ≡ Err (f, s) ∷ more → IsFaultOf c m text f s
-    lexes_no_more f s more next = at_place read more (r.so_far ∙ ap (λ xs. map Ok read ++ xs) next) is_viable
+    pub lexes_no_more : (f : Fault) (at : Span) (more : List Item) → left ≡ Err (f, at) ∷ more → IsFaultOf c m text f at
+    lexes_no_more f at more is = at_place read more (r.so_far ∙ ap (λ xs. map Ok read ++ xs) is) is_viable
+
+    -- each left side has a word of the text, and so has the one that comes
+    pub has_room : (p : Placed) (more : List Item) → left ≡ Ok p ∷ more → length (reading c m 0 text) ≤ length text → length text < 2 ^ 64 → s.frame.ors + s.frame.ands + 1 < 2 ^ 64
+    has_room p more is long lt =
+        let all = ap length (r.so_far ∙ ap (λ xs. map Ok read ++ xs) is) ∙ length-append (map Ok read) (Ok p ∷ more) in
+        omega (arith, r.frames_fit.0, all, length-map read (λ (q : Placed). let i : Item = Ok q in i), long, lt)
 
     module _ (last : left ≡ []) where
       all_read : reading c m 0 text ≡ map Ok read
@@ -212,50 +208,19 @@ module _ (c : Rows) (m : ParseMode) (text : List ℕ) where
           go [] e v none is = at_end [] e v none empty
           go (x ∷ xs) e v none is = absurd cc
 
-      built_none : is_closing (last_in parser.phase) ≡ false → machine.built r.state ≡ None
-      built_none e = go r.state.phase parser.phase r.shows.phase_fits e
-        where
-          go : (p : machine.Phase) (phase : Phase) → Fits p phase → is_closing (last_in phase) ≡ false → machine.finish p r.state.frame r.state.outer ≡ None
-          go machine.Due phase fits e = refl
-          go (machine.Joined l) phase fits e = refl
-          go (machine.Fresh x) Phase.Due fits e = absurd fits
-          go (machine.Fresh x) (Phase.Fresh id) fits e = absurd cc
-          go (machine.Fresh x) (Phase.Named name) fits e = absurd fits
-          go (machine.Fresh x) (Phase.Joined name) fits e = absurd fits
-          go (machine.Fresh x) Phase.Added fits e = absurd fits
-          go (machine.Fresh x) Phase.Closed fits e = absurd fits
-          go (machine.Named l) Phase.Due fits e = absurd fits
-          go (machine.Named l) (Phase.Fresh id) fits e = absurd fits
-          go (machine.Named l) (Phase.Named name) fits e = absurd (closes_name name e)
-            where
-              closes_name : (name : Name) → is_closing (last_in (Phase.Named name)) ≡ false → ⊥
-              closes_name (Name.Listed id mark) e = cc
-              closes_name (Name.Reference d n) e = cc
-              closes_name (Name.Unknown n) e = cc
-          go (machine.Named l) (Phase.Joined name) fits e = absurd fits
-          go (machine.Named l) Phase.Added fits e = absurd fits
-          go (machine.Named l) Phase.Closed fits e = absurd fits
-          go (machine.Whole t) Phase.Due fits e = absurd fits
-          go (machine.Whole t) (Phase.Fresh id) fits e = absurd fits
-          go (machine.Whole t) (Phase.Named name) fits e = absurd fits
-          go (machine.Whole t) (Phase.Joined name) fits e = absurd fits
-          go (machine.Whole t) Phase.Added fits e = absurd cc
-          go (machine.Whole t) Phase.Closed fits e = absurd cc
-
       -- a word that something has to follow
-      pub ends_short : is_empty ≡ false → is_closing (last_in parser.phase) ≡ false → IsFaultOf c m text (Unexpected (terms (last_in parser.phase))) (span (length text) 0)
-      ends_short begun e = go read all_read is_viable (no_tree c m (words read) r.state r.reached (built_none e)) (sym r.begun ∙ begun) last_now
+      pub ends_short : is_empty ≡ false → is_closing s.last ≡ false → IsFaultOf c m text (Unexpected (terms s.last)) (span (length text) 0)
+      ends_short begun e = go read all_read is_viable (no_tree c m (words read) r.state r.reached (not_ended r.state.phase r.state.frame r.state.outer s r.shows e)) (sym r.begun ∙ begun) r.last_is
         where
-          go : (xs : List Placed) → reading c m 0 text ≡ map Ok xs → IsViable c m (words xs) → ((t : Tree) → Derives c m (words xs) t → ⊥) → is_nil xs ≡ false → last_in parser.phase ≡ last_of (words xs) → IsFaultOf c m text (Unexpected (terms (last_in parser.phase))) (span (length text) 0)
+          go : (xs : List Placed) → reading c m 0 text ≡ map Ok xs → IsViable c m (words xs) → ((t : Tree) → Derives c m (words xs) t → ⊥) → is_nil xs ≡ false → s.last ≡ last_of (words xs) → IsFaultOf c m text (Unexpected (terms s.last)) (span (length text) 0)
           go [] reads v none is now = absurd cc
           go (x ∷ xs) reads v none is now = subst (λ last. IsFaultOf c m text (Unexpected (terms last)) (span (length text) 0)) (sym now) (at_end (x ∷ xs) reads v none (short (subst (λ last. is_closing last ≡ false) now e)))
 
       -- a parenthesis that is left open
-      pub ends_open : (rest : List Opened) (opened : Opened) → is_closing (last_in parser.phase) ≡ true → parser.opened.items ≡ rest ++ opened ∷ [] → IsFaultOf c m text UnclosedParens (span_of opened.place)
-      ends_open rest opened e is =
-          let places = sym r.shows.stands.places_are ∙ ap places_of is ∙ map-append (λ (o : Opened). span_of o.place) rest (opened ∷ []) in
-          let last_place = last_open read (places_of rest) (span_of opened.place) (subst (Nest read) places r.nest) in
-          at_end read all_read is_viable (no_tree c m (words read) r.state r.reached none) (unclosed (subst (λ last. is_closing last ≡ true) last_now e) last_place)
+      pub ends_open : (o : Span × Frame) (more : List (Span × Frame)) → is_closing s.last ≡ true → s.opened ≡ o ∷ more → IsFaultOf c m text UnclosedParens o.0
+      ends_open o more e is =
+          let last_place = last_open read (map (λ (x : Span × Frame). x.0) more) o.0 (subst (λ xs. Nest read (map (λ (x : Span × Frame). x.0) xs)) is r.nest) in
+          at_end read all_read is_viable (no_tree c m (words read) r.state r.reached none) (unclosed (subst (λ last. is_closing last ≡ true) r.last_is e) last_place)
         where
           bottom : (t : Tree) (fs : List machine.Frame) → 0 < length fs → machine.at_bottom t fs ≡ None
           bottom t [] lt = absurd (omega arith)
@@ -269,33 +234,30 @@ module _ (c : Rows) (m : ParseMode) (text : List ℕ) where
           within (machine.Whole t) f fs lt = bottom _ fs lt
 
           long : 0 < length r.state.outer
-          long = subst (λ n. 0 < n) opened_long (subst (λ (xs : List Opened). 0 < length xs) (sym is) (omega (arith, length-append rest (opened ∷ []))))
+          long = subst (λ n. 0 < n) opened_long (subst (λ (xs : List (Span × Frame)). 0 < length xs) (sym is) (omega arith))
 
           none : machine.built r.state ≡ None
           none = within r.state.phase r.state.frame r.state.outer long
 
       -- the whole
-      pub ends_well : is_well_formed c ≡ true → parser.opened.items ≡ [] → (nodes : List ExprNode) → ((p : machine.Phase) (f : machine.Frame) (seen : Seen) → Shows p f [] seen parser → IsBuilt (machine.finish p f []) seen nodes) → IsParsed c m text nodes
-      ends_well well none nodes h = go r.state.outer refl
+      pub ends_well : is_well_formed c ≡ true → is_closing s.last ≡ true → s.opened ≡ [] → (nodes : List ExprNode) → map placed_node nodes ≡ all_joined (require s None) → IsParsed c m text nodes
+      ends_well well closing none nodes is = go r.state.outer refl
         where
-          parsed : (t : Tree) → machine.finish r.state.phase r.state.frame [] ≡ Some t → r.state.outer ≡ [] → IsBuilt (Some t) (seen_of read) nodes → IsParsed c m text nodes
-          parsed t is outer built =
-              let final : machine.parsed c m machine.start (words read) ≡ Some t = ap machine.built_on r.reached ∙ ap (λ fs. machine.finish r.state.phase r.state.frame fs) outer ∙ is in
+          bottom : r.state.outer ≡ [] → IsParsed c m text nodes
+          bottom outer =
+              let (t, ended, joined) = ends r.state.phase r.state.frame s (subst (λ fs. Shows r.state.phase r.state.frame fs s) outer r.shows) closing in
+              let final : machine.parsed c m machine.start (words read) ≡ Some t = ap machine.built_on r.reached ∙ ap (λ fs. machine.finish r.state.phase r.state.frame fs) outer ∙ ended in
               let meant = the_tree c m (words read) t final in
               record {
                 read = read;
                 tree = t;
                 reads = all_read;
                 meant = meant;
-                nodes_are = built.0;
-                spans_are = built.1 ∙ seen_spans nothing_seen read;
+                nodes_are = sym (bare_nodes nodes) ∙ ap (λ xs. map (λ (n : PlacedNode). n.0) xs) is ∙ joined;
+                spans_are = sym (places_nodes nodes) ∙ ap places_in is ∙ ended_spans s ∙ r.spans_are;
                 rows_are = tree_known c well m (words read) t (words_known c well m text read left r.so_far) meant.derived;
               }
 
-          by : (o : Option Tree) → machine.finish r.state.phase r.state.frame [] ≡ o → r.state.outer ≡ [] → IsBuilt o (seen_of read) nodes → IsParsed c m text nodes
-          by None is outer b = absurd b
-          by (Some t) is outer b = parsed t is outer b
-
           go : (fs : List machine.Frame) → r.state.outer ≡ fs → IsParsed c m text nodes
-          go [] outer = by (machine.finish r.state.phase r.state.frame []) refl outer (h r.state.phase r.state.frame (seen_of read) (subst (λ fs. Shows r.state.phase r.state.frame fs (seen_of read) parser) outer r.shows))
+          go [] outer = bottom outer
           go (f ∷ fs) outer = let zero : length r.state.outer ≡ 0 = sym opened_long ∙ ap length none in let long = ap length outer in absurd (omega arith)

@@ -6,4 +6,6 @@ pub mod Faults
 pub mod Meaning
 pub mod Machine
 pub mod Code
+pub mod State
+pub mod ParserModel
 pub mod Nodes

@@ -1,12 +1,13 @@
 //! The nodes of a licence expression, and the parser that gives them.
 #![tactic(auto)]
 
-mod frames;
+mod last;
 pub mod law;
+mod name;
 pub mod node;
+mod nodes;
 pub mod parser;
-mod phase;
 mod step;
 
-pub use crate::node::{ExprNode, ExpressionReq, Operator};
+pub use crate::node::{ExprNode, ExpressionReq, NodeList, Operator};
 pub use crate::parser::parse_nodes;

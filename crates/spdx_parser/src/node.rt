@@ -7,6 +7,7 @@ ghost use Rattle.spdx_parser.specs.Tree.{node_of};
 ghost use Rattle.spdx_parser.specs.Nodes.{NodeHasNoReference};
 ghost use Rattle.spdx_parser.specs.Spans.{node_span};
 
+use smallvec::SmallVec;
 use spdx_catalogue::LicenseReq;
 use std::alloc::{AllocError, Global};
 use std::ops::Range;
@@ -34,6 +35,9 @@ pub enum ExprNode<'c> {
     Op(Operator),
     Req(ExpressionReq<'c>),
 }
+
+/// The nodes of an expression; a single one takes no memory beside the list.
+pub type NodeList<'c> = SmallVec<ExprNode<'c>, 1>;
 
 impl Default for ExprNode<'_> {
     fn default() -> Self {

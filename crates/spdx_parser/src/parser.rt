@@ -1,23 +1,110 @@
 // The parser of a text.
 
-ghost use Rattle.std.specs.Prelude.{◌≡◌, All, IfOk, IfErr};
+ghost use Rattle.std.specs.Prelude.{◌≡◌, List, All, map, IfOk, IfErr, OnOk};
 ghost use Rattle.spdx_catalogue.specs.declared.error.Failure.TheVariants.{Refused};
 ghost use Rattle.spdx_catalogue.specs.Failures.{IfRefused};
 ghost use Rattle.spdx_lexer.specs.Layout.{IsPlace};
 ghost use Rattle.spdx_parser.specs.Meaning.{IsParsed, IsRefused};
+ghost use Rattle.spdx_parser.specs.Nodes.{placed_node};
 ghost use Rattle.spdx_parser.specs.Spans.{requirement_spans};
+ghost use Rattle.spdx_parser.specs.State.{start};
+ghost use Rattle.spdx_parser.specs.declared.node.ExprNode.{ExprNode};
 
-use crate::frames::Parser;
-use crate::node::ExprNode;
-use crate::phase::{is_closing, reason, terms};
-use crate::step::{finish, read};
+use crate::last::{Last, is_closing, reason, terms};
+use crate::name::Name;
+use crate::node::NodeList;
 use smallvec::SmallVec;
 use spdx_catalogue::{Catalogue, Failure};
 use spdx_lexer::error::{ParseError, Reason};
 use spdx_lexer::lexer::Lexer;
 use spdx_lexer::token::{LexerToken, ParseMode};
 use std::alloc::Global;
+use std::marker::Model;
 use std::ops::Range;
+
+/// How many left sides of OR wait for their right side, and above them how many of AND.
+#[derive(Clone, Copy)]
+pub struct Frame {
+    pub ors: usize,
+    pub ands: usize,
+}
+
+/// A parenthesis that is open, and the frame that it stands in.
+#[derive(Drop)]
+pub struct Opened {
+    pub place: Range<usize>,
+    pub around: Frame,
+}
+
+/// The nodes so far, the parentheses that are open with the frames around them, the innermost
+/// frame, what was read last, the licence that is no requirement yet, and where the last licence
+/// stands.
+#[derive(Drop)]
+pub struct Parser<'c, 't> {
+    pub alloc: Global,
+    pub nodes: NodeList<'c>,
+    pub opened: Vec<Opened>,
+    pub frame: Frame,
+    pub last: Last<'c>,
+    pub license: Option<Name<'c, 't>>,
+    pub place: Range<usize>,
+}
+
+impl<'c, 't> Model for Parser<'c, 't> {
+    ghost use Rattle.spdx_parser.specs.State.{State};
+
+    ghost Value = { State };
+
+    ghost use Rattle.spdx_parser.specs.ParserModel.{state_of};
+
+    ghost view = { state_of };
+}
+
+impl<'c, 't> Parser<'c, 't> {
+    // Takes the tokens of a text, which have to be an expression, and all of it.
+    fn read_text(
+        &mut self,
+        catalogue: &'c Catalogue,
+        text: &'t str,
+        mode: ParseMode,
+    ) -> Result<(), Failure<ParseError<'t>>>
+        requires { self.old ≡ start }
+        ensures ok { OnOk result ((nodes : List ExprNode) → map placed_node nodes ≡ self.new.nodes
+            → IsParsed catalogue.now mode text.now nodes) }
+        ensures err { IfErr result (IfRefused (λ error.
+            IsRefused catalogue.now mode text.now error)) }
+        ensures spans { OnOk result ((nodes : List ExprNode) → map placed_node nodes ≡ self.new.nodes
+            → All (IsPlace text.now) (requirement_spans nodes)) }
+    {
+        catalogue.is_well_formed();
+        let end = text.len();
+        let mut is_empty = true;
+        let mut lexer = Lexer::new_mode(catalogue, text, mode);
+        for item in lexer.by_ref() {
+            let LexerToken { token, span } = match item {
+                Ok(found) => found,
+                Err(error) => return Err(refusal(text, error.span, error.reason)),
+            };
+            let last = self.last;
+            let none_open = self.opened.is_empty();
+            if !self.read(catalogue, mode, token, span.start..span.end)? {
+                return Err(refusal(text, span, reason(mode, last, none_open, token)));
+            }
+            is_empty = false;
+        }
+        if is_empty {
+            return Err(refusal(text, 0..end, Reason::Empty));
+        }
+        if !is_closing(self.last) {
+            return Err(refusal(text, end..end, Reason::Unexpected(terms(self.last))));
+        }
+        if let Some(opened) = self.opened.pop() {
+            return Err(refusal(text, opened.place, Reason::UnclosedParens));
+        }
+        self.finish()?;
+        Ok(())
+    }
+}
 
 fn refusal(text: &str, span: Range<usize>, reason: Reason) -> Failure<ParseError<'_>>
     ensures { result ≡ Refused (record { original = text.entry; span = span; reason = reason }) }
@@ -45,37 +132,20 @@ pub fn parse_nodes<'c, 't>(
     catalogue: &'c Catalogue,
     text: &'t str,
     mode: ParseMode,
-) -> Result<SmallVec<ExprNode<'c>, 5>, Failure<ParseError<'t>>>
+) -> Result<NodeList<'c>, Failure<ParseError<'t>>>
     ensures ok { IfOk result (λ nodes. IsParsed catalogue.now mode text.now nodes.items) }
     ensures err { IfErr result (IfRefused (λ error. IsRefused catalogue.now mode text.now error)) }
     ensures spans { IfOk result (λ nodes. All (IsPlace text.now) (requirement_spans nodes.items)) }
 {
-    catalogue.is_well_formed();
-    let mut parser = Parser::new(alloc, catalogue, text);
-    let mut is_empty = true;
-    let mut lexer = Lexer::new_mode(catalogue, text, mode);
-    for item in lexer.by_ref() {
-        let found: LexerToken<'c, 't> = match item {
-            Ok(found) => found,
-            Err(error) => return Err(refusal(text, error.span, error.reason)),
-        };
-        let LexerToken { token, span } = found;
-        let before = parser.phase;
-        let none_open = parser.opened.is_empty();
-        if !read(&mut parser, catalogue, mode, token, span.start..span.end)? {
-            return Err(refusal(text, span, reason(mode, before, none_open, token)));
-        }
-        is_empty = false;
-    }
-    let end = text.len();
-    if is_empty {
-        return Err(refusal(text, 0..end, Reason::Empty));
-    }
-    if !is_closing(parser.phase) {
-        return Err(refusal(text, end..end, Reason::Unexpected(terms(parser.phase))));
-    }
-    match parser.opened.pop() {
-        Some(opened) => Err(refusal(text, opened.place, Reason::UnclosedParens)),
-        None => Ok(finish(parser)?),
-    }
+    let mut parser = Parser {
+        alloc,
+        nodes: SmallVec::new(alloc),
+        opened: Vec::new(alloc),
+        frame: Frame { ors: 0, ands: 0 },
+        last: Last::Due,
+        license: None,
+        place: 0..0,
+    };
+    parser.read_text(catalogue, text, mode)?;
+    Ok(parser.nodes)
 }
