@@ -9,7 +9,6 @@ pub mod Asking
 pub mod Places
 pub mod Chosen
 pub mod Doubles
-pub mod Told
 pub mod Telling
 pub mod PlacedNodes
 pub mod Answering

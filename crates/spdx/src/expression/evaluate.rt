@@ -11,9 +11,9 @@ ghost use Rattle.spdx_catalogue.specs.Failures.{RefusedOr, IfRefused};
 ghost use Rattle.spdx_catalogue.specs.Items.{Requirement};
 
 use crate::expression::Expression;
+use bit_stack::Truths;
 use spdx_catalogue::{Failure, LicenseReq};
 use spdx_parser::node::{ExprNode, ExpressionReq, Operator};
-use bit_stack::Truths;
 use std::alloc::{AllocError, Global};
 
 impl<'c> Expression<'c> {

@@ -9,11 +9,11 @@ ghost use Rattle.spdx.specs.Places.{trees_of, places, places_in, met_by, any_at,
 
 use crate::expression::Expression;
 use crate::expression::question::Question;
-use spdx_catalogue::LicenseReq;
+use bit_stack::Truths;
 use least_selection::Sufficiency;
+use spdx_catalogue::LicenseReq;
 use spdx_licensee::Licensee;
 use spdx_parser::node::{ExprNode, Operator};
-use bit_stack::Truths;
 use std::alloc::{AllocError, Global};
 use std::slice;
 

@@ -4,6 +4,7 @@ ghost use Rattle.std.specs.Prelude.{◌≡◌, [], ◌∷◌, Some, Bool, List, 
 ghost use Rattle.std.specs.List.{list_any};
 ghost use Rattle.spdx_catalogue.specs.Items.{requirement_of};
 ghost use Rattle.spdx_parser.specs.Tree.{leaves};
+ghost use Rattle.spdx_licensee.specs.Equality.{same_requirement};
 ghost use Rattle.spdx_licensee.specs.Satisfies as spec;
 ghost use Rattle.spdx_catalogue.specs.Failures.{IfRefused};
 ghost use Rattle.spdx.specs.Choice.{satisfies_some, useful, chosen, chosen_of, choice_of, IsLeastChoice};
@@ -13,12 +14,11 @@ ghost use Rattle.spdx.specs.MinimizeFaults.{refused_choice, minimize_text, minim
 
 use crate::expression::Expression;
 use crate::expression::judge::ExpressionJudge;
-use spdx_catalogue::{Failure, LicenseReq};
 use least_selection::select_least;
+use spdx_catalogue::{Failure, LicenseReq};
 use spdx_licensee::Licensee;
 use spdx_parser::node::ExprNode;
 use std::alloc::{AllocError, Global};
-use std::collections::BTreeSet;
 use std::{fmt, slice};
 
 /// Why there is no choice of licensees.
@@ -91,9 +91,9 @@ impl<'c> Expression<'c> {
 /// that stand first are preferred, and the number of the chosen ones need not be the least. None of
 /// them can be left out with the rest sufficient. Without an expression the choice is empty.
 ///
-/// Each distinct licensee is compared with each requirement at most twice, and licensees with one
-/// another about `n * log n` times for n of them. Then at most one question more than there are
-/// useful licensees is asked, each a walk over the nodes of the expressions.
+/// Each licensee is compared with each requirement at most twice, and each that satisfies one with
+/// those before it. Then at most one question more than there are useful licensees is asked, each a
+/// walk over the nodes of the expressions.
 ///
 /// # Errors
 ///
@@ -136,14 +136,21 @@ fn useful_members<'a, 'c>(
     ensures { IfOk result (λ members.
         nows members.items ≡ useful (trees_of exprs.now) accepted.now) }
 {
-    let mut seen: BTreeSet<&'a LicenseReq<'c>> = BTreeSet::new(alloc);
     let mut members = Vec::new(alloc);
-    for licensee in accepted {
-        if seen.insert(licensee.req())? && is_useful(licensee, exprs) {
+    for place in 0..accepted.len() {
+        let licensee = &accepted[place];
+        if is_useful(licensee, exprs) && !is_among(licensee, &accepted[..place]) {
             members.push(licensee)?;
         }
     }
     Ok(members)
+}
+
+// Whether one of these is the same licensee.
+fn is_among(licensee: &Licensee<'_>, others: &[Licensee<'_>]) -> bool
+    ensures { result ≡ list_any (λ b. same_requirement b licensee.now) others.now }
+{
+    others.iter().any(|other| other == licensee)
 }
 
 // Whether the licensee satisfies a requirement of some expression.
