@@ -115,6 +115,9 @@ pub fn minimized_for_all<'a, 'c: 'a>(
 {
     let members = useful_members(alloc, exprs, accepted)?;
     let count = members.len();
+    if count == 0 && !exprs.is_empty() {
+        return Err(Failure::Refused(MinimizeError::RequirementsUnmet));
+    }
     if count > 1024 {
         return Err(Failure::Refused(MinimizeError::TooManyRequirements(count)));
     }

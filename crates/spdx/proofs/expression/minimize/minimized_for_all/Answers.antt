@@ -1,12 +1,23 @@
-use Rattle.std.proofs.Common.{rules, arith, ◌≡◌, ◌≤◌, ◌∙◌, sym, ap, List, length}
+use Rattle.std.proofs.Common.{rules, arith, ◌≡◌, ◌<◌, ◌≤◌, ◌∙◌, sym, ap, false, List, length}
 use Rattle.std.proofs.lemmas.List.{length-map}
 use Rattle.spdx_catalogue.specs.Items.{Requirement}
 use Rattle.least_selection.specs.Selection.{IsLeast, NeedsEach, NoneSuffices}
 use Rattle.spdx.specs.Choice.{useful, chosen, chosen_of}
 use Rattle.spdx.specs.Places.{trees_of}
 use Rattle.spdx.specs.Value.{nows}
-use Rattle.spdx.proofs.Chosen.{choice_least, choice_unmet, of_judge}
+use Rattle.spdx.proofs.Chosen.{choice_least, choice_of_nobody, choice_unmet, of_judge}
 use Rattle.spdx.proofs.expression.minimize.minimized_for_all.Goals as goal
+
+pub returns-then-not-is_empty-clause-err : goal.returns-then-not-is_empty-clause-err
+returns-then-not-is_empty-clause-err c =
+    let ts = trees_of c.args.exprs.now in
+    let us = useful ts c.args.accepted.now in
+    let count : length c.in_ok-members.members.items ≡ length us = sym (length-map c.in_ok-members.members.items (λ m. m.now)) ∙ ap length c.in_ok-members.ensures in
+    let none : length us ≡ 0 = omega (arith, count, c.if-count-eq0.true, c.len-count.ensures) in
+    let many : length ts ≡ length c.args.exprs.now = length-map c.args.exprs.now (λ e. e.now.tree) in
+    let there : c.is_empty.result ≡ false = search rules in
+    let some : 0 < length ts = grind (arith, many, there, c.is_empty.ensures) in
+    choice_of_nobody ts us none some
 
 pub returns-then-not-select_least-clause-err : goal.returns-then-not-select_least-clause-err
 returns-then-not-select_least-clause-err c =
