@@ -81,7 +81,7 @@ pub(crate) fn total_of_readings(
     catalogue: &Catalogue,
     call: Reading,
     lines: &[&str],
-    times: u32,
+    times: u64,
 ) -> u64 {
     let mut total = 0u64;
     for _ in 0..times {
@@ -97,7 +97,7 @@ pub(crate) fn total_of_answers<'c>(
     alloc: Global,
     expressions: &[Expression<'c>],
     call: Question<'_, 'c>,
-    times: u32,
+    times: u64,
 ) -> u64 {
     let mut total = 0u64;
     for _ in 0..times {
