@@ -64,11 +64,7 @@ pub fn run_in<'c, I: Source, O: Sink>(
         (devices (I.told input.old) (I.told input.new) (O.told output.old) (O.told output.new))
         result }
 {
-    let mut each = EachLine {
-        cat,
-        mode,
-        accepted,
-    };
+    let mut each = EachLine::new(alloc, cat, mode, accepted);
     engine::run_in(alloc, &mut each, input, output, buffer)
 }
 
@@ -88,11 +84,7 @@ pub fn run<'c, I: Source, O: Sink>(
         (devices (I.told input.old) (I.told input.new) (O.told output.old) (O.told output.new))
         result }
 {
-    let mut each = EachLine {
-        cat,
-        mode,
-        accepted,
-    };
+    let mut each = EachLine::new(alloc, cat, mode, accepted);
     engine::run(alloc, &mut each, input, output)
 }
 
