@@ -1,11 +1,13 @@
 # make run: the first verdicts, over the real list. make build: the proved program. make install: puts it in place.
+# make speed CRATE=FOLDER: processor time against the published Rust crate, whose sources are in FOLDER; CORPUS=FILE has
+# expressions with their weights.
 # make test: the whole gate, of which make quotes, theorem, growths and program are parts: what README.md and
 # docs/THEOREM.md quote is what the files hold; each growth of memory refused to each call; the built program in hostile
 # surroundings.
 PREFIX ?= /usr/local
 PROGRAM := crates/spdx_lines_main/out/spdx_lines_main
 
-.PHONY: run build install quotes theorem growths program test
+.PHONY: run build install quotes theorem growths program speed test
 
 run:
 	@tools/run
@@ -31,6 +33,10 @@ program: $(PROGRAM)
 
 $(PROGRAM):
 	@tools/build
+
+# It measures, and is no part of the gate.
+speed:
+	@tools/speed "$(CRATE)" "$(CORPUS)"
 
 # The program is run as rt ci has built it.
 test:

@@ -1,88 +1,145 @@
-// Expressions a second, of each call that reads a text.
-//
-// spdx_bench CATALOGUE FILE TIMES reads FILE's lines, and calls each of strict parsing, lax parsing
-// and `canonicalize` on each line, TIMES times over.
+//! The processor time of each call of `spdx` on many texts.
+//!
+//! spdx_bench CATALOGUE FILE TIMES [LICENSEE].. makes each call on each line of FILE, TIMES times over: tokens and
+//! trees by both modes, and canonical texts. Of the first thousand lines that `LAX` accepts it asks the truth, where the
+//! licences that the Open Source Initiative has approved are allowed, and the least choice among the first three
+//! licensees and among all, once more for each thousand of FILE. It prints what the calls gave, added up, and of how
+//! many calls, on standard output, and their nanoseconds on standard error.
 #![tactic(auto)]
 
-use spdx::{Catalogue, Expression, ParseMode};
-use std::alloc::Global;
+mod calls;
+
+use crate::calls::{Question, Reading, total_of_answers, total_of_readings};
+use spdx::{Catalogue, Expression, Licensee, ParseMode};
+use std::alloc::{AllocError, Global};
 use std::process::ExitCode;
-use std::time::{Duration, Instant};
+use std::time::{CpuClock, Duration};
 use std::{env, fs, io};
 
-#[derive(Clone, Copy)]
-enum Call {
-    Parse(ParseMode),
-    Canonicalize,
-}
+// So many stay near the processor.
+const KEPT: usize = 1_000;
 
-// Whether the call took the line.
-fn is_taken(alloc: Global, catalogue: &Catalogue, call: Call, line: &str) -> bool {
-    match call {
-        Call::Parse(mode) => Expression::parse_mode(alloc, catalogue, line, mode).is_ok(),
-        Call::Canonicalize => Expression::canonicalize(alloc, catalogue, line).is_ok(),
-    }
-}
-
-// How many lines the call took, all of them read so many times over.
-fn count(alloc: Global, catalogue: &Catalogue, call: Call, text: &str, times: u32) -> u64 {
-    let mut taken = 0u64;
-    for _ in 0..times {
-        for line in text.lines() {
-            if is_taken(alloc, catalogue, call, line) {
-                taken = taken.saturating_add(1);
-            }
+// The first expressions among the lines, by `LAX`.
+fn expressions<'c>(
+    alloc: Global,
+    catalogue: &'c Catalogue,
+    lines: &[&str],
+) -> Result<Vec<Expression<'c>>, AllocError> {
+    let mut read = Vec::new(alloc);
+    for line in lines {
+        if read.len() == KEPT {
+            break;
+        }
+        if let Ok(expression) = Expression::parse_mode(alloc, catalogue, *line, ParseMode::LAX) {
+            read.push(expression)?;
         }
     }
-    taken
+    Ok(read)
 }
 
-fn a_second(calls: u64, spent: Duration) -> u64 {
-    let millis = spent
-        .as_secs()
-        .saturating_mul(1_000)
-        .saturating_add(u64::from(spent.subsec_millis()))
-        .max(1);
-    calls.saturating_mul(1_000) / millis
+// The licensees among the words.
+fn licensees<'c>(
+    alloc: Global,
+    catalogue: &'c Catalogue,
+    words: &[String],
+) -> Result<Vec<Licensee<'c>>, AllocError> {
+    let mut read = Vec::new(alloc);
+    for word in words {
+        if let Ok(licensee) = Licensee::parse(alloc, catalogue, word.as_str()) {
+            read.push(licensee)?;
+        }
+    }
+    Ok(read)
 }
 
-fn measure(rt: &HostRuntime, catalogue: &Catalogue, text: &str, times: u32) -> io::Result<()> {
-    let lines = (text.lines().count() as u64).saturating_mul(u64::from(times));
+fn nanoseconds(time: Duration) -> u64 {
+    time.as_secs()
+        .saturating_mul(1_000_000_000)
+        .saturating_add(u64::from(time.subsec_nanos()))
+}
+
+// Tells what so many calls gave, and how long they took.
+fn tell(rt: &HostRuntime, name: &str, start: Duration, total: u64, calls: u64) -> io::Result<()> {
+    let spent = nanoseconds(rt.process_cpu_time()?).saturating_sub(nanoseconds(start));
+    println!(rt; "{name}: {total} of {calls}")?;
+    eprintln!(rt; "{name}: {spent}")?;
+    Ok(())
+}
+
+fn measure_readings(
+    rt: &HostRuntime,
+    catalogue: &Catalogue,
+    lines: &[&str],
+    times: u64,
+) -> io::Result<()> {
     let calls = [
-        ("strict parses", Call::Parse(ParseMode::STRICT)),
-        ("lax parses", Call::Parse(ParseMode::LAX)),
-        ("canonical texts", Call::Canonicalize),
+        ("strict tokens", Reading::Tokens(ParseMode::STRICT)),
+        ("lax tokens", Reading::Tokens(ParseMode::LAX)),
+        ("strict trees", Reading::Tree(ParseMode::STRICT)),
+        ("lax trees", Reading::Tree(ParseMode::LAX)),
+        ("canonical texts", Reading::Canonical),
     ];
     for (name, call) in calls {
-        let start = Instant::now(rt)?;
-        let taken = count(rt.alloc(), catalogue, call, text, times);
-        let rate = a_second(lines, start.elapsed(rt)?);
-        println!(rt; "{name}: {rate} a second, {taken} of {lines} taken")?;
+        let start = rt.process_cpu_time()?;
+        let total = total_of_readings(rt.alloc(), catalogue, call, lines, times);
+        tell(
+            rt,
+            name,
+            start,
+            total,
+            times.saturating_mul(lines.len() as u64),
+        )?;
     }
     Ok(())
 }
 
-// The arguments: a catalogue, a file of lines, and how many times to read them.
+fn measure_answers<'c>(
+    rt: &HostRuntime,
+    expressions: &[Expression<'c>],
+    accepted: &[Licensee<'c>],
+    times: u64,
+) -> io::Result<()> {
+    let few = &accepted[..accepted.len().min(3)];
+    let calls = [
+        ("truths", Question::Truth),
+        ("choices among three", Question::Choice(few)),
+        ("choices among all", Question::Choice(accepted)),
+    ];
+    for (name, call) in calls {
+        let start = rt.process_cpu_time()?;
+        let total = total_of_answers(rt.alloc(), expressions, call, times);
+        tell(
+            rt,
+            name,
+            start,
+            total,
+            times.saturating_mul(expressions.len() as u64),
+        )?;
+    }
+    Ok(())
+}
+
+// The arguments: a catalogue, a file of lines, how many times to read them, and licensees.
 fn start(rt: &HostRuntime) -> io::Result<u8> {
     let words: Vec<String> = env::args(rt)?.skip(1).collect(rt.alloc())?;
-    let (Some(catalogue), Some(lines), Some(times)) = (words.get(0), words.get(1), words.get(2))
-    else {
-        eprintln!(rt; "usage: spdx_bench CATALOGUE FILE TIMES")?;
+    let [catalogue, file, times, names @ ..] = words.as_slice() else {
+        eprintln!(rt; "usage: spdx_bench CATALOGUE FILE TIMES [LICENSEE]..")?;
         return Ok(2);
     };
-    let times = times.as_str().parse::<u32>().unwrap_or(1);
+    let times = times.as_str().parse::<u64>().unwrap_or(1);
     let rows = fs::read(rt, catalogue.as_str())?;
-    let text = fs::read_to_string(rt, lines.as_str())?;
-    match Catalogue::from_json(rt.alloc(), rows.as_slice()) {
-        Ok(catalogue) => {
-            measure(rt, &catalogue, text.as_str(), times)?;
-            Ok(0)
-        }
-        Err(_) => {
-            eprintln!(rt; "no catalogue")?;
-            Ok(2)
-        }
-    }
+    let text = fs::read_to_string(rt, file.as_str())?;
+    let Ok(catalogue) = Catalogue::from_json(rt.alloc(), rows.as_slice()) else {
+        eprintln!(rt; "no catalogue")?;
+        return Ok(2);
+    };
+    let lines: Vec<&str> = text.lines().collect(rt.alloc())?;
+    let expressions = expressions(rt.alloc(), &catalogue, &lines)?;
+    let accepted = licensees(rt.alloc(), &catalogue, names)?;
+    measure_readings(rt, &catalogue, &lines, times)?;
+    let thousands = (lines.len() / KEPT).max(1) as u64;
+    measure_answers(rt, &expressions, &accepted, times.saturating_mul(thousands))?;
+    Ok(0)
 }
 
 fn main(rt: HostRuntime) -> ExitCode {

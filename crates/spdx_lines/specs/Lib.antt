@@ -5,4 +5,5 @@ pub mod Trees
 pub mod Program
 pub mod Ending
 pub mod Found
+pub mod Remembered
 pub mod Answer

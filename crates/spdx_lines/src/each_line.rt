@@ -1,21 +1,71 @@
 // Answers to lines one by one.
 
+ghost use Rattle.std.specs.Prelude.{◌≡◌, ◌++◌, IfOk, OnOk};
 ghost use Rattle.spdx_lines.specs.Found.{rule_of};
+ghost use Rattle.spdx_lines.specs.Remembered.{AreAnswers};
 
 use crate::answer::begin_answer;
 use crate::lines::LineMode;
+use crate::remembered::Remembered;
 use crate::text::put_choice;
 use line_engine::verdicts::Verdicts;
 use spdx::{Catalogue, Licensee};
 use std::alloc::{AllocError, Global};
 use std::slice;
 
-/// Answers each line by itself.
+/// Answers each line by itself. A line that came lately is answered as it was then.
 #[derive(Drop)]
 pub(crate) struct EachLine<'r, 'c> {
-    pub(crate) cat: &'c Catalogue,
-    pub(crate) mode: LineMode,
-    pub(crate) accepted: &'r [Licensee<'c>],
+    cat: &'c Catalogue,
+    mode: LineMode,
+    accepted: &'r [Licensee<'c>],
+    remembered: Remembered,
+    ghost known: { AreAnswers (rule_of cat.now mode accepted.now) remembered.slots.items },
+}
+
+impl<'r, 'c> EachLine<'r, 'c> {
+    pub(crate) fn new(
+        alloc: Global,
+        cat: &'c Catalogue,
+        mode: LineMode,
+        accepted: &'r [Licensee<'c>],
+    ) -> EachLine<'r, 'c>
+        ensures cat { result.cat.now ≡ cat.now }
+        ensures mode { result.mode ≡ mode }
+        ensures accepted { result.accepted.now ≡ accepted.now }
+    {
+        EachLine {
+            cat,
+            mode,
+            accepted,
+            remembered: Remembered::new(alloc),
+        }
+    }
+}
+
+// Appends the answer to a line, and says whether the line is refused.
+fn put_answer<'c>(
+    alloc: Global,
+    cat: &'c Catalogue,
+    mode: LineMode,
+    accepted: &[Licensee<'c>],
+    line: &[u8],
+    text: &mut Vec<u8>,
+) -> Result<bool, AllocError>
+    ensures text { OnOk result (text.new.items
+        ≡ text.old.items ++ (rule_of cat.now mode accepted.now).text line.now) }
+    ensures refuses { IfOk result (λ refused.
+        refused ≡ (rule_of cat.now mode accepted.now).refuses line.now) }
+{
+    match begin_answer(alloc, cat, mode, line, text)? {
+        None => Ok(true),
+        Some(expression) => {
+            text.push(b'\t')?;
+            put_choice(alloc, text, slice::from_ref(&&expression), accepted)?;
+            text.push(b'\n')?;
+            Ok(false)
+        }
+    }
 }
 
 impl Verdicts for EachLine<'_, '_> {
@@ -29,15 +79,15 @@ impl Verdicts for EachLine<'_, '_> {
         line: &[u8],
         text: &mut Vec<u8>,
     ) -> Result<bool, AllocError> {
-        match begin_answer(alloc, self.cat, self.mode, line, text)? {
-            None => Ok(true),
-            Some(expression) => {
-                text.push(b'\t')?;
-                put_choice(alloc, text, slice::from_ref(&&expression), self.accepted)?;
-                text.push(b'\n')?;
-                Ok(false)
-            }
+        if let Some(slot) = self.remembered.find(line) {
+            text.extend_from_slice(slot.answer())?;
+            return Ok(slot.is_refused());
         }
+        let start = text.len();
+        let is_refused = put_answer(alloc, self.cat, self.mode, self.accepted, line, text)?;
+        self.remembered
+            .keep(alloc, line, &text[start..], is_refused);
+        Ok(is_refused)
     }
 
     fn close(&mut self, _alloc: Global, _text: &mut Vec<u8>) -> Result<(), AllocError> {

@@ -7,6 +7,7 @@ mod each_line;
 mod kept;
 pub mod lines;
 pub mod program;
+mod remembered;
 mod text;
 
 pub use crate::lines::{LineMode, run, run_all, run_all_in, run_in};

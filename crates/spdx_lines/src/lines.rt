@@ -62,11 +62,7 @@ pub fn run_in<'c, I: Source, O: Sink>(
         (devices (I.told input.old) (I.told input.new) (O.told output.old) (O.told output.new))
         result }
 {
-    let mut each = EachLine {
-        cat,
-        mode,
-        accepted,
-    };
+    let mut each = EachLine::new(alloc, cat, mode, accepted);
     engine::run_in(alloc, &mut each, input, output, buffer)
 }
 
@@ -100,11 +96,7 @@ pub(crate) fn run_found<'c, I: Source, O: Sink>(
         (devices (I.told input.old) (I.told input.new) (O.told output.old) (O.told output.new))
         result }
 {
-    let mut each = EachLine {
-        cat,
-        mode,
-        accepted,
-    };
+    let mut each = EachLine::new(alloc, cat, mode, accepted);
     engine::run(alloc, &mut each, input, output)
 }
 

@@ -1,0 +1,7 @@
+use Rattle.spdx_lines.specs.Found.{rule_of}
+use Rattle.spdx_lines.proofs.each_line.EachLine.new.Goals as goal
+
+pub invariant_of-result : goal.invariant_of-result
+invariant_of-result c = record {
+  known = c.new.ensures (rule_of c.args.cat.now c.args.mode c.args.accepted.now);
+}
