@@ -7,8 +7,8 @@ use Rattle.spdx_parser.specs.Tree.{Tree, Leaf, Join, Node, Op, Req, postfix}
 use Rattle.std.proofs.lemmas.List.{append-nil}
 use Rattle.spdx_evaluation.specs.Postfix.{join_trees, trees_behind}
 use Rattle.spdx_evaluation.specs.PostfixLaws.{trees_behind_postfix}
-use Rattle.spdx_licensee.specs.Equality.{same_requirement}
-use Rattle.spdx_licensee.specs.EqualityLaws.{both_true, true_both}
+use Rattle.spdx_requirement.specs.Equality.{same_requirement}
+use Rattle.spdx_requirement.specs.EqualityLaws.{both_true, true_both}
 use Rattle.spdx.specs.Equality.{same_operator, same_node, same_tree}
 
 joins_same : (o p : Operator) (ss ts : List Tree) → same_operator o p ≡ true → pointwise same_tree ss ts ≡ true → pointwise same_tree (join_trees o ss) (join_trees p ts) ≡ true

@@ -1,10 +1,10 @@
 -- The tree of a text that was read strictly is strict, and the printed text of each of its requirements is read back.
 use Rattle.std.proofs.Common.{◌≡◌, ℕ, List, [], ◌∷◌, map, Result, Ok, Err, IfOk, IfErr, refl, ◌∙◌, ap, IsTrue}
-use Rattle.spdx_catalogue.specs.Rows.{Rows}
+use Rattle.spdx_requirement.specs.Rows.{Rows}
 use Rattle.spdx_catalogue.specs.RowRules.{is_well_formed}
-use Rattle.spdx_catalogue.specs.declared.error.Failure.{Failure}
-use Rattle.spdx_catalogue.specs.declared.error.Failure.TheVariants.{Refused, Memory}
-use Rattle.spdx_catalogue.specs.Failures.{IfRefused}
+use Rattle.spdx_requirement.specs.declared.failure.Failure.{Failure}
+use Rattle.spdx_requirement.specs.declared.failure.Failure.TheVariants.{Refused, Memory}
+use Rattle.spdx_requirement.specs.Failures.{IfRefused}
 use Rattle.spdx_lexer.specs.Modes.{strict}
 use Rattle.spdx_lexer.specs.Words.{Word, Fault, Item, Placed, words}
 use Rattle.spdx_lexer.specs.Reading.{said}

@@ -1,6 +1,6 @@
 -- Normal texts of strict trees over one catalogue are equal exactly where the trees are the same.
 use Rattle.std.proofs.Common.{◌≡◌, ℕ, List, sym, ◌∙◌, ap, ◌↔◌, IsTrue}
-use Rattle.spdx_catalogue.specs.Rows.{Rows}
+use Rattle.spdx_requirement.specs.Rows.{Rows}
 use Rattle.spdx_parser.specs.Tree.{Tree}
 use Rattle.spdx_normal.specs.Normal.{normal_text}
 use Rattle.spdx_normal.specs.Law.{IsStrict}

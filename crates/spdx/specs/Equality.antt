@@ -1,7 +1,7 @@
 -- Equality of trees, whose rows are told apart by their index alone.
 use Rattle.std.specs.Prelude.{Bool, true, false, ◌&&◌}
-use Rattle.spdx_catalogue.specs.Keys.{RequirementKey, requirement_key}
-use Rattle.spdx_licensee.specs.Equality.{same_requirement}
+use Rattle.spdx_requirement.specs.Keys.{RequirementKey, requirement_key}
+use Rattle.spdx_requirement.specs.Equality.{same_requirement}
 use Rattle.spdx_parser.specs.declared.node.Operator.{Operator}
 use Rattle.spdx_parser.specs.declared.node.Operator.TheVariants.{And, Or}
 use Rattle.spdx_parser.specs.Tree.{Tree, Leaf, Join, Node, Op, Req}

@@ -4,10 +4,10 @@ use Rattle.std.specs.Bool.{Decides}
 use Rattle.std.specs.Cmp.{IsPartialEquivalence}
 use Rattle.std.proofs.Common.{refl, sym, ◌∙◌, ap}
 use Rattle.std.proofs.lemmas.Bool.Decides.{same_from_decides}
-use Rattle.spdx_catalogue.specs.Rows.{Rows}
-use Rattle.spdx_catalogue.specs.Items.{LicenseTerm, listed, referred, Addition, excepted, added}
-use Rattle.spdx_catalogue.specs.Keys.{RequirementKey, license_key, addition_key, requirement_key}
-use Rattle.spdx_licensee.specs.EqualityLaws.{both_true, true_both, requirements_decide}
+use Rattle.spdx_requirement.specs.Rows.{Rows}
+use Rattle.spdx_requirement.specs.Items.{LicenseTerm, listed, referred, Addition, excepted, added}
+use Rattle.spdx_requirement.specs.Keys.{RequirementKey, license_key, addition_key, requirement_key}
+use Rattle.spdx_requirement.specs.EqualityLaws.{both_true, true_both, requirements_decide}
 use Rattle.spdx_parser.specs.declared.node.Operator.{Operator}
 use Rattle.spdx_parser.specs.declared.node.Operator.TheVariants.{And, Or}
 use Rattle.spdx_parser.specs.Tree.{Tree, Leaf, Join}

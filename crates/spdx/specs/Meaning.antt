@@ -1,9 +1,9 @@
 -- An expression that was read from a text.
 use Rattle.spdx_lexer.specs.Words.{Placed, words}
 use Rattle.std.specs.Prelude.{◌≡◌, ℕ, List, Ok, map}
-use Rattle.spdx_catalogue.specs.Rows.{Rows}
-use Rattle.spdx_catalogue.specs.Items.{Requirement}
-use Rattle.spdx_catalogue.specs.Texts.{requirement_text}
+use Rattle.spdx_requirement.specs.Rows.{Rows}
+use Rattle.spdx_requirement.specs.Items.{Requirement}
+use Rattle.spdx_requirement.specs.Texts.{requirement_text}
 use Rattle.spdx_lexer.specs.declared.token.ParseMode.{ParseMode}
 use Rattle.spdx_lexer.specs.Reading.{reading}
 use Rattle.spdx_parser.specs.Tree.{Leaf}

@@ -1,7 +1,7 @@
 -- The canonical text of the canonical words is the text again.
 use Rattle.std.proofs.Common.{◌≡◌, ℕ, Bool, true, false, List, [], ◌∷◌, ◌++◌, Some, refl, sym, ◌∙◌, ap, IsSome, IsTrue}
-use Rattle.spdx_catalogue.specs.Rows.{LicenseRow, Rows}
-use Rattle.spdx_catalogue.specs.Flags.{is_gnu}
+use Rattle.spdx_requirement.specs.Rows.{LicenseRow, Rows}
+use Rattle.spdx_requirement.specs.Flags.{is_gnu}
 use Rattle.spdx_catalogue.specs.LookUps.{listed}
 use Rattle.spdx_catalogue.specs.RowRules.{is_well_formed}
 use Rattle.spdx_lexer.specs.Words.{Word, Spdx, LicenseRef, Exception, AdditionRef, Unknown, Plus, OpenParen, CloseParen, With, And, Or}

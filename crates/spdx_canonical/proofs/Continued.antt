@@ -3,8 +3,8 @@ use Rattle.std.proofs.Common.{◌≡◌, ℕ, Bool, true, false, cond, List, [],
 use Rattle.std.specs.Prelude.{codes}
 use Rattle.std.specs.List.{All}
 use Rattle.spdx_lexer.specs.Layout.{IsPlace, place_of}
-use Rattle.spdx_catalogue.specs.Rows.{LicenseRow}
-use Rattle.spdx_catalogue.specs.Flags.{is_gnu}
+use Rattle.spdx_requirement.specs.Rows.{LicenseRow}
+use Rattle.spdx_requirement.specs.Flags.{is_gnu}
 use Rattle.spdx_lexer.specs.Words.{Word, Spdx, Plus, Fault, Span, Item, Unexpected}
 use Rattle.spdx_canonical.specs.Canonical.{gnu_name, written_name, word_text, text_behind, is_spdx, is_misplaced, canonical_fault, words_of, unless}
 use Rattle.spdx_canonical.specs.Draft.{Drafted, extended, IsOff}

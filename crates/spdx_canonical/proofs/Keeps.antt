@@ -1,8 +1,8 @@
 -- Words whose licences are replaced mean the tree whose licences are replaced alike.
 use Rattle.std.proofs.Common.{◌≡◌, Bool, true, false, List, [], ◌∷◌, Some, None, refl, sym, subst}
-use Rattle.spdx_catalogue.specs.Rows.{LicenseRow, Rows}
-use Rattle.spdx_catalogue.specs.Flags.{is_gnu}
-use Rattle.spdx_catalogue.specs.Items.{Reference, LicenseTerm, listed, referred, Addition, Requirement}
+use Rattle.spdx_requirement.specs.Rows.{LicenseRow, Rows}
+use Rattle.spdx_requirement.specs.Flags.{is_gnu}
+use Rattle.spdx_requirement.specs.Items.{Reference, LicenseTerm, listed, referred, Addition, Requirement}
 use Rattle.spdx_lexer.specs.declared.token.ParseMode.{ParseMode}
 use Rattle.spdx_lexer.specs.Words.{Word, Spdx, LicenseRef, Unknown, Plus}
 use Rattle.spdx_parser.specs.Tree.{Tree}

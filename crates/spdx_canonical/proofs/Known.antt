@@ -1,6 +1,6 @@
 -- What is known of the rows of a well formed catalogue.
 use Rattle.std.proofs.Common.{◌≡◌, ℕ, true, false, List, Some, ◌∙◌, sym, ap, IsTrue}
-use Rattle.spdx_catalogue.specs.Rows.{LicenseRow, ExceptionRow, Rows}
+use Rattle.spdx_requirement.specs.Rows.{LicenseRow, ExceptionRow, Rows}
 use Rattle.spdx_catalogue.specs.Names.{is_name, is_operator}
 use Rattle.spdx_catalogue.specs.LookUps.{listed, listed_exception, listed_caseless, listed_exception_caseless}
 use Rattle.spdx_catalogue.specs.RowRules.{is_well_formed}

@@ -1,6 +1,6 @@
 -- All laws of the canonical text.
 use Rattle.std.proofs.Common.{ℕ, List, IsTrue}
-use Rattle.spdx_catalogue.specs.Rows.{Rows}
+use Rattle.spdx_requirement.specs.Rows.{Rows}
 use Rattle.spdx_catalogue.specs.RowRules.{is_well_formed}
 use Rattle.spdx_canonical.specs.Law.{CanonicalLaws}
 use Rattle.spdx_canonical.proofs.Sound.{defined, faithful, telling}

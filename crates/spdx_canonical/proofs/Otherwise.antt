@@ -4,11 +4,12 @@ use Rattle.std.specs.Prelude.{option_and_then, codes}
 use Rattle.std.specs.List.{list_all, starts_with}
 use Rattle.std.specs.Option.{option_map_or}
 use Rattle.std.proofs.Math.Seq.{drop-append_seam}
-use Rattle.spdx_catalogue.specs.Rows.{LicenseRow, ExceptionRow, Rows}
-use Rattle.spdx_catalogue.specs.Flags.{is_gnu, is_deprecated}
-use Rattle.spdx_catalogue.specs.Names.{is_name_byte, is_name, is_operator, or_later, without_only}
+use Rattle.spdx_requirement.specs.Rows.{LicenseRow, ExceptionRow, Rows}
+use Rattle.spdx_requirement.specs.Flags.{is_gnu, is_deprecated}
+use Rattle.spdx_catalogue.specs.Names.{is_name_byte, is_name, is_operator}
+use Rattle.spdx_requirement.specs.Endings.{or_later, without_only}
 use Rattle.spdx_catalogue.specs.LookUps as LookUps
-use Rattle.spdx_catalogue.specs.Items.{LicenseTerm, listed, referred}
+use Rattle.spdx_requirement.specs.Items.{LicenseTerm, listed, referred}
 use Rattle.spdx_catalogue.specs.RowRules.{is_well_formed}
 use Rattle.spdx_lexer.specs.Modes.{strict, lax}
 use Rattle.spdx_lexer.specs.Words.{Word, Spdx, LicenseRef, Exception, AdditionRef, Unknown, Plus, OpenParen, CloseParen, With, And, Or, Fault, UnknownTerm}

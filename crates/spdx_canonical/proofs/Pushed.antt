@@ -1,8 +1,8 @@
 -- Pieces written one after another.
 use Rattle.std.proofs.Common.{◌≡◌, ℕ, Bool, true, false, cond, List, ◌++◌, Some, sym, ◌∙◌, ap, subst, append_assoc}
-use Rattle.spdx_catalogue.specs.Rows.{LicenseRow}
-use Rattle.spdx_catalogue.specs.Flags.{is_gnu}
-use Rattle.spdx_catalogue.specs.Names.{only, has_suffix}
+use Rattle.spdx_requirement.specs.Rows.{LicenseRow}
+use Rattle.spdx_requirement.specs.Flags.{is_gnu}
+use Rattle.spdx_requirement.specs.Endings.{only, has_suffix}
 use Rattle.spdx_canonical.specs.Canonical.{gnu_name}
 use Rattle.spdx_canonical.specs.NextText.{marked_name, license_and_plus}
 use Rattle.spdx_canonical.proofs.Drafts.{still_off, off_more, off_same}

@@ -2,8 +2,8 @@
 use Rattle.std.proofs.Common.{◌≡◌, ℕ, ◌+◌, suc, ◌<◌, ◌==◌, Bool, true, false, List, [], ◌∷◌, ◌++◌, map, length, Result, Ok, refl, ◌∙◌, ap, lit<, IsTrue}
 use Rattle.std.specs.Prelude.{codes}
 use Rattle.std.specs.Char.{is_whitespace}
-use Rattle.spdx_catalogue.specs.Rows.{LicenseRow, Rows}
-use Rattle.spdx_catalogue.specs.Flags.{is_gnu}
+use Rattle.spdx_requirement.specs.Rows.{LicenseRow, Rows}
+use Rattle.spdx_requirement.specs.Flags.{is_gnu}
 use Rattle.spdx_catalogue.specs.RowRules.{is_well_formed}
 use Rattle.spdx_lexer.specs.declared.token.ParseMode.{ParseMode}
 use Rattle.spdx_lexer.specs.Words.{Word, Spdx, LicenseRef, Exception, AdditionRef, Unknown, Plus, OpenParen, CloseParen, With, And, Or, Fault}

@@ -3,11 +3,11 @@ use Rattle.std.proofs.Common.{◌≡◌, ◌↔◌, ℕ, Bool, true, false, cond
 use Rattle.std.specs.Prelude.{codes}
 use Rattle.std.specs.Prelude.{unwrap_or}
 use Rattle.std.specs.Option.{option_map_or}
-use Rattle.spdx_catalogue.specs.Rows.{LicenseRow, Rows}
-use Rattle.spdx_catalogue.specs.Flags.{is_gnu, is_deprecated}
-use Rattle.spdx_catalogue.specs.Names.{only, or_later, has_suffix, without_only}
+use Rattle.spdx_requirement.specs.Rows.{LicenseRow, Rows}
+use Rattle.spdx_requirement.specs.Flags.{is_gnu, is_deprecated}
+use Rattle.spdx_requirement.specs.Endings.{only, or_later, has_suffix, without_only}
 use Rattle.spdx_catalogue.specs.LookUps as LookUps
-use Rattle.spdx_catalogue.specs.Items.{listed}
+use Rattle.spdx_requirement.specs.Items.{listed}
 use Rattle.spdx_catalogue.specs.RowRules.{is_well_formed}
 use Rattle.spdx_lexer.specs.declared.token.ParseMode.{ParseMode}
 use Rattle.spdx_lexer.specs.Modes.{strict, lax}

@@ -7,7 +7,7 @@ use Rattle.std.proofs.lemmas.Bool.Decides.{nat_tests}
 use Rattle.std.proofs.lemmas.List.Sums.{take_while-cons}
 use Rattle.std.proofs.Math.Seq.{drop-append_seam}
 use Rattle.std.proofs.Math.Nat as nat
-use Rattle.spdx_catalogue.specs.Rows.{LicenseRow, ExceptionRow, Rows}
+use Rattle.spdx_requirement.specs.Rows.{LicenseRow, ExceptionRow, Rows}
 use Rattle.spdx_catalogue.specs.Names.{is_name_byte, is_name, is_operator}
 use Rattle.spdx_catalogue.specs.LookUps.{listed, listed_exception}
 use Rattle.spdx_catalogue.specs.RowRules.{is_well_formed}

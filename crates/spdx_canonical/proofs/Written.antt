@@ -5,9 +5,10 @@ use Rattle.std.specs.List.{list_all, ends_with}
 use Rattle.std.proofs.lemmas.List.{take-append-drop}
 use Rattle.std.proofs.lemmas.Slice.Eq.{bytes_eq-Decides}
 use Rattle.std.proofs.Math.Seq.{drop-append_seam}
-use Rattle.spdx_catalogue.specs.Rows.{LicenseRow, Rows}
-use Rattle.spdx_catalogue.specs.Flags.{is_gnu}
-use Rattle.spdx_catalogue.specs.Names.{is_name_byte, is_name, is_operator, only, or_later, ends_only, ends_or_later, has_suffix, without_only}
+use Rattle.spdx_requirement.specs.Rows.{LicenseRow, Rows}
+use Rattle.spdx_requirement.specs.Flags.{is_gnu}
+use Rattle.spdx_catalogue.specs.Names.{is_name_byte, is_name, is_operator}
+use Rattle.spdx_requirement.specs.Endings.{only, or_later, ends_only, ends_or_later, has_suffix, without_only}
 use Rattle.spdx_catalogue.specs.LookUps.{listed}
 use Rattle.spdx_catalogue.specs.RowRules.{is_well_formed}
 use Rattle.spdx_canonical.proofs.Lexed.{and_both}

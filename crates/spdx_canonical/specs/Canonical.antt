@@ -1,8 +1,8 @@
 -- The canonical text of a licence expression: what is written for each of its words, and where there is none.
 use Rattle.std.specs.Prelude.{ℕ, Bool, true, false, not, ◌&&◌, List, [], ◌∷◌, ◌++◌, Option, Some, None, Result, Ok, Err, if◌then◌else◌, codes, unwrap_or, bytes_eq}
-use Rattle.spdx_catalogue.specs.Rows.{Rows, LicenseRow}
-use Rattle.spdx_catalogue.specs.Flags.{is_gnu}
-use Rattle.spdx_catalogue.specs.Names.{only, or_later, has_suffix, without_only}
+use Rattle.spdx_requirement.specs.Rows.{Rows, LicenseRow}
+use Rattle.spdx_requirement.specs.Flags.{is_gnu}
+use Rattle.spdx_requirement.specs.Endings.{only, or_later, has_suffix, without_only}
 use Rattle.spdx_catalogue.specs.LookUps.{listed}
 use Rattle.spdx_lexer.specs.Modes.{lax}
 use Rattle.spdx_lexer.specs.Words.{Word, Spdx, LicenseRef, Exception, AdditionRef, Unknown, Plus, OpenParen, CloseParen, With, And, Or, Fault, Unexpected, Span, Item}

@@ -2,10 +2,10 @@
 use Rattle.std.specs.Prelude.{◌≡◌, ◌↔◌, ℕ, Bool, false, not, List, [], ◌∷◌, None, Ok, codes, nat_eq, IsTrue}
 use Rattle.std.specs.List.{starts_with}
 use Rattle.std.specs.Option.{option_map_or}
-use Rattle.spdx_catalogue.specs.Rows.{Rows, LicenseRow}
-use Rattle.spdx_catalogue.specs.Flags.{is_deprecated}
+use Rattle.spdx_requirement.specs.Rows.{Rows, LicenseRow}
+use Rattle.spdx_requirement.specs.Flags.{is_deprecated}
 use Rattle.spdx_catalogue.specs.LookUps as LookUps
-use Rattle.spdx_catalogue.specs.Items.{LicenseTerm, listed, referred}
+use Rattle.spdx_requirement.specs.Items.{LicenseTerm, listed, referred}
 use Rattle.spdx_lexer.specs.declared.token.ParseMode.{ParseMode}
 use Rattle.spdx_lexer.specs.Modes.{strict, lax}
 use Rattle.spdx_lexer.specs.Words.{Word, Spdx}

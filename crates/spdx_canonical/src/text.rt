@@ -1,8 +1,8 @@
 // The canonical text of a licence expression.
 
 ghost use Rattle.std.specs.Prelude.{◌≡◌, ◌++◌, None, Ok, Err, IfOk, IfErr, option_map, is_some, string_bytes};
-ghost use Rattle.spdx_catalogue.specs.Ids.{id_row};
-ghost use Rattle.spdx_catalogue.specs.Names as Names;
+ghost use Rattle.spdx_requirement.specs.Ids.{id_row};
+ghost use Rattle.spdx_requirement.specs.Endings as Endings;
 ghost use Rattle.spdx_lexer.specs.Lexeme.{reference_run};
 ghost use Rattle.spdx_lexer.specs.Code.{word_of, document_of, span_of};
 ghost use Rattle.spdx_lexer.specs.Layout.{IsPlace};
@@ -10,18 +10,18 @@ ghost use Rattle.spdx_canonical.specs.Canonical.{word_text, is_misplaced, canoni
 ghost use Rattle.spdx_canonical.specs.Law.{CanonicalLaws};
 ghost use Rattle.spdx_canonical.specs.Draft.{extended, IsOff};
 ghost use Rattle.spdx_canonical.specs.NextText.{license_and_plus, is_plus_word, next_text, own_text, waiting};
-ghost use Rattle.spdx_catalogue.specs.Failures.{IfRefused};
+ghost use Rattle.spdx_requirement.specs.Failures.{IfRefused};
 ghost use Rattle.spdx_canonical.specs.Code.{placed_fault};
 
 use crate::draft::Draft;
-use spdx_catalogue::names::has_suffix;
+use spdx_requirement::endings::has_suffix;
 use spdx_catalogue::{Catalogue, LicenseId};
 use spdx_lexer::{Failure, Lexer, LexerToken, ParseError, ParseMode, Reason, Token};
 use std::alloc::{AllocError, Global};
 
 // The name, a final `-only` taken off.
 fn without_only(name: &str) -> &str
-    ensures { result.now ≡ Names.without_only name.now }
+    ensures { result.now ≡ Endings.without_only name.now }
 {
     if name.as_bytes().ends_with(b"-only") {
         &name[..name.len() - 5]

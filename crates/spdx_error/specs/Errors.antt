@@ -1,7 +1,7 @@
 -- The errors of all calls as one.
 use Rattle.std.specs.Prelude.{ℕ, List, codes}
-use Rattle.spdx_catalogue.specs.declared.error.Failure.{Failure}
-use Rattle.spdx_catalogue.specs.declared.error.Failure.TheVariants as failure
+use Rattle.spdx_requirement.specs.declared.failure.Failure.{Failure}
+use Rattle.spdx_requirement.specs.declared.failure.Failure.TheVariants as failure
 use Rattle.spdx_catalogue.specs.declared.error.ReadFault.{ReadFault}
 use Rattle.spdx_catalogue.specs.Faults.{read_text}
 use Rattle.spdx_lexer.specs.declared.error.ParseError.{ParseError}

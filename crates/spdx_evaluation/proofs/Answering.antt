@@ -2,8 +2,8 @@
 use Rattle.std.proofs.Common.{◌≡◌, Bool, true, false, cond, List, [], ◌∷◌, map, refl, sym, ◌∙◌, ap, subst}
 use Rattle.std.specs.Prelude.{not}
 use Rattle.std.specs.List.{filter, zip}
-use Rattle.spdx_catalogue.specs.declared.requirement.LicenseReq.{LicenseReq}
-use Rattle.spdx_catalogue.specs.Items.{Requirement}
+use Rattle.spdx_requirement.specs.declared.requirement.LicenseReq.{LicenseReq}
+use Rattle.spdx_requirement.specs.Items.{Requirement}
 use Rattle.spdx_lexer.specs.Words.{Span}
 use Rattle.spdx_parser.specs.Tree.{Tree, leaves}
 use Rattle.spdx_evaluation.specs.ByRequirement.{AnswersBy, FailsBy}

@@ -1,8 +1,8 @@
 -- What holds after some of the nodes were read, and one node more.
 use Rattle.std.proofs.Common.{◌≡◌, ℕ, suc, ◌+◌, ◌-◌, ◌<◌, ◌≤◌, Bool, List, [], ◌∷◌, ◌++◌, length, take, drop, map, refl, sym, ◌∙◌, ap, subst, arith, get_or}
 use Rattle.std.proofs.lemmas.List.{append-nil, append_assoc, drop_more, take_more, take_all, drop_all, length-map}
-use Rattle.spdx_catalogue.specs.declared.requirement.LicenseReq.{LicenseReq}
-use Rattle.spdx_catalogue.specs.Items.{Requirement}
+use Rattle.spdx_requirement.specs.declared.requirement.LicenseReq.{LicenseReq}
+use Rattle.spdx_requirement.specs.Items.{Requirement}
 use Rattle.bit_stack.specs.Truths.{Stack, join_newest}
 use Rattle.spdx_parser.specs.declared.node.Operator.{Operator}
 use Rattle.spdx_parser.specs.declared.node.ExpressionReq.{ExpressionReq}

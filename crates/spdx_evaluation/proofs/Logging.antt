@@ -1,7 +1,7 @@
 -- A closure's calls beside a list of what it refused.
 use Rattle.std.proofs.Common.{◌≡◌, ℕ, ◌≤◌, Bool, true, false, List, [], ◌∷◌, ◌++◌, length, map, refl, sym, ◌∙◌, ap}
 use Rattle.std.proofs.lemmas.List.{append_assoc, append-nil}
-use Rattle.spdx_catalogue.specs.declared.requirement.LicenseReq.{LicenseReq}
+use Rattle.spdx_requirement.specs.declared.requirement.LicenseReq.{LicenseReq}
 use Rattle.bit_stack.specs.Truths.{Stack}
 use Rattle.spdx_parser.specs.declared.node.ExpressionReq.{ExpressionReq}
 use Rattle.spdx_parser.specs.declared.node.ExprNode.{ExprNode}

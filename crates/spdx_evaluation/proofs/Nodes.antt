@@ -3,7 +3,7 @@ use Rattle.std.proofs.Common.{◌≡◌, suc, ◌+◌, ◌*◌, ◌≤◌, List,
 use Rattle.std.specs.List.{zip}
 use Rattle.std.specs.Option.{option_to_list}
 use Rattle.std.proofs.lemmas.List.{append-nil, length-append}
-use Rattle.spdx_catalogue.specs.Items.{Requirement, requirement_of}
+use Rattle.spdx_requirement.specs.Items.{Requirement, requirement_of}
 use Rattle.spdx_lexer.specs.Words.{Span}
 use Rattle.spdx_parser.specs.declared.node.ExpressionReq.{ExpressionReq}
 use Rattle.spdx_parser.specs.declared.node.ExprNode.{ExprNode}

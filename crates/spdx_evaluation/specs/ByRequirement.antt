@@ -1,8 +1,8 @@
 -- Evaluation over a closure that answers by the requirement alone.
 use Rattle.std.specs.Prelude.{◌≡◌, Bool, false, not, List}
 use Rattle.std.specs.List.{filter}
-use Rattle.spdx_catalogue.specs.declared.requirement.LicenseReq.{LicenseReq}
-use Rattle.spdx_catalogue.specs.Items.{Requirement, requirement_of}
+use Rattle.spdx_requirement.specs.declared.requirement.LicenseReq.{LicenseReq}
+use Rattle.spdx_requirement.specs.Items.{Requirement, requirement_of}
 use Rattle.spdx_parser.specs.Tree.{Tree}
 use Rattle.spdx_evaluation.specs.Requirements.{PlacedRequirement}
 use Rattle.spdx_evaluation.specs.Truth.{holds}

@@ -1,7 +1,7 @@
 -- Calls of a closure, one after the other.
 use Rattle.std.specs.Prelude.{◌≡◌, Bool, true, false, List, [], ◌∷◌}
-use Rattle.spdx_catalogue.specs.declared.requirement.LicenseReq.{LicenseReq}
-use Rattle.spdx_catalogue.specs.Items.{Requirement, requirement_of}
+use Rattle.spdx_requirement.specs.declared.requirement.LicenseReq.{LicenseReq}
+use Rattle.spdx_requirement.specs.Items.{Requirement, requirement_of}
 use Rattle.spdx_parser.specs.Tree.{Tree, leaves}
 use Rattle.spdx_evaluation.specs.Requirements.{PlacedRequirement}
 use Rattle.spdx_evaluation.specs.Truth.{truth_of}

@@ -1,6 +1,6 @@
 -- The tree whose postfix list some nodes are.
 use Rattle.std.specs.Prelude.{◌≡◌, List, [], ◌∷◌, None, map}
-use Rattle.spdx_catalogue.specs.Items.{referred}
+use Rattle.spdx_requirement.specs.Items.{referred}
 use Rattle.spdx_parser.specs.declared.node.Operator.{Operator}
 use Rattle.spdx_parser.specs.declared.node.ExprNode.{ExprNode}
 use Rattle.spdx_parser.specs.Tree.{Tree, Leaf, Join, Node, Op, Req, postfix, node_of}

@@ -1,7 +1,7 @@
 -- The requirements among the nodes of an expression, and where their licences stand.
 use Rattle.std.specs.Prelude.{Bool, true, false, List, [], ◌∷◌, ◌++◌, map}
 use denote.Ref.{Bor}
-use Rattle.spdx_catalogue.specs.Items.{Requirement, requirement_of}
+use Rattle.spdx_requirement.specs.Items.{Requirement, requirement_of}
 use Rattle.spdx_lexer.specs.Words.{Span}
 use Rattle.spdx_lexer.specs.Code.{span_of}
 use Rattle.spdx_parser.specs.declared.node.ExpressionReq.{ExpressionReq}

@@ -1,6 +1,6 @@
 -- The truth of a tree over answers to its requirements.
 use Rattle.std.specs.Prelude.{Bool, false, ◌&&◌, ◌||◌, List, length, take, drop, map, slice_index_or}
-use Rattle.spdx_catalogue.specs.Items.{Requirement}
+use Rattle.spdx_requirement.specs.Items.{Requirement}
 use Rattle.spdx_parser.specs.declared.node.Operator.{Operator}
 use Rattle.spdx_parser.specs.declared.node.Operator.TheVariants.{And, Or}
 use Rattle.spdx_parser.specs.Tree.{Tree, Leaf, Join, leaves}

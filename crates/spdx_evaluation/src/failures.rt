@@ -2,8 +2,8 @@
 
 ghost use Rattle.std.specs.Prelude.{◌≡◌, ◌+◌, ◌≤◌, ◌<◌, Bool, map, true, IfOk, IfErr, vec_len, vec_capacity};
 ghost use Rattle.std.specs.Fn.{CalledAt};
-ghost use Rattle.spdx_catalogue.specs.Failures.{RefusedOr, IfRefused};
-ghost use Rattle.spdx_catalogue.specs.Items.{Requirement};
+ghost use Rattle.spdx_requirement.specs.Failures.{RefusedOr, IfRefused};
+ghost use Rattle.spdx_requirement.specs.Items.{Requirement};
 ghost use Rattle.spdx_parser.specs.Tree.{node_of};
 ghost use Rattle.spdx_evaluation.specs.Postfix.{IsPostfix, tree_in};
 ghost use Rattle.spdx_evaluation.specs.Requirements.{placed_of, placed_in, nows, kept_if_false};

@@ -2,7 +2,7 @@
 
 ghost use Rattle.std.specs.Prelude.{◌≡◌, ◌≤◌, Bool, length, map, IfOk, OnErr, IsOk};
 ghost use Rattle.std.specs.Fn.{CalledAt};
-ghost use Rattle.spdx_catalogue.specs.Items.{Requirement};
+ghost use Rattle.spdx_requirement.specs.Items.{Requirement};
 ghost use Rattle.spdx_parser.specs.Tree.{leaves, node_of};
 ghost use Rattle.spdx_evaluation.specs.Postfix.{IsPostfix, tree_in};
 ghost use Rattle.spdx_evaluation.specs.Calls.{Evaluates};

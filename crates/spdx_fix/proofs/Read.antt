@@ -1,6 +1,6 @@
 -- What the parser says of a text, as a reader's acceptance or refusal.
 use Rattle.std.proofs.Common.{◌≡◌, ℕ, List, [], ◌∷◌, map, Result, Ok, Err, refl, sym, ◌∙◌, ap, subst}
-use Rattle.spdx_catalogue.specs.Rows.{Rows}
+use Rattle.spdx_requirement.specs.Rows.{Rows}
 use Rattle.spdx_lexer.specs.declared.token.ParseMode.{ParseMode}
 use Rattle.spdx_lexer.specs.Words.{Word, Fault, Item, Placed, words}
 use Rattle.spdx_lexer.specs.Reading.{said, reading}

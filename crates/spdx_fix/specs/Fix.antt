@@ -1,6 +1,6 @@
 -- The mended text of an expression that strict parsing refuses.
 use Rattle.std.specs.Prelude.{◌≡◌, ℕ, List, Option, None, Some, Ok}
-use Rattle.spdx_catalogue.specs.Rows.{Rows}
+use Rattle.spdx_requirement.specs.Rows.{Rows}
 use Rattle.spdx_lexer.specs.declared.token.ParseMode.{ParseMode}
 use Rattle.spdx_lexer.specs.Modes.{strict, lax}
 use Rattle.spdx_lexer.specs.Words.{Word}

@@ -1,6 +1,6 @@
 -- How many items a reading has.
 use Rattle.std.proofs.Common.{ℕ, suc, ◌+◌, ◌≤◌, Bool, true, false, cond, ◌&&◌, ◌==◌, nat_lt, List, [], ◌∷◌, length, drop, Result, Ok, Err, arith}
-use Rattle.spdx_catalogue.specs.Rows.{Rows}
+use Rattle.spdx_requirement.specs.Rows.{Rows}
 use Rattle.spdx_lexer.specs.declared.token.ParseMode.{ParseMode}
 use Rattle.spdx_lexer.specs.Text.{white}
 use Rattle.spdx_lexer.specs.Words.{Word, Fault, SeparatedPlus, Item, span}

@@ -1,7 +1,7 @@
 -- What holds of each word that a rule finds.
 use Rattle.std.proofs.Common.{◌≡◌, ℕ, ◌<◌, Bool, true, false, List, [], ◌∷◌, Option, Some, None, refl, sym, subst, arith, IfSome, IfOk, option_map}
 use Rattle.std.specs.Prelude.{ok_or, codes}
-use Rattle.spdx_catalogue.specs.Rows.{Rows, LicenseRow}
+use Rattle.spdx_requirement.specs.Rows.{Rows, LicenseRow}
 use Rattle.spdx_catalogue.specs.RowRules.{is_well_formed}
 use Rattle.spdx_catalogue.specs.LookUps.{listed, listed_exception, listed_caseless, listed_exception_caseless, imprecise_license}
 use Rattle.spdx_catalogue.proofs.Listed.{imprecise_is_license}

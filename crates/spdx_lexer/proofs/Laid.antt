@@ -6,7 +6,7 @@ use Rattle.std.proofs.lemmas.List.{drop-drop, take-append-le, take-append-drop}
 use Rattle.std.proofs.lemmas.Bool.{eqb-true}
 use Rattle.std.proofs.lemmas.Str.{IsUtf8-drop, IsCharBoundary-from_rest, IsCharBoundary-end, IsCharBoundary-start}
 use Rattle.spdx_catalogue.specs.Names.{begins_caseless}
-use Rattle.spdx_catalogue.specs.Rows.{Rows, LicenseRow, ImpreciseRow, HasTextPrefixes}
+use Rattle.spdx_requirement.specs.Rows.{Rows, LicenseRow, ImpreciseRow, HasTextPrefixes}
 use Rattle.spdx_catalogue.specs.RowRules.{is_well_formed}
 use Rattle.spdx_catalogue.specs.LookUps.{listed, imprecise_row}
 use Rattle.spdx_catalogue.proofs.Caseless.{find_passes, caseless_cut}

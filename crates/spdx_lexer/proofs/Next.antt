@@ -1,7 +1,7 @@
 -- The reading of a text whose white space is cut off.
 use Rattle.std.proofs.Common.{◌≡◌, ℕ, ◌+◌, ◌-◌, ◌<◌, ◌≤◌, true, false, cond, ◌&&◌, nat_lt, List, [], ◌∷◌, length, drop, Ok, Err, refl, sym, ◌∙◌, ap, arith, length-drop, lt-ltb, ltb-true}
 use Rattle.std.proofs.lemmas.Bool.{ltb_from_iff}
-use Rattle.spdx_catalogue.specs.Rows.{Rows}
+use Rattle.spdx_requirement.specs.Rows.{Rows}
 use Rattle.spdx_catalogue.specs.RowRules.{is_well_formed}
 use Rattle.spdx_lexer.specs.declared.token.ParseMode.{ParseMode}
 use Rattle.spdx_lexer.specs.Text.{white, begins_plus}

@@ -6,7 +6,7 @@ use Rattle.std.proofs.lemmas.List.Folds.{length-prefix_len}
 use Rattle.std.proofs.lemmas.List.{take-append-drop}
 use Rattle.std.proofs.Math.Seq.{take-length, take-append_seam}
 use Rattle.spdx_catalogue.specs.Names.{is_name_byte}
-use Rattle.spdx_catalogue.specs.Rows.{Rows}
+use Rattle.spdx_requirement.specs.Rows.{Rows}
 use Rattle.spdx_catalogue.specs.RowRules.{is_well_formed}
 use Rattle.spdx_catalogue.specs.LookUps.{listed, listed_exception, listed_caseless, listed_exception_caseless}
 use Rattle.spdx_catalogue.proofs.Caseless.{bytes_same}

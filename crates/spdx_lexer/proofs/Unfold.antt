@@ -3,7 +3,7 @@ use Rattle.std.proofs.Common.{◌≡◌, ℕ, zero, suc, ◌+◌, ◌<◌, true,
 use Rattle.std.proofs.Math.Seq.{drop-nil}
 use Rattle.std.proofs.lemmas.List.{drop-drop}
 use Rattle.std.proofs.lemmas.Bool.{le-ltb}
-use Rattle.spdx_catalogue.specs.Rows.{Rows}
+use Rattle.spdx_requirement.specs.Rows.{Rows}
 use Rattle.spdx_catalogue.specs.RowRules.{is_well_formed}
 use Rattle.spdx_lexer.specs.declared.token.ParseMode.{ParseMode}
 use Rattle.spdx_lexer.specs.Text.{white}

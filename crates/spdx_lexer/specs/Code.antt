@@ -2,7 +2,7 @@
 use Rattle.std.specs.Prelude.{ℕ, List, Option, Result, Ok, Err, option_map}
 use Rattle.std.specs.Borrow.{Bor}
 use Rattle.std.specs.declared.ops.Range.{Range}
-use Rattle.spdx_catalogue.specs.Ids.{id_row, exception_row}
+use Rattle.spdx_requirement.specs.Ids.{id_row, exception_row}
 use Rattle.spdx_lexer.specs.declared.token.Token.{Token}
 use Rattle.spdx_lexer.specs.declared.token.LexerToken.{LexerToken}
 use Rattle.spdx_lexer.specs.declared.error.ParseError.{ParseError}

@@ -1,6 +1,6 @@
 -- The rules of a run in groups, as the code tries them.
 use Rattle.std.specs.Prelude.{ℕ, List, [], ◌∷◌, Some, Result, option_map, codes}
-use Rattle.spdx_catalogue.specs.Rows.{Rows, LicenseRow}
+use Rattle.spdx_requirement.specs.Rows.{Rows, LicenseRow}
 use Rattle.spdx_catalogue.specs.LookUps.{listed, listed_exception, listed_caseless, listed_exception_caseless, imprecise_license}
 use Rattle.spdx_lexer.specs.declared.token.ParseMode.{ParseMode}
 use Rattle.spdx_lexer.specs.Words.{Word, Spdx, LicenseRef, Exception, AdditionRef, Unknown, Fault}

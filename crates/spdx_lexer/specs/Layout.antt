@@ -3,7 +3,7 @@ use Rattle.std.specs.Prelude.{◌≡◌, ◌⊎◌, ℕ, ◌-◌, ◌≤◌, ◌
 use Rattle.std.specs.List.{list_all}
 use Rattle.std.specs.Char.{is_whitespace}
 use Rattle.std.specs.Str.{str_eq_ignore_ascii_case}
-use Rattle.spdx_catalogue.specs.Rows.{Rows, LicenseRow, ImpreciseRow}
+use Rattle.spdx_requirement.specs.Rows.{Rows, LicenseRow, ImpreciseRow}
 use Rattle.spdx_catalogue.specs.Names.{is_name_byte}
 use Rattle.spdx_lexer.specs.declared.token.ParseMode.{ParseMode}
 use Rattle.spdx_lexer.specs.Words.{Word, Spdx, LicenseRef, Exception, AdditionRef, Unknown, Plus, OpenParen, CloseParen, With, And, Or, Fault, InvalidCharacters, SeparatedPlus, UnknownTerm, Span, Item}

@@ -1,6 +1,6 @@
 -- The word at the front of a text that begins with no white space, by rules of which the first that applies holds.
 use Rattle.std.specs.Prelude.{ℕ, Bool, true, false, ◌||◌, ◌&&◌, ◌==◌, List, [], ◌∷◌, ◌++◌, length, drop, Option, Some, None, Result, Ok, Err, option_map, option_and_then, ok_or, if◌then◌else◌, bytes_eq, codes}
-use Rattle.spdx_catalogue.specs.Rows.{Rows, LicenseRow}
+use Rattle.spdx_requirement.specs.Rows.{Rows, LicenseRow}
 use Rattle.spdx_catalogue.specs.LookUps.{listed, listed_exception, listed_caseless, listed_exception_caseless, imprecise_license}
 use Rattle.spdx_lexer.specs.declared.token.ParseMode.{ParseMode}
 use Rattle.spdx_lexer.specs.Words.{Word, Spdx, LicenseRef, Exception, AdditionRef, Unknown, Plus, OpenParen, CloseParen, With, And, Or, Fault, InvalidCharacters, UnknownTerm}

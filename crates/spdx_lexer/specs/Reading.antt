@@ -1,6 +1,6 @@
 -- A text is white space and words in turn, up to its end or its first fault.
 use Rattle.std.specs.Prelude.{◌≡◌, ℕ, ◌+◌, ◌&&◌, ◌==◌, nat_lt, List, [], ◌∷◌, drop, map, Result, Ok, Err, if◌then◌else◌}
-use Rattle.spdx_catalogue.specs.Rows.{Rows}
+use Rattle.spdx_requirement.specs.Rows.{Rows}
 use Rattle.spdx_lexer.specs.declared.token.ParseMode.{ParseMode}
 use Rattle.spdx_lexer.specs.Words.{Word, Fault, SeparatedPlus, Item, span}
 use Rattle.spdx_lexer.specs.Text.{white}

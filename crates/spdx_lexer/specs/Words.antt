@@ -1,6 +1,6 @@
 -- What a token and a fault are, apart from what they borrow.
 use Rattle.std.specs.Prelude.{ℕ, List, Option, Result, map, ◌+◌}
-use Rattle.spdx_catalogue.specs.Rows.{LicenseRow, ExceptionRow}
+use Rattle.spdx_requirement.specs.Rows.{LicenseRow, ExceptionRow}
 
 -- a reference has the name of its document, if it has one, and its own
 pub data Word : Type 0 where

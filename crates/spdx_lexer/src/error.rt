@@ -4,7 +4,7 @@ ghost use Rattle.std.specs.Prelude.{◌≡◌, ◌∷◌, Some};
 ghost use Rattle.spdx_lexer.specs.Faults.{fault_of, description_text, fault_text, error_text, quoted_words, terms_of};
 ghost use Rattle.std.specs.List.{repeat};
 
-pub use spdx_catalogue::error::Failure;
+pub use spdx_catalogue::Failure;
 use std::fmt;
 use std::ops::Range;
 

@@ -4,7 +4,7 @@ ghost use Rattle.std.specs.Prelude.{◌≡◌, ◌<◌, ◌≤◌, option_map, l
 ghost use Rattle.spdx_lexer.specs.Text as text_of;
 ghost use Rattle.spdx_lexer.specs.Lexeme as spec;
 ghost use Rattle.spdx_lexer.specs.Groups as groups;
-ghost use Rattle.spdx_catalogue.specs.Ids.{id_row};
+ghost use Rattle.spdx_requirement.specs.Ids.{id_row};
 ghost use Rattle.spdx_catalogue.specs.LookUps.{listed};
 ghost use Rattle.spdx_lexer.specs.Code.{word_of, found_of, seen_of};
 

@@ -1,8 +1,8 @@
 -- The answer that is found item by item is the licensee that the text names, or the fault of the text.
 use Rattle.std.proofs.Common.{◌≡◌, arith, add-zero, zero-add, map, ℕ, Bool, true, false, List, [], ◌∷◌, length, Option, Some, None, Result, Ok, Err, IfOk, IfErr, refl, sym, ap, subst, ◌∙◌, ok_or, option_and_then, option_map, codes, if◌then◌else◌}
 use Rattle.std.proofs.lemmas.Bool.{false≢true}
-use Rattle.spdx_catalogue.specs.Rows.{Rows}
-use Rattle.spdx_catalogue.specs.Items.{LicenseTerm, Addition, added, Requirement, requirement_of}
+use Rattle.spdx_requirement.specs.Rows.{Rows}
+use Rattle.spdx_requirement.specs.Items.{LicenseTerm, Addition, added, Requirement, requirement_of}
 use Rattle.spdx_lexer.specs.Words.{Word, LicenseRef, AdditionRef, With, Fault, Unexpected, Span, Item, Placed, words}
 use Rattle.spdx_lexer.specs.Modes.{strict}
 use Rattle.spdx_lexer.specs.Reading.{reading}
@@ -10,14 +10,14 @@ use Rattle.spdx_lexer.specs.Layout.{IsPlace, place_of}
 use Rattle.spdx_lexer.proofs.Laid.{place_among}
 use Rattle.std.specs.List.{All}
 use Rattle.std.specs.Str.{IsCharBoundary}
-use Rattle.spdx_catalogue.specs.declared.requirement.LicenseReq.{LicenseReq}
-use Rattle.spdx_catalogue.specs.declared.error.Failure.{Failure}
-use Rattle.spdx_catalogue.specs.declared.error.Failure.TheVariants.{Refused, Memory}
+use Rattle.spdx_requirement.specs.declared.requirement.LicenseReq.{LicenseReq}
+use Rattle.spdx_requirement.specs.declared.failure.Failure.{Failure}
+use Rattle.spdx_requirement.specs.declared.failure.Failure.TheVariants.{Refused, Memory}
 use Rattle.spdx_lexer.specs.declared.error.ParseError.{ParseError}
 use Rattle.spdx_lexer.specs.Faults.{fault_of}
 use Rattle.spdx_lexer.specs.Code.{span_of}
 use Rattle.spdx_licensee.specs.LicenseeText.{license_named, addition_named, licensee_named, Begins, licensee_word_fault, licensee_end_fault, Names, NamesNone, IsLicenseeFault, at_word, at_place, at_end}
-use Rattle.spdx_catalogue.specs.Failures.{IfRefused}
+use Rattle.spdx_requirement.specs.Failures.{IfRefused}
 use Rattle.spdx_licensee.specs.Answers.{Gives, and_then, is_with, behind_addition, behind_with, behind_license, licensee_at}
 
 -- ---- what begins a licensee

@@ -1,8 +1,8 @@
 -- What the calls that read a licensee answer, item by item.
 use Rattle.std.specs.Prelude.{◌≡◌, ℕ, Bool, true, false, List, [], ◌∷◌, Option, Some, None, Result, Ok, Err, ok_or, codes, if◌then◌else◌}
-use Rattle.spdx_catalogue.specs.declared.error.Failure.{Failure}
-use Rattle.spdx_catalogue.specs.declared.error.Failure.TheVariants.{Refused, Memory}
-use Rattle.spdx_catalogue.specs.Items.{LicenseTerm, Addition, Requirement}
+use Rattle.spdx_requirement.specs.declared.failure.Failure.{Failure}
+use Rattle.spdx_requirement.specs.declared.failure.Failure.TheVariants.{Refused, Memory}
+use Rattle.spdx_requirement.specs.Items.{LicenseTerm, Addition, Requirement}
 use Rattle.spdx_lexer.specs.declared.error.ParseError.{ParseError}
 use Rattle.spdx_lexer.specs.Words.{Word, With, Fault, Unexpected, Span, span, Item}
 use Rattle.spdx_lexer.specs.Faults.{fault_of}

@@ -2,7 +2,7 @@
 use Rattle.std.specs.Prelude.{ℕ, List, [], Option, Some, None, if◌then◌else◌}
 use Rattle.std.specs.Borrow.{Bor}
 use Rattle.spdx_licensee.specs.declared.version.FamilyParts.{FamilyParts}
-use Rattle.spdx_catalogue.specs.Versions.{parts, without_version}
+use Rattle.spdx_requirement.specs.Versions.{parts, without_version}
 
 abbrev pub parts_of : Option (Bor (List ℕ)) → List (List ℕ)
 parts_of None = []

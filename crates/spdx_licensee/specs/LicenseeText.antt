@@ -1,9 +1,9 @@
 -- Which texts name a licensee, and the fault of one that does not.
 use Rattle.std.specs.Prelude.{◌≡◌, ℕ, Bool, true, false, List, [], ◌∷◌, ◌++◌, length, map, Option, Some, None, option_map, option_and_then, Ok, Err, if◌then◌else◌, codes}
 use Rattle.std.specs.List.{list_any}
-use Rattle.spdx_catalogue.specs.Rows.{Rows}
-use Rattle.spdx_catalogue.specs.Flags.{is_deprecated}
-use Rattle.spdx_catalogue.specs.Items.{LicenseTerm, listed, referred, Addition, excepted, added, Requirement}
+use Rattle.spdx_requirement.specs.Rows.{Rows}
+use Rattle.spdx_requirement.specs.Flags.{is_deprecated}
+use Rattle.spdx_requirement.specs.Items.{LicenseTerm, listed, referred, Addition, excepted, added, Requirement}
 use Rattle.spdx_lexer.specs.Words.{Word, Spdx, LicenseRef, Exception, AdditionRef, With, Fault, Empty, Unexpected, DeprecatedLicenseId, Span, span, Item, Placed, words}
 use Rattle.spdx_lexer.specs.Modes.{strict}
 use Rattle.spdx_lexer.specs.Reading.{reading}

@@ -1,11 +1,11 @@
 -- Which requirements a licensee satisfies.
 use Rattle.std.specs.Prelude.{ℕ, Bool, false, not, ◌||◌, ◌&&◌, ◌==◌, List, Option, Some, None}
-use Rattle.spdx_catalogue.specs.Rows.{LicenseRow}
-use Rattle.spdx_catalogue.specs.Flags.{is_gnu}
-use Rattle.spdx_catalogue.specs.Names.{ends_or_later}
-use Rattle.spdx_catalogue.specs.Items.{LicenseTerm, listed, referred, Requirement}
-use Rattle.spdx_catalogue.specs.Versions.{version, versioned_name, family}
-use Rattle.spdx_licensee.specs.Equality.{same_reference, same_additions}
+use Rattle.spdx_requirement.specs.Rows.{LicenseRow}
+use Rattle.spdx_requirement.specs.Flags.{is_gnu}
+use Rattle.spdx_requirement.specs.Endings.{ends_or_later}
+use Rattle.spdx_requirement.specs.Items.{LicenseTerm, listed, referred, Requirement}
+use Rattle.spdx_requirement.specs.Versions.{version, versioned_name, family}
+use Rattle.spdx_requirement.specs.Equality.{same_reference, same_additions}
 use Rattle.spdx_licensee.specs.Version.{older, same_parts}
 
 -- later versions are meant too: by the mark, or by the ending of a GNU licence

@@ -4,7 +4,7 @@ use Rattle.std.specs.List.{slice_split}
 use Rattle.std.specs.Str.Parse.{digits_value}
 use Rattle.std.specs.Ordering.{nat_cmp, is_lt}
 use Rattle.std.specs.Cmp.Lexicographic.{pointwise, slice_cmp}
-use Rattle.spdx_catalogue.specs.Versions.{is_dot}
+use Rattle.spdx_requirement.specs.Versions.{is_dot}
 
 -- the same parts in the same order
 abbrev pub same_parts : List (List ℕ) → List (List ℕ) → Bool

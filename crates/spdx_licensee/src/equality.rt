@@ -2,9 +2,9 @@
 
 ghost use Rattle.std.specs.Prelude.{◌≡◌, ◌↔◌, IsTrue};
 ghost use Rattle.std.specs.Cmp.{partial_equiv_from_equiv};
-ghost use Rattle.spdx_catalogue.specs.Keys.{requirement_key};
-ghost use Rattle.spdx_licensee.specs.Equality.{same_requirement};
-ghost use Rattle.spdx_licensee.specs.EqualityLaws.{same_requirement_laws};
+ghost use Rattle.spdx_requirement.specs.Keys.{requirement_key};
+ghost use Rattle.spdx_requirement.specs.Equality.{same_requirement};
+ghost use Rattle.spdx_requirement.specs.EqualityLaws.{same_requirement_laws};
 
 use crate::licensee::Licensee;
 

@@ -2,18 +2,18 @@
 
 ghost use Rattle.std.specs.Prelude.{◌≡◌, ◌↔◌, IsTrue, IsOk, IfOk, IfErr, false, option_map};
 ghost use Rattle.std.specs.Option.{option_copied};
-ghost use Rattle.spdx_catalogue.specs.Ids.{id_row};
-ghost use Rattle.spdx_catalogue.specs.Items.{license_of, addition_of, requirement_of};
-ghost use Rattle.spdx_catalogue.specs.Keys.{addition_key};
-ghost use Rattle.spdx_catalogue.specs.References.{HasNoReference};
-ghost use Rattle.spdx_catalogue.specs.Names as names;
-ghost use Rattle.spdx_catalogue.specs.Versions as parted;
+ghost use Rattle.spdx_requirement.specs.Ids.{id_row};
+ghost use Rattle.spdx_requirement.specs.Items.{license_of, addition_of, requirement_of};
+ghost use Rattle.spdx_requirement.specs.Keys.{addition_key};
+ghost use Rattle.spdx_requirement.specs.References.{HasNoReference};
+ghost use Rattle.spdx_requirement.specs.Endings as endings;
+ghost use Rattle.spdx_requirement.specs.Versions as parted;
 ghost use Rattle.spdx_lexer.specs.Faults.{fault_of};
 ghost use Rattle.spdx_lexer.specs.Code.{span_of};
 ghost use Rattle.spdx_lexer.specs.Layout.{IsPlace};
-ghost use Rattle.spdx_licensee.specs.Equality.{same_additions};
+ghost use Rattle.spdx_requirement.specs.Equality.{same_additions};
 ghost use Rattle.spdx_licensee.specs.LicenseeText.{Names, NamesNone, IsLicenseeFault, has_reference};
-ghost use Rattle.spdx_catalogue.specs.Failures.{IfRefused};
+ghost use Rattle.spdx_requirement.specs.Failures.{IfRefused};
 ghost use Rattle.spdx_licensee.specs.Answers.{TellsAFault};
 ghost use Rattle.spdx_licensee.specs.Satisfies as spec;
 
@@ -32,7 +32,7 @@ pub struct Licensee<'c> {
 }
 
 impl<'c> Model for Licensee<'c> {
-    ghost use Rattle.spdx_catalogue.specs.Items.{Requirement, requirement_of};
+    ghost use Rattle.spdx_requirement.specs.Items.{Requirement, requirement_of};
 
     ghost Value = { Requirement };
 
@@ -123,7 +123,7 @@ pub fn are_same_additions(one: &Option<AdditionItem<'_>>, other: &Option<Additio
 
 // What stands before the ending, if the name has it.
 fn without<'n>(ending: &[u8], name: &'n [u8]) -> Option<&'n [u8]>
-    ensures { option_copied result ≡ names.without ending.now name.now }
+    ensures { option_copied result ≡ endings.without ending.now name.now }
 {
     if name.ends_with(ending) {
         Some(&name[..name.len() - ending.len()])

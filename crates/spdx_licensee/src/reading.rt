@@ -3,13 +3,13 @@
 ghost use Rattle.std.specs.Prelude.{◌≡◌, ◌∷◌, [], IfOk, IsOk, Some, None, Ok, Err, false, true, string_bytes, length, option_map, codes};
 ghost use Rattle.std.specs.List.{list_any};
 ghost use Rattle.std.specs.Option.{option_copied};
-ghost use Rattle.spdx_catalogue.specs.Items.{license_of, addition_of, requirement_of};
+ghost use Rattle.spdx_requirement.specs.Items.{license_of, addition_of, requirement_of};
 ghost use Rattle.spdx_lexer.specs.Words.{Unexpected};
 ghost use Rattle.spdx_lexer.specs.Faults.{fault_of};
 ghost use Rattle.spdx_lexer.specs.Remainder.{items_left};
 ghost use Rattle.spdx_lexer.specs.Code.{word_of, item_of, span_of};
 ghost use Rattle.spdx_licensee.specs.LicenseeText.{license_named, addition_named, is_reference, item_is_reference, licensee_word_fault};
-ghost use Rattle.spdx_catalogue.specs.Failures.{IfRefused};
+ghost use Rattle.spdx_requirement.specs.Failures.{IfRefused};
 ghost use Rattle.spdx_licensee.specs.Answers.{TellsAFault, Gives, license_at, with_at, addition_at, end_at, starts_reference, licensee_at};
 
 use spdx_catalogue::{AdditionItem, AdditionRef, LicenseItem, LicenseRef, LicenseReq};

@@ -6,7 +6,7 @@ ghost use Rattle.std.specs.Option.{option_copied};
 ghost use Rattle.std.specs.Char.{is_ascii_digit};
 ghost use Rattle.std.specs.Ordering.{nat_cmp};
 ghost use Rattle.std.specs.Str.Parse.{digits_value};
-ghost use Rattle.spdx_catalogue.specs.Versions as parted;
+ghost use Rattle.spdx_requirement.specs.Versions as parted;
 ghost use Rattle.spdx_licensee.specs.Version as spec;
 
 use std::cmp::Ordering;

@@ -1,7 +1,7 @@
 -- How the answer to a line begins, by what the parser answers.
 use Rattle.std.proofs.Common.{◌≡◌, ℕ, true, false, List, [], ◌∷◌, ◌++◌, map, Ok, refl, sym, ◌∙◌, ap, subst, append_assoc, codes}
 use Rattle.std.specs.Prelude.{IsUtf8}
-use Rattle.spdx_catalogue.specs.Rows.{Rows}
+use Rattle.spdx_requirement.specs.Rows.{Rows}
 use Rattle.spdx_lexer.specs.declared.token.ParseMode.{ParseMode}
 use Rattle.spdx_lexer.specs.Words.{Fault, Span, Placed, words}
 use Rattle.spdx_lexer.specs.Reading.{reading}

@@ -11,14 +11,15 @@ use Rattle.line_engine.specs.Device.{Told, Devices, devices}
 use Rattle.line_engine.specs.Rule.{Rule}
 use Rattle.line_engine.specs.Progress.{HasBegun}
 use Rattle.line_engine.specs.Runs.{Runs}
-use Rattle.spdx_catalogue.specs.Rows.{Rows}
-use Rattle.spdx_catalogue.specs.Items.{Requirement}
+use Rattle.spdx_requirement.specs.Rows.{Rows}
+use Rattle.spdx_requirement.specs.Items.{Requirement}
 use Rattle.spdx_catalogue.specs.declared.error.ReadFault.{ReadFault}
 use Rattle.spdx_lines.specs.declared.program.Stop.{Stop}
 use Rattle.spdx_lines.specs.declared.program.Task.{Task}
 use Rattle.spdx_lines.specs.declared.program.Stop.TheVariants as stop
+use Rattle.spdx_catalogue.specs.Reading.{catalogue_in}
 use Rattle.spdx_lines.specs.Program.{Refusal, Usage, Unreadable, NoCatalogue, texts_of, task_in, task_rule, with_licensees, with_rows, with_task, with_words, plan_of}
-use Rattle.spdx_lines.specs.Found.{found, catalogue_of, verdict, rule_of, rule_of_all}
+use Rattle.spdx_lines.specs.Found.{found, verdict, rule_of, rule_of_all}
 use Rattle.spdx_lines.specs.Ending.{Ending, Refused, HasMovedNothing, BreaksOff, RunsSo, Ends, StopsAt, stopped, run_ending, ending_of}
 
 pub keeps_all : (old : Option (List ℕ)) → Keeps old old
@@ -100,7 +101,7 @@ joint_rule c task accepted e = ap (λ b. cond b (rule_of_all c task.mode accepte
 -- ---- what the words say
 
 pub plan_is : (words : Option (Bor (List (Bor (List ℕ))))) (catalogue : Option (Bor (List ℕ))) (w : Bor (List (Bor (List ℕ)))) (task : Task) (b : Bor (List ℕ)) (r : Result Rows ReadFault) →
-    words ≡ Some w → task_in (texts_of w.now) ≡ Some task → catalogue ≡ Some b → catalogue_of b.now ≡ r → plan_of found words catalogue ≡ with_rows found task (drop 2 (texts_of w.now)) r
+    words ≡ Some w → task_in (texts_of w.now) ≡ Some task → catalogue ≡ Some b → catalogue_in b.now ≡ r → plan_of found words catalogue ≡ with_rows found task (drop 2 (texts_of w.now)) r
 plan_is words catalogue w task b r p q s t =
     ap (λ x. plan_of found x catalogue) p
     ∙ ap (λ x. with_words found (texts_of w.now) x catalogue) q

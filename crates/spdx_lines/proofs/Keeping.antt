@@ -5,8 +5,8 @@ use Rattle.std.specs.List.{flat_map}
 use Rattle.std.proofs.lemmas.List.{length-map, get_or-map}
 use Rattle.std.proofs.lemmas.Grind.{flat_map-append}
 use Rattle.std.proofs.lemmas.List.Elements.{All-nil, All-push, Contains-append_left, Contains-append_right, Contains-append_cases, Contains-push, Contains-push_cases}
-use Rattle.spdx_catalogue.specs.Rows.{Rows}
-use Rattle.spdx_catalogue.specs.Items.{Requirement}
+use Rattle.spdx_requirement.specs.Rows.{Rows}
+use Rattle.spdx_requirement.specs.Items.{Requirement}
 use Rattle.spdx_parser.specs.Tree.{Tree}
 use Rattle.spdx_parser.specs.Meaning.{IsOfRows}
 use Rattle.spdx_minimize.specs.Choice.{Choice, choice_of}

@@ -5,7 +5,6 @@ pub mod Laxer
 pub mod Verdict
 pub mod Answered
 pub mod Keeping
-pub mod Catalogue
 pub mod Licensee
 pub mod Licensees
 pub mod Ends

@@ -1,8 +1,8 @@
 -- The licensee that is found, or the fault, is the only one that a text has.
 use Rattle.std.proofs.Common.{◌≡◌, ℕ, Bool, false, cond, List, [], ◌∷◌, ◌++◌, length, map, Option, Some, None, Result, Ok, Err, refl, sym, ap, subst, ◌∙◌, append-nil, codes}
 use Rattle.std.specs.Prelude.{option_map, option_and_then, ok_or, MatchResult}
-use Rattle.spdx_catalogue.specs.Rows.{Rows}
-use Rattle.spdx_catalogue.specs.Items.{Reference, LicenseTerm, Addition, added, Requirement}
+use Rattle.spdx_requirement.specs.Rows.{Rows}
+use Rattle.spdx_requirement.specs.Items.{Reference, LicenseTerm, Addition, added, Requirement}
 use Rattle.spdx_lexer.specs.Words.{Word, AdditionRef, With, Fault, Unexpected, Span, Item, Placed, words}
 use Rattle.spdx_lexer.specs.Modes.{strict}
 use Rattle.spdx_lexer.specs.Reading.{reading}

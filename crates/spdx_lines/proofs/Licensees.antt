@@ -1,8 +1,8 @@
 -- Licensees that are read one by one.
 use Rattle.std.proofs.Common.{◌≡◌, ℕ, ◌+◌, ◌<◌, length, drop, get_or, drop-cons, add-one, List, [], ◌∷◌, ◌++◌, Result, Ok, Err, refl, sym, ap, ◌∙◌, append_assoc, append-nil}
 use Rattle.std.specs.Borrow.{Bor}
-use Rattle.spdx_catalogue.specs.Rows.{Rows}
-use Rattle.spdx_catalogue.specs.Items.{Requirement}
+use Rattle.spdx_requirement.specs.Rows.{Rows}
+use Rattle.spdx_requirement.specs.Items.{Requirement}
 use Rattle.spdx_lexer.specs.Words.{Fault, Span}
 use Rattle.spdx_licensee.specs.LicenseeText.{Names, IsLicenseeFault}
 use Rattle.spdx_lines.specs.Program.{Refusal, NoLicensee, texts_of, put_before, licensee_before, licensees_from}

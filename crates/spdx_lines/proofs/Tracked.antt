@@ -1,9 +1,9 @@
 -- What the parser's machine knows of the words that led to a state.
 use Rattle.std.proofs.Common.{◌≡◌, ℕ, ◌+◌, Bool, true, false, List, [], ◌∷◌, length, Option, Some, None, refl, sym, ◌∙◌, ap, arith}
-use Rattle.spdx_catalogue.specs.Rows.{Rows, LicenseRow}
-use Rattle.spdx_catalogue.specs.Flags.{is_gnu}
-use Rattle.spdx_catalogue.specs.Names.{ends_or_later}
-use Rattle.spdx_catalogue.specs.Items.{LicenseTerm, listed}
+use Rattle.spdx_requirement.specs.Rows.{Rows, LicenseRow}
+use Rattle.spdx_requirement.specs.Flags.{is_gnu}
+use Rattle.spdx_requirement.specs.Endings.{ends_or_later}
+use Rattle.spdx_requirement.specs.Items.{LicenseTerm, listed}
 use Rattle.spdx_lexer.specs.declared.token.ParseMode.{ParseMode}
 use Rattle.spdx_lexer.specs.Words.{Word, Spdx, LicenseRef, Exception, AdditionRef, Unknown, Plus, OpenParen, CloseParen, With, And, Or}
 use Rattle.spdx_parser.specs.Tree.{Tree}

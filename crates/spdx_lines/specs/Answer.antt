@@ -1,6 +1,6 @@
 -- How the answer to a line begins, and what is kept of the accepted lines.
 use Rattle.std.specs.Prelude.{◌≡◌, ℕ, true, List, [], ◌∷◌, ◌++◌, All, codes}
-use Rattle.spdx_catalogue.specs.Rows.{Rows}
+use Rattle.spdx_requirement.specs.Rows.{Rows}
 use Rattle.spdx_parser.specs.Tree.{Tree}
 use Rattle.spdx_parser.specs.Meaning.{IsOfRows}
 use Rattle.spdx_minimize.specs.Doubles.{SameMembers}

@@ -6,8 +6,8 @@ use Rattle.line_engine.specs.Device.{Devices}
 use Rattle.line_engine.specs.Pieces.{SplitsAtLines}
 use Rattle.line_engine.specs.Rule.{Rule}
 use Rattle.line_engine.specs.Runs.{Runs}
-use Rattle.spdx_catalogue.specs.Rows.{Rows}
-use Rattle.spdx_catalogue.specs.Items.{Requirement}
+use Rattle.spdx_requirement.specs.Rows.{Rows}
+use Rattle.spdx_requirement.specs.Items.{Requirement}
 use Rattle.spdx_minimize.specs.Choice.{choice_of}
 use Rattle.spdx_minimize.specs.Doubles.{SameMembers}
 use Rattle.spdx_lines.specs.declared.lines.LineMode.{LineMode}

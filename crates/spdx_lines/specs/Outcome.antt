@@ -1,6 +1,6 @@
 -- The tree of a text, or its fault, found by reading its words in turn.
 use Rattle.std.specs.Prelude.{ℕ, zero, suc, Bool, true, false, List, [], ◌∷◌, ◌++◌, length, Option, Some, None, Result, Ok, Err, if◌then◌else◌}
-use Rattle.spdx_catalogue.specs.Rows.{Rows}
+use Rattle.spdx_requirement.specs.Rows.{Rows}
 use Rattle.spdx_lexer.specs.declared.token.ParseMode.{ParseMode}
 use Rattle.spdx_lexer.specs.Words.{Word, OpenParen, CloseParen, Fault, Unexpected, UnclosedParens, Empty, Span, span, Item, Placed, words}
 use Rattle.spdx_lexer.specs.Reading.{reading}

@@ -3,8 +3,8 @@ use Rattle.std.specs.Prelude.{◌≡◌, ℕ, ◌+◌, ◌++◌, List, [], ◌�
 use Rattle.std.specs.Fmt.{decimal}
 use Rattle.std.specs.Borrow.{Bor}
 use Rattle.line_engine.specs.Rule.{Rule}
-use Rattle.spdx_catalogue.specs.Rows.{Rows}
-use Rattle.spdx_catalogue.specs.Items.{Requirement}
+use Rattle.spdx_requirement.specs.Rows.{Rows}
+use Rattle.spdx_requirement.specs.Items.{Requirement}
 use Rattle.spdx_catalogue.specs.Reading.{IsReading, IsFault}
 use Rattle.spdx_catalogue.specs.Faults.{read_text}
 use Rattle.spdx_catalogue.specs.declared.error.ReadFault.{ReadFault}
@@ -42,14 +42,6 @@ read_task text =
 -- the second word names it
 abbrev pub task_in : List (List ℕ) → Option Task
 task_in texts = option_and_then read_task (slice_get texts 1)
-
--- ---- the catalogue
-
--- these are the rows, or the fault, and there are no others
-pub record IsTheCatalogue (bytes : List ℕ) (r : Result Rows ReadFault) : Type 0 where
-  pub given : MatchResult r (IsReading bytes) (IsFault bytes)
-  pub only_rows : (c : Rows) → IsReading bytes c → r ≡ Ok c
-  pub only_fault : (fault : ReadFault) → IsFault bytes fault → r ≡ Err fault
 
 -- ---- the licensees
 

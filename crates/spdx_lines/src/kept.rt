@@ -1,7 +1,7 @@
 // The different expressions of many lines.
 
 ghost use Rattle.std.specs.Prelude.{◌≡◌, [], ◌∷◌, ◌++◌, List, map, IsTrue, IfOk, OnOk, Contains};
-ghost use Rattle.spdx_catalogue.specs.Rows.{Rows};
+ghost use Rattle.spdx_requirement.specs.Rows.{Rows};
 ghost use Rattle.spdx_parser.specs.Meaning.{IsOfRows};
 ghost use Rattle.spdx_parser.specs.Tree.{Tree};
 ghost use Rattle.spdx.specs.Value.{trees_of};

@@ -3,8 +3,8 @@
 ghost use Rattle.std.specs.Prelude.{◌≡◌, ℕ, ◌++◌, List, Ok, OnOk, codes, map};
 ghost use Rattle.std.specs.List.{flat_map, join_by};
 ghost use Rattle.std.specs.Fmt.{decimal};
-ghost use Rattle.spdx_catalogue.specs.Items.{requirement_of};
-ghost use Rattle.spdx_catalogue.specs.Texts.{requirement_text};
+ghost use Rattle.spdx_requirement.specs.Items.{requirement_of};
+ghost use Rattle.spdx_requirement.specs.Texts.{requirement_text};
 ghost use Rattle.spdx_lexer.specs.Code.{span_of};
 ghost use Rattle.spdx_lexer.specs.Faults.{fault_of};
 ghost use Rattle.spdx_canonical.specs.Canonical.{canonical_of};

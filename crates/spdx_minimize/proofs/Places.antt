@@ -4,7 +4,7 @@ use native.Mathlib.Numerals.{unary_clauses}
 use Rattle.std.specs.List.{list_all}
 use Rattle.std.proofs.lemmas.List.{length-map}
 use Rattle.std.specs.Global.{Vec}
-use Rattle.spdx_catalogue.specs.Items.{Requirement, requirement_of}
+use Rattle.spdx_requirement.specs.Items.{Requirement, requirement_of}
 use Rattle.spdx_parser.specs.declared.node.ExpressionReq.{ExpressionReq}
 use Rattle.spdx_parser.specs.declared.node.ExprNode.{ExprNode}
 use Rattle.spdx_parser.specs.Tree.{Tree, leaves, postfix, node_of}

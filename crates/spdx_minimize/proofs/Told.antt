@@ -9,11 +9,11 @@ use Rattle.std.specs.Ordering.{is_eq, nat_cmp, ordering_then}
 use Rattle.std.specs.declared.cmp.Ordering.{Ordering}
 use Rattle.std.specs.declared.cmp.Ordering.TheVariants.{Less, Equal, Greater}
 use Rattle.std.proofs.lemmas.Map.Text.{is_eq-slice_cmp}
-use Rattle.spdx_catalogue.specs.declared.requirement.LicenseReq.{LicenseReq}
-use Rattle.spdx_catalogue.specs.Items.{Reference, LicenseTerm, listed, referred, Addition, excepted, added, Requirement, requirement_of}
-use Rattle.spdx_catalogue.specs.Orders.{option_cmp, mark_cmp, reference_cmp, license_cmp, addition_cmp, requirement_cmp}
-use Rattle.spdx_catalogue.specs.contracts.requirement.LicenseReqOrd.TheImpl as req_ord
-use Rattle.spdx_licensee.specs.Equality.{same_reference, same_license, same_addition, same_requirement}
+use Rattle.spdx_requirement.specs.declared.requirement.LicenseReq.{LicenseReq}
+use Rattle.spdx_requirement.specs.Items.{Reference, LicenseTerm, listed, referred, Addition, excepted, added, Requirement, requirement_of}
+use Rattle.spdx_requirement.specs.Orders.{option_cmp, mark_cmp, reference_cmp, license_cmp, addition_cmp, requirement_cmp}
+use Rattle.spdx_requirement.specs.contracts.requirement.LicenseReqOrd.TheImpl as req_ord
+use Rattle.spdx_requirement.specs.Equality.{same_reference, same_license, same_addition, same_requirement}
 
 both_tied : (a b : Ordering) (x y : Bool) → is_eq a ≡ x → is_eq b ≡ y → is_eq (ordering_then a b) ≡ (x && y)
 both_tied Less b x y e f = ap (λ (z : Bool). z && y) e

@@ -1,11 +1,11 @@
 -- The least choice of licensees that makes expressions true.
 use Rattle.std.specs.Prelude.{◌≡◌, ℕ, zero, suc, Bool, true, false, ◌&&◌, ◌||◌, cond, List, [], ◌∷◌, ◌++◌, Option, Some, None, length, nat_lt}
 use Rattle.std.specs.List.{filter, find, list_all, list_any}
-use Rattle.spdx_catalogue.specs.Items.{Requirement}
+use Rattle.spdx_requirement.specs.Items.{Requirement}
 use Rattle.spdx_parser.specs.Tree.{Tree, leaves}
 use Rattle.spdx_licensee.specs.Satisfies.{satisfies}
 use Rattle.least_selection.specs.Selection.{IsLeast, NeedsEach}
-use Rattle.spdx_licensee.specs.Equality.{same_requirement}
+use Rattle.spdx_requirement.specs.Equality.{same_requirement}
 pub use Rattle.spdx_evaluation.specs.Truth.{holds}
 
 -- those that are the same as none before them

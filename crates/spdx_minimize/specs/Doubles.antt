@@ -1,6 +1,6 @@
 -- The least choice sees which expressions are there, and not how often or in what order.
 use Rattle.std.specs.Prelude.{◌≡◌, ◌↔◌, List, Contains}
-use Rattle.spdx_catalogue.specs.Items.{Requirement}
+use Rattle.spdx_requirement.specs.Items.{Requirement}
 use Rattle.spdx_parser.specs.Tree.{Tree}
 use Rattle.spdx_minimize.specs.Choice.{choice_of}
 

@@ -1,6 +1,6 @@
 -- What a judge of selections shows.
 use Rattle.std.specs.Prelude.{ℕ, List, length, map}
-use Rattle.spdx_catalogue.specs.Items.{Requirement}
+use Rattle.spdx_requirement.specs.Items.{Requirement}
 use Rattle.spdx_parser.specs.Tree.{Tree}
 use Rattle.spdx_evaluation.specs.Requirements.{nows}
 use Rattle.spdx_minimize.specs.declared.judge.NodesJudge.{NodesJudge}

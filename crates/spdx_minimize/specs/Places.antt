@@ -1,7 +1,7 @@
 -- What a judge of selections keeps of expressions and members.
 use Rattle.std.specs.Prelude.{◌≡◌, ℕ, ◌+◌, Bool, false, cond, List, [], ◌∷◌, ◌++◌, length, map, max, slice_index_or}
 use Rattle.std.specs.List.{list_any}
-use Rattle.spdx_catalogue.specs.Items.{Requirement, requirement_of}
+use Rattle.spdx_requirement.specs.Items.{Requirement, requirement_of}
 use Rattle.spdx_parser.specs.declared.node.ExprNode.{ExprNode}
 use Rattle.spdx_parser.specs.Tree.{Tree, leaves}
 use Rattle.spdx_licensee.specs.Satisfies.{satisfies}

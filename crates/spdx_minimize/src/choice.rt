@@ -1,8 +1,8 @@
 //! The least choice of licensees that makes expressions true.
 
 ghost use Rattle.std.specs.Prelude.{◌≡◌, IfOk, IfErr, length, map};
-ghost use Rattle.spdx_catalogue.specs.Failures.{IfRefused};
-ghost use Rattle.spdx_catalogue.specs.Items.{requirement_of};
+ghost use Rattle.spdx_requirement.specs.Failures.{IfRefused};
+ghost use Rattle.spdx_requirement.specs.Items.{requirement_of};
 ghost use Rattle.spdx_evaluation.specs.Requirements.{nows};
 ghost use Rattle.spdx_minimize.specs.Choice.{useful, chosen, chosen_of, choice_of, IsLeastChoice};
 ghost use Rattle.spdx_minimize.specs.MinimizeFaults.{refused_choice};

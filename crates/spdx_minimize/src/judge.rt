@@ -2,7 +2,7 @@
 
 ghost use Rattle.std.specs.Prelude.{◌≡◌, ◌≤◌, IfOk, length, map};
 ghost use Rattle.std.specs.List.{list_all};
-ghost use Rattle.spdx_catalogue.specs.Items.{requirement_of};
+ghost use Rattle.spdx_requirement.specs.Items.{requirement_of};
 ghost use Rattle.spdx_parser.specs.Tree.{leaves, node_of};
 ghost use Rattle.spdx_evaluation.specs.Postfix.{IsPostfix, tree_in};
 ghost use Rattle.spdx_evaluation.specs.Requirements.{nows};

@@ -1,6 +1,6 @@
 -- The normal text of a strict tree is read as that tree alone, with the fewest parentheses, and tells it.
 use Rattle.std.proofs.Common.{◌≡◌, ℕ, List, [], ◌∷◌, map, Result, Ok, refl, sym, ◌∙◌, ap, subst, ◌↔◌, ◌≤◌, IsTrue}
-use Rattle.spdx_catalogue.specs.Rows.{Rows}
+use Rattle.spdx_requirement.specs.Rows.{Rows}
 use Rattle.spdx_catalogue.specs.RowRules.{is_well_formed}
 use Rattle.spdx_catalogue.proofs.Listed.{listed_is_license, listed_is_exception}
 use Rattle.spdx_lexer.specs.Modes.{strict}

@@ -2,11 +2,11 @@
 -- is its own.
 use Rattle.std.proofs.Common.{◌≡◌, ℕ, true, false, cond, List, [], ◌∷◌, ◌++◌, Option, Some, None, refl, sym, ◌∙◌, ap, subst, append_assoc, append-nil}
 use Rattle.std.specs.Prelude.{codes}
-use Rattle.spdx_catalogue.specs.Rows.{Rows}
-use Rattle.spdx_catalogue.specs.Flags.{is_deprecated}
-use Rattle.spdx_catalogue.specs.Items.{LicenseTerm, listed, referred, Addition, excepted, added, Requirement}
-use Rattle.spdx_catalogue.specs.Texts as texts
-use Rattle.spdx_catalogue.specs.Texts.{license_prefix, addition_prefix, license_text, with_text, requirement_text}
+use Rattle.spdx_requirement.specs.Rows.{Rows}
+use Rattle.spdx_requirement.specs.Flags.{is_deprecated}
+use Rattle.spdx_requirement.specs.Items.{LicenseTerm, listed, referred, Addition, excepted, added, Requirement}
+use Rattle.spdx_requirement.specs.Texts as texts
+use Rattle.spdx_requirement.specs.Texts.{license_prefix, addition_prefix, license_text, with_text, requirement_text}
 use Rattle.spdx_lexer.specs.Modes.{strict}
 use Rattle.spdx_lexer.specs.Words.{Word, Spdx, LicenseRef, Exception, AdditionRef, Plus, With}
 use Rattle.spdx_lexer.specs.Lexeme.{reference_run}

@@ -6,8 +6,8 @@ use Rattle.spdx_parser.specs.declared.node.Operator.{Operator}
 use Rattle.spdx_parser.specs.declared.node.Operator.TheVariants.{And, Or}
 use Rattle.spdx_parser.specs.declared.node.ExprNode.{ExprNode}
 use Rattle.spdx_parser.specs.Tree.{Tree, Leaf, Join, Node, Op, Req, postfix}
-use Rattle.spdx_catalogue.specs.Items.{Requirement}
-use Rattle.spdx_catalogue.specs.Texts.{requirement_text}
+use Rattle.spdx_requirement.specs.Items.{Requirement}
+use Rattle.spdx_requirement.specs.Texts.{requirement_text}
 use Rattle.spdx_normal.specs.declared.piece.Place.{Place}
 use Rattle.spdx_normal.specs.declared.piece.Piece.{Piece}
 use Rattle.spdx_normal.specs.declared.piece.Task.{Task}

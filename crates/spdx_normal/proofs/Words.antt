@@ -1,7 +1,7 @@
 -- The words of a normal text.
 use Rattle.std.proofs.Common.{◌≡◌, ℕ, Bool, true, false, List, [], ◌∷◌, ◌++◌, refl, ◌∙◌, ap}
 use Rattle.std.specs.Prelude.{codes}
-use Rattle.spdx_catalogue.specs.Rows.{Rows}
+use Rattle.spdx_requirement.specs.Rows.{Rows}
 use Rattle.spdx_lexer.specs.Words as Words
 use Rattle.spdx_lexer.specs.Words.{Word, OpenParen, CloseParen}
 use Rattle.spdx_parser.specs.declared.node.Operator.{Operator}

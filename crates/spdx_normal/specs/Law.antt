@@ -1,8 +1,8 @@
 -- What is said of the normal text of a tree that strict parsing gives.
 use Rattle.std.specs.Prelude.{ℕ, ◌+◌, ◌≤◌, List, [], ◌∷◌, IsTrue}
-use Rattle.spdx_catalogue.specs.Rows.{Rows}
+use Rattle.spdx_requirement.specs.Rows.{Rows}
 use Rattle.spdx_catalogue.specs.RowRules.{is_well_formed}
-use Rattle.spdx_catalogue.specs.Items.{Requirement}
+use Rattle.spdx_requirement.specs.Items.{Requirement}
 use Rattle.spdx_lexer.specs.Modes.{strict}
 use Rattle.spdx_lexer.specs.Words.{Word, OpenParen, CloseParen}
 use Rattle.spdx_lexer.specs.Reading.{Spells}

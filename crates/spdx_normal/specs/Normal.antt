@@ -1,7 +1,7 @@
 -- The normal text of a tree: its requirements as they print, its operators in capitals, and parentheses where the tree
 -- needs them.
 use Rattle.std.specs.Prelude.{ℕ, Bool, true, false, not, List, ◌++◌, codes}
-use Rattle.spdx_catalogue.specs.Texts.{requirement_text}
+use Rattle.spdx_requirement.specs.Texts.{requirement_text}
 use Rattle.spdx_parser.specs.declared.node.Operator.{Operator}
 use Rattle.spdx_parser.specs.declared.node.Operator.TheVariants.{And, Or}
 use Rattle.spdx_parser.specs.Tree.{Tree, Leaf, Join, Node, Op, Req}

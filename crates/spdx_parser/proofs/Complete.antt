@@ -1,8 +1,8 @@
 -- What the grammar derives, the machine builds.
 use Rattle.std.proofs.Common.{◌≡◌, true, false, List, [], ◌∷◌, Option, Some, refl, ◌∙◌, ap}
-use Rattle.spdx_catalogue.specs.Rows.{Rows, LicenseRow}
-use Rattle.spdx_catalogue.specs.Names.{ends_or_later}
-use Rattle.spdx_catalogue.specs.Items.{Requirement, LicenseTerm, listed, Addition}
+use Rattle.spdx_requirement.specs.Rows.{Rows, LicenseRow}
+use Rattle.spdx_requirement.specs.Endings.{ends_or_later}
+use Rattle.spdx_requirement.specs.Items.{Requirement, LicenseTerm, listed, Addition}
 use Rattle.spdx_lexer.specs.declared.token.ParseMode.{ParseMode}
 use Rattle.spdx_lexer.specs.Words.{Word, Plus, CloseParen, With, And, Or}
 use Rattle.spdx_parser.specs.declared.node.Operator.{Operator}

@@ -1,11 +1,11 @@
 -- Every row that is read stands in the catalogue, and so does every row of a tree.
 use Rattle.std.proofs.Common.{◌≡◌, ℕ, ◌+◌, Bool, true, false, cond, ◌&&◌, ◌==◌, nat_lt, List, [], ◌∷◌, ◌++◌, length, drop, map, Option, Some, None, Result, Ok, Err, refl, subst, IfSome, IfOk, option_map}
 use Rattle.std.specs.Prelude.{codes, bytes_eq, ◌||◌, if◌then◌else◌, slice_get}
-use Rattle.spdx_catalogue.specs.Rows.{Rows, LicenseRow, ExceptionRow}
+use Rattle.spdx_requirement.specs.Rows.{Rows, LicenseRow, ExceptionRow}
 use Rattle.spdx_catalogue.specs.RowRules.{is_well_formed}
 use Rattle.spdx_catalogue.specs.LookUps as LookUps
-use Rattle.spdx_catalogue.specs.Names.{without_only, or_later}
-use Rattle.spdx_catalogue.specs.Items.{Requirement, LicenseTerm, Addition}
+use Rattle.spdx_requirement.specs.Endings.{without_only, or_later}
+use Rattle.spdx_requirement.specs.Items.{Requirement, LicenseTerm, Addition}
 use Rattle.spdx_catalogue.proofs.Listed.{listed_is_license, caseless_is_license, listed_is_exception, caseless_is_exception, imprecise_is_license}
 use Rattle.spdx_lexer.specs.declared.token.ParseMode.{ParseMode}
 use Rattle.spdx_lexer.specs.Words.{Word, Spdx, LicenseRef, Exception, AdditionRef, Unknown, Plus, OpenParen, CloseParen, With, And, Or, Fault, Item, Placed, words}

@@ -5,9 +5,10 @@ use Rattle.std.specs.Option.{MatchOption}
 use Rattle.std.specs.Str.Pattern.{StripsSuffix, FindsTextSuffix}
 use Rattle.std.proofs.lemmas.Bool.Decides.{Decides-eqb}
 use Rattle.std.proofs.lemmas.Slice.Eq.{ends_is}
-use Rattle.spdx_catalogue.specs.Rows.{Rows, LicenseRow}
-use Rattle.spdx_catalogue.specs.Flags.{is_gnu}
-use Rattle.spdx_catalogue.specs.Names.{only, or_later, ends_only, ends_or_later, has_suffix, has_two_suffixes, still_has_suffix, without, without_only, without_plus, ending}
+use Rattle.spdx_requirement.specs.Rows.{Rows, LicenseRow}
+use Rattle.spdx_requirement.specs.Flags.{is_gnu}
+use Rattle.spdx_requirement.specs.Endings.{only, or_later, ends_only, ends_or_later, has_suffix, without, without_only, ending}
+use Rattle.spdx_catalogue.specs.Names.{has_two_suffixes, still_has_suffix, without_plus}
 use Rattle.spdx_catalogue.specs.LookUps as LookUps
 use Rattle.spdx_catalogue.specs.RowRules.{is_well_formed}
 use Rattle.spdx_catalogue.proofs.Listed.{license_one_suffix}

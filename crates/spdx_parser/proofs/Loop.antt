@@ -2,7 +2,7 @@
 use Rattle.std.proofs.Common.{◌≡◌, ℕ, ◌+◌, ◌<◌, ◌≤◌, ◌^◌, Bool, true, false, List, [], ◌∷◌, ◌++◌, length, map, reverse, Option, Some, None, Ok, Err, refl, sym, ◌∙◌, ap, subst, arith, append_assoc, append-nil, length-append}
 use Rattle.std.specs.Prelude.{◌==◌}
 use Rattle.std.proofs.lemmas.List.{map-append, length-map, length-reverse, reverse-append}
-use Rattle.spdx_catalogue.specs.Rows.{Rows}
+use Rattle.spdx_requirement.specs.Rows.{Rows}
 use Rattle.spdx_catalogue.specs.RowRules.{is_well_formed}
 use Rattle.spdx_lexer.specs.declared.token.ParseMode.{ParseMode}
 use Rattle.spdx_lexer.specs.Words.{Word, CloseParen, Fault, Empty, Unexpected, UnclosedParens, Span, span, Item, Placed, words}
@@ -19,9 +19,9 @@ use Rattle.spdx_parser.specs.Grammar.{Derives, IsViable}
 use Rattle.spdx_parser.specs.Faults.{opens, closes, fault_behind, word_fault, empty, short, unclosed, IsFaultOf, at_word, at_place, at_end, HasNoTree}
 use Rattle.spdx_lexer.specs.declared.error.ParseError.{ParseError}
 use Rattle.spdx_lexer.specs.Faults.{fault_of}
-use Rattle.spdx_catalogue.specs.declared.error.Failure.{Failure}
-use Rattle.spdx_catalogue.specs.declared.error.Failure.TheVariants.{Refused}
-use Rattle.spdx_catalogue.specs.Failures.{IfRefused}
+use Rattle.spdx_requirement.specs.declared.failure.Failure.{Failure}
+use Rattle.spdx_requirement.specs.declared.failure.Failure.TheVariants.{Refused}
+use Rattle.spdx_requirement.specs.Failures.{IfRefused}
 use Rattle.spdx_parser.specs.Meaning.{IsParsed, IsRefused}
 use Rattle.spdx_parser.specs.Machine as machine
 use Rattle.spdx_parser.specs.Code.{IsKnown}

@@ -1,7 +1,7 @@
 -- From the two halves: where words begin an expression, and where they mean one.
 use Rattle.std.proofs.Common.{◌≡◌, false, List, [], ◌∷◌, ◌++◌, Option, Some, None, refl, sym, ◌∙◌, ap, subst, append_assoc}
-use Rattle.spdx_catalogue.specs.Rows.{Rows, LicenseRow}
-use Rattle.spdx_catalogue.specs.Items.{LicenseTerm, listed, referred, added}
+use Rattle.spdx_requirement.specs.Rows.{Rows, LicenseRow}
+use Rattle.spdx_requirement.specs.Items.{LicenseTerm, listed, referred, added}
 use Rattle.spdx_lexer.specs.declared.token.ParseMode.{ParseMode}
 use Rattle.spdx_lexer.specs.Words.{Word, LicenseRef, AdditionRef, CloseParen}
 use Rattle.spdx_parser.specs.Tree.{Tree}

@@ -1,10 +1,10 @@
 -- The grammar with what follows carried along: `OrOf c m ws t rest` says that a front of ws means the tree t, and
 -- that rest is what follows it. So a machine that reads word by word can be compared with it.
 use Rattle.std.proofs.Common.{◌≡◌, ℕ, true, false, List, [], ◌∷◌, ◌++◌, Option, Some, None, refl, sym, ◌∙◌, ap, subst, append_assoc, append-nil}
-use Rattle.spdx_catalogue.specs.Rows.{Rows, LicenseRow, ExceptionRow}
-use Rattle.spdx_catalogue.specs.Flags.{is_gnu}
-use Rattle.spdx_catalogue.specs.Names.{ends_or_later}
-use Rattle.spdx_catalogue.specs.Items.{LicenseTerm, listed, referred, Addition, excepted, added, Requirement}
+use Rattle.spdx_requirement.specs.Rows.{Rows, LicenseRow, ExceptionRow}
+use Rattle.spdx_requirement.specs.Flags.{is_gnu}
+use Rattle.spdx_requirement.specs.Endings.{ends_or_later}
+use Rattle.spdx_requirement.specs.Items.{LicenseTerm, listed, referred, Addition, excepted, added, Requirement}
 use Rattle.spdx_lexer.specs.declared.token.ParseMode.{ParseMode}
 use Rattle.spdx_lexer.specs.Words.{Word, Spdx, LicenseRef, Exception, AdditionRef, Unknown, Plus, OpenParen, CloseParen, With, And, Or}
 use Rattle.spdx_parser.specs.declared.node.Operator.{Operator}

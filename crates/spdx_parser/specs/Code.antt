@@ -1,8 +1,8 @@
 -- What the code's types show.
 use Rattle.std.specs.Prelude.{◌≡◌, None, Some, slice_get}
-use Rattle.spdx_catalogue.specs.Rows.{Rows, LicenseRow}
-use Rattle.spdx_catalogue.specs.Ids.{id_row}
-use Rattle.spdx_catalogue.specs.Items.{LicenseTerm, listed, referred}
+use Rattle.spdx_requirement.specs.Rows.{Rows, LicenseRow}
+use Rattle.spdx_requirement.specs.Ids.{id_row}
+use Rattle.spdx_requirement.specs.Items.{LicenseTerm, listed, referred}
 use Rattle.spdx_lexer.specs.Code.{document_of}
 use Rattle.spdx_parser.specs.declared.name.Name.{Name}
 use Rattle.spdx_parser.specs.declared.last.Last as code

@@ -1,8 +1,8 @@
 -- The fault of a text that means no tree.
 use Rattle.std.specs.Prelude.{◌≡◌, ℕ, ◌+◌, ◌<◌, Bool, true, false, ◌==◌, ◌&&◌, List, [], ◌∷◌, ◌++◌, length, map, Ok, Err, if◌then◌else◌}
-use Rattle.spdx_catalogue.specs.Rows.{Rows, LicenseRow}
-use Rattle.spdx_catalogue.specs.Flags.{is_gnu}
-use Rattle.spdx_catalogue.specs.Names.{ends_or_later}
+use Rattle.spdx_requirement.specs.Rows.{Rows, LicenseRow}
+use Rattle.spdx_requirement.specs.Flags.{is_gnu}
+use Rattle.spdx_requirement.specs.Endings.{ends_or_later}
 use Rattle.spdx_lexer.specs.declared.token.ParseMode.{ParseMode}
 use Rattle.spdx_lexer.specs.Words.{Word, Spdx, Plus, OpenParen, CloseParen, Fault, UnknownLicense, Unexpected, GnuNoPlus, GnuPlusWithSuffix, DeprecatedLicenseId, UnopenedParens, UnclosedParens, Empty, Span, span, Item, Placed, words}
 use Rattle.spdx_lexer.specs.Reading.{reading}

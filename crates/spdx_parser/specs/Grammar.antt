@@ -5,11 +5,11 @@
 --   Leaf    : Licence [ WITH Addition ]
 -- So AND binds tighter than OR, and chains of one operator lean right.
 use Rattle.std.specs.Prelude.{◌≡◌, ℕ, Bool, true, false, not, ◌||◌, List, [], ◌∷◌, ◌++◌, Option, Some, None}
-use Rattle.spdx_catalogue.specs.Rows.{Rows, LicenseRow, ExceptionRow}
-use Rattle.spdx_catalogue.specs.Flags.{is_gnu, is_deprecated}
-use Rattle.spdx_catalogue.specs.Names.{or_later, ends_or_later, without_only}
+use Rattle.spdx_requirement.specs.Rows.{Rows, LicenseRow, ExceptionRow}
+use Rattle.spdx_requirement.specs.Flags.{is_gnu, is_deprecated}
+use Rattle.spdx_requirement.specs.Endings.{or_later, ends_or_later, without_only}
 use Rattle.spdx_catalogue.specs.LookUps as LookUps
-use Rattle.spdx_catalogue.specs.Items.{Reference, LicenseTerm, listed, referred, Addition, excepted, added, Requirement}
+use Rattle.spdx_requirement.specs.Items.{Reference, LicenseTerm, listed, referred, Addition, excepted, added, Requirement}
 use Rattle.spdx_lexer.specs.declared.token.ParseMode.{ParseMode}
 use Rattle.spdx_lexer.specs.Words.{Word, Spdx, LicenseRef, Exception, AdditionRef, Unknown, Plus, OpenParen, CloseParen, With, And, Or}
 use Rattle.spdx_parser.specs.declared.node.Operator.{Operator}

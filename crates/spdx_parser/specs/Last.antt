@@ -1,6 +1,6 @@
 -- What the last of some words stands as, and what may follow it.
 use Rattle.std.specs.Prelude.{ℕ, Bool, true, false, List, [], ◌∷◌, codes}
-use Rattle.spdx_catalogue.specs.Rows.{LicenseRow}
+use Rattle.spdx_requirement.specs.Rows.{LicenseRow}
 use Rattle.spdx_lexer.specs.Words.{Word, Spdx, LicenseRef, Exception, AdditionRef, Unknown, Plus, OpenParen, CloseParen, With, And, Or}
 
 -- what the last word stands as

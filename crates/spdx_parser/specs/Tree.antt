@@ -1,7 +1,7 @@
 -- What an expression means: a tree, and its postfix form.
 use Rattle.std.specs.Prelude.{List, [], ◌∷◌, ◌++◌}
-use Rattle.spdx_catalogue.specs.Items.{Requirement, requirement_of}
-use Rattle.spdx_catalogue.specs.Keys.{RequirementKey, requirement_key}
+use Rattle.spdx_requirement.specs.Items.{Requirement, requirement_of}
+use Rattle.spdx_requirement.specs.Keys.{RequirementKey, requirement_key}
 use Rattle.spdx_parser.specs.declared.node.Operator.{Operator}
 use Rattle.spdx_parser.specs.declared.node.ExprNode.{ExprNode}
 

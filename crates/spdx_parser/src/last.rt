@@ -1,8 +1,8 @@
 // What was read last, and what may come behind it.
 
 ghost use Rattle.std.specs.Prelude.{◌≡◌};
-ghost use Rattle.spdx_catalogue.specs.Ids.{id_row};
-ghost use Rattle.spdx_catalogue.specs.Names as Names;
+ghost use Rattle.spdx_requirement.specs.Ids.{id_row};
+ghost use Rattle.spdx_requirement.specs.Endings as Endings;
 ghost use Rattle.spdx_lexer.specs.Code.{word_of};
 ghost use Rattle.spdx_lexer.specs.Faults.{fault_of, terms_of};
 ghost use Rattle.spdx_parser.specs.Code.{last_in};
@@ -42,7 +42,7 @@ pub fn may_stand(mode: ParseMode, id: LicenseId<'_>) -> bool
 
 /// Whether a licence's name ends in `-or-later`.
 pub fn ends_or_later(id: LicenseId<'_>) -> bool
-    ensures { result ≡ Names.ends_or_later (id_row id.entry).name }
+    ensures { result ≡ Endings.ends_or_later (id_row id.entry).name }
 {
     id.license().name.as_bytes().ends_with(b"-or-later")
 }

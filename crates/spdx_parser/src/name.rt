@@ -1,10 +1,10 @@
 // What names a licence, and the items that are made of names.
 
 ghost use Rattle.std.specs.Prelude.{◌≡◌, true, false, IfOk, option_map, string_bytes};
-ghost use Rattle.spdx_catalogue.specs.Flags as Flags;
-ghost use Rattle.spdx_catalogue.specs.Ids.{id_row};
-ghost use Rattle.spdx_catalogue.specs.Items.{license_of, referred, addition_of, added};
-ghost use Rattle.spdx_catalogue.specs.Names as Names;
+ghost use Rattle.spdx_requirement.specs.Flags as Flags;
+ghost use Rattle.spdx_requirement.specs.Ids.{id_row};
+ghost use Rattle.spdx_requirement.specs.Items.{license_of, referred, addition_of, added};
+ghost use Rattle.spdx_requirement.specs.Endings as Endings;
 ghost use Rattle.spdx_lexer.specs.Code.{document_of};
 ghost use Rattle.spdx_parser.specs.Code.{name_license, IsLicenseRow};
 ghost use Rattle.spdx_parser.specs.Grammar as Grammar;
@@ -105,7 +105,7 @@ pub fn marked<'c>(
 fn later_id<'c>(catalogue: &'c Catalogue, id: LicenseId<'_>) -> Option<LicenseId<'c>>
     requires row { IsLicenseRow catalogue.now (id_row id) }
     requires gnu { Flags.is_gnu (id_row id).flags ≡ true }
-    requires bare { Names.ends_or_later (id_row id).name ≡ false }
+    requires bare { Endings.ends_or_later (id_row id).name ≡ false }
     ensures { option_map id_row result ≡ Grammar.later_row catalogue.now (id_row id.entry) }
 {
     catalogue.is_well_formed();

@@ -1,8 +1,8 @@
 // The nodes of an expression.
 
 ghost use Rattle.std.specs.Prelude.{◌≡◌, IfOk, IsOk};
-ghost use Rattle.spdx_catalogue.specs.Items.{requirement_of};
-ghost use Rattle.spdx_catalogue.specs.References.{HasNoReference};
+ghost use Rattle.spdx_requirement.specs.Items.{requirement_of};
+ghost use Rattle.spdx_requirement.specs.References.{HasNoReference};
 ghost use Rattle.spdx_parser.specs.Tree.{node_of};
 ghost use Rattle.spdx_parser.specs.Nodes.{NodeHasNoReference};
 ghost use Rattle.spdx_parser.specs.Spans.{node_span};

@@ -1,8 +1,8 @@
 // The parser of a text.
 
 ghost use Rattle.std.specs.Prelude.{◌≡◌, List, All, map, IfOk, IfErr, OnOk};
-ghost use Rattle.spdx_catalogue.specs.declared.error.Failure.TheVariants.{Refused};
-ghost use Rattle.spdx_catalogue.specs.Failures.{IfRefused};
+ghost use Rattle.spdx_requirement.specs.declared.failure.Failure.TheVariants.{Refused};
+ghost use Rattle.spdx_requirement.specs.Failures.{IfRefused};
 ghost use Rattle.spdx_lexer.specs.Layout.{IsPlace};
 ghost use Rattle.spdx_parser.specs.Meaning.{IsParsed, IsRefused};
 ghost use Rattle.spdx_parser.specs.Nodes.{placed_node};

@@ -1,8 +1,8 @@
 // What a token makes of the parser. Each step says whether the token may stand where it does.
 
 ghost use Rattle.std.specs.Prelude.{◌≡◌, ◌+◌, ◌^◌, ◌<◌, option_map, None, IfOk, OnOk};
-ghost use Rattle.spdx_catalogue.specs.Ids.{id_row};
-ghost use Rattle.spdx_catalogue.specs.Items.{addition_of};
+ghost use Rattle.spdx_requirement.specs.Ids.{id_row};
+ghost use Rattle.spdx_requirement.specs.Items.{addition_of};
 ghost use Rattle.spdx_lexer.specs.Code.{word_of, span_of};
 ghost use Rattle.spdx_parser.specs.Code.{IsLicenseRow, IsKnown, last_in, name_license};
 ghost use Rattle.spdx_parser.specs.State as states;

@@ -4,7 +4,7 @@ ghost use Rattle.std.specs.Prelude.{◌≡◌, IfOk, IfErr, Ok, Err, None, optio
 ghost use Rattle.spdx_lexer.specs.Code.{span_of};
 ghost use Rattle.spdx_lexer.specs.Layout.{IsPlace};
 ghost use Rattle.spdx_canonical.specs.Canonical.{canonical_of, answer_to};
-ghost use Rattle.spdx_catalogue.specs.Failures.{IfRefused};
+ghost use Rattle.spdx_requirement.specs.Failures.{IfRefused};
 ghost use Rattle.spdx_canonical.specs.Code.{placed_fault};
 ghost use Rattle.spdx_canonical.specs.Law.{CanonicalLaws};
 

@@ -1,7 +1,7 @@
 //! Equality of expressions.
 
 ghost use Rattle.std.specs.Prelude.{◌≡◌, ◌↔◌, IsTrue, true, map};
-ghost use Rattle.spdx_catalogue.specs.Rows.{Rows};
+ghost use Rattle.spdx_requirement.specs.Rows.{Rows};
 ghost use Rattle.spdx_parser.specs.Tree.{node_of};
 ghost use Rattle.std.specs.Cmp.Lexicographic.{pointwise};
 ghost use Rattle.spdx_parser.specs.Meaning.{IsOfRows};

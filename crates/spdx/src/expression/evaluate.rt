@@ -2,8 +2,8 @@
 
 ghost use Rattle.std.specs.Prelude.{◌≡◌, ◌≤◌, Bool, length, map, true, IfOk, IfErr, OnErr, IsOk};
 ghost use Rattle.std.specs.Fn.{CalledAt};
-ghost use Rattle.spdx_catalogue.specs.Failures.{RefusedOr, IfRefused};
-ghost use Rattle.spdx_catalogue.specs.Items.{Requirement};
+ghost use Rattle.spdx_requirement.specs.Failures.{RefusedOr, IfRefused};
+ghost use Rattle.spdx_requirement.specs.Items.{Requirement};
 ghost use Rattle.spdx_parser.specs.Tree.{leaves};
 ghost use Rattle.spdx_evaluation.specs.Requirements.{placed_of, nows};
 ghost use Rattle.spdx_evaluation.specs.Calls.{Evaluates, EvaluatesToFalse};

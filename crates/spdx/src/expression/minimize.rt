@@ -1,8 +1,8 @@
 //! The least choice of licensees that makes expressions true.
 
 ghost use Rattle.std.specs.Prelude.{◌≡◌, [], ◌∷◌, IfOk, IfErr, map};
-ghost use Rattle.spdx_catalogue.specs.Failures.{IfRefused};
-ghost use Rattle.spdx_catalogue.specs.Items.{requirement_of};
+ghost use Rattle.spdx_requirement.specs.Failures.{IfRefused};
+ghost use Rattle.spdx_requirement.specs.Items.{requirement_of};
 ghost use Rattle.spdx_minimize.specs.Choice.{useful, chosen, choice_of, IsLeastChoice};
 ghost use Rattle.spdx_minimize.specs.MinimizeFaults.{refused_choice};
 ghost use Rattle.spdx.specs.Value.{trees_of};

@@ -1,7 +1,7 @@
 //! The normal text of an expression.
 
 ghost use Rattle.std.specs.Prelude.{◌≡◌, ◌↔◌, IfOk, IsTrue, string_bytes};
-ghost use Rattle.spdx_catalogue.specs.Rows.{Rows};
+ghost use Rattle.spdx_requirement.specs.Rows.{Rows};
 ghost use Rattle.spdx_parser.specs.Tree.{Tree};
 ghost use Rattle.spdx_normal.specs.Normal.{normal_text};
 ghost use Rattle.spdx_normal.specs.Law.{IsStrict, ReadsAs, HasFewestParens};

@@ -4,7 +4,7 @@ ghost use Rattle.std.specs.Prelude.{◌≡◌, All, IfOk, IfErr};
 ghost use Rattle.spdx_lexer.specs.Code.{span_of};
 ghost use Rattle.spdx_lexer.specs.Layout.{IsPlace};
 ghost use Rattle.spdx_lexer.specs.Modes.{strict};
-ghost use Rattle.spdx_catalogue.specs.Failures.{IfRefused};
+ghost use Rattle.spdx_requirement.specs.Failures.{IfRefused};
 ghost use Rattle.spdx_parser.specs.Meaning.{IsRefused};
 ghost use Rattle.spdx_normal.specs.Law.{EachLeaf, IsStrict};
 ghost use Rattle.spdx.specs.Meaning.{IsReadFrom, ReadsBack};

@@ -1,5 +1,5 @@
 use Rattle.std.proofs.Common.{rules, ◌≡◌, IfOk, true, false, subst}
-use Rattle.spdx_catalogue.specs.Failures.{IfRefused}
+use Rattle.spdx_requirement.specs.Failures.{IfRefused}
 use Rattle.spdx_fix.proofs.Read.{parsed_reads, refused_reads}
 use Rattle.spdx_fix.proofs.accepts.Goals as goal
 use Rattle.spdx_fix.proofs.accepts.Goals.{in-Ok, in-Err-Refused, in-Err-Memory}

@@ -1,6 +1,6 @@
 use Rattle.std.proofs.Common.{◌≡◌, ◌∷◌, Ok, false, Option, is_some, option_map, ap, sym, subst, ◌∙◌}
-use Rattle.spdx_catalogue.specs.Rows.{LicenseRow}
-use Rattle.spdx_catalogue.specs.Ids.{id_row}
+use Rattle.spdx_requirement.specs.Rows.{LicenseRow}
+use Rattle.spdx_requirement.specs.Ids.{id_row}
 use Rattle.spdx_lexer.specs.Layout.{IsPlace, place_of}
 use Rattle.spdx_lexer.specs.Code.{word_of, span_of, item_of}
 use Rattle.spdx_lexer.specs.Remainder.{items_left}

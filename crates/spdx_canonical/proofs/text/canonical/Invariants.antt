@@ -1,5 +1,5 @@
 use Rattle.std.proofs.Common.{◌≡◌, option_map}
-use Rattle.spdx_catalogue.specs.Ids.{id_row}
+use Rattle.spdx_requirement.specs.Ids.{id_row}
 use Rattle.spdx_lexer.specs.Remainder.{items_left}
 use Rattle.spdx_canonical.specs.Canonical.{canonical_of}
 use Rattle.spdx_canonical.proofs.Continued.{continued, Places}

@@ -1,7 +1,7 @@
 use Rattle.std.proofs.Common.{◌≡◌, ◌++◌, true, List, ℕ, IfErr, ap, sym, subst, ◌∙◌, rules}
 use Rattle.std.specs.Prelude.{codes}
-use Rattle.spdx_catalogue.specs.Ids.{id_row}
-use Rattle.spdx_catalogue.specs.Names.{without_only}
+use Rattle.spdx_requirement.specs.Ids.{id_row}
+use Rattle.spdx_requirement.specs.Endings.{without_only}
 use Rattle.spdx_canonical.specs.Draft.{IsOff}
 use Rattle.spdx_canonical.specs.NextText.{license_and_plus}
 use Rattle.spdx_canonical.proofs.Drafts.{err_any}

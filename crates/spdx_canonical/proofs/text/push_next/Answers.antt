@@ -1,6 +1,6 @@
 use Rattle.std.proofs.Common.{◌≡◌, Option, Some, option_map, ap, sym, subst}
-use Rattle.spdx_catalogue.specs.Rows.{LicenseRow}
-use Rattle.spdx_catalogue.specs.Ids.{id_row}
+use Rattle.spdx_requirement.specs.Rows.{LicenseRow}
+use Rattle.spdx_requirement.specs.Ids.{id_row}
 use Rattle.spdx_lexer.specs.Code.{word_of}
 use Rattle.spdx_canonical.specs.Draft.{IsOff}
 use Rattle.spdx_canonical.specs.NextText.{license_and_plus, own_text, next_text}

@@ -1,5 +1,5 @@
 use Rattle.std.proofs.Common.{◌≡◌, ◌+◌, IsTrue, length}
-use Rattle.spdx_catalogue.specs.Versions.{is_version}
+use Rattle.spdx_requirement.specs.Versions.{is_version}
 use Rattle.spdx_licensee.specs.Version.{older}
 use Rattle.spdx_licensee.proofs.version.is_older.Given as goal
 

@@ -1,5 +1,5 @@
 use Rattle.std.proofs.Common.{◌≡◌}
-use Rattle.spdx_catalogue.specs.Versions.{parts, without_version}
+use Rattle.spdx_requirement.specs.Versions.{parts, without_version}
 use Rattle.spdx_licensee.specs.Version.{same_parts}
 use Rattle.spdx_licensee.specs.Families.{family_left}
 use Rattle.spdx_licensee.proofs.version.same_family.Given as goal

@@ -2,7 +2,7 @@ use Rattle.std.proofs.Common.{◌≡◌, rules}
 use Rattle.std.proofs.lemmas.Iterator.Splits.{YieldsList-from_slice_split}
 use Rattle.std.proofs.lemmas.Iterator.Search.{find_from_yields_List}
 use Rattle.std.specs.Option.{option_copied}
-use Rattle.spdx_catalogue.specs.Versions as spec
+use Rattle.spdx_requirement.specs.Versions as spec
 use Rattle.spdx_licensee.proofs.Pieces.{version_passes}
 use Rattle.spdx_licensee.proofs.version.version.Goals as goal
 

@@ -3,7 +3,6 @@ use Rattle.line_engine.specs.Device.{devices}
 use Rattle.spdx_lines.specs.Program.{with_licensees, licensees_from, plan_of}
 use Rattle.spdx_lines.specs.Found.{found}
 use Rattle.spdx_lines.specs.Ending.{Ends, ending_of}
-use Rattle.spdx_lines.proofs.Catalogue.{the_catalogue}
 use Rattle.spdx_lines.proofs.Ends.{still_moved, memory_wanted, plan_is, words_behind}
 use Rattle.spdx_lines.proofs.program.run_by.Goals as goal
 
@@ -11,15 +10,14 @@ pub returns-in-Ok : goal.returns-in-Ok
 returns-in-Ok g c =
     let rows = c.in-Ok.catalogue in
     let task = c.in-Some-task_of.task in
-    let read = (the_catalogue c.in-Some-catalogue.bytes.now).only_rows rows c.in-Ok.ensures.ok in
+    let read = c.in-Ok.ensures.ok in
     let plan = plan_is c.args.words c.args.catalogue c.in-Some.words task c.in-Some-catalogue.bytes (Ok rows) c.in-Some.is (sym c.task_of.ensures ∙ c.in-Some-task_of.is) c.in-Some-catalogue.is read in
     let d = devices (g.I.Source.told c.args.input.now) (g.I.Source.told c.run_with.new.input) (g.O.Sink.told c.args.output.now) (g.O.Sink.told c.run_with.new.output) in
     subst (λ p. Ends p d (ending_of c.run_with.result)) (sym (plan ∙ ap (λ texts. with_licensees found rows task (licensees_from found rows 1 texts)) (words_behind c.in-Some.words.now))) c.run_with.ensures
 
 pub returns-in-Err-Refused : goal.returns-in-Err-Refused
 returns-in-Err-Refused g c =
-    let h = rw c.in-Err-Refused.field-0-is at c.in-Err-Refused.ensures.err in
-    let read = (the_catalogue c.in-Some-catalogue.bytes.now).only_fault c.in-Err-Refused.fault h in
+    let read = rw c.in-Err-Refused.field-0-is at c.in-Err-Refused.ensures.err in
     rw c.in-Err-Refused.field-0-is
     (plan_is c.args.words c.args.catalogue c.in-Some.words c.in-Some-task_of.task c.in-Some-catalogue.bytes (Err c.in-Err-Refused.fault) c.in-Some.is (sym c.task_of.ensures ∙ c.in-Some-task_of.is) c.in-Some-catalogue.is read, still_moved (g.I.Source.told c.args.input.now) (g.O.Sink.told c.args.output.now))
 

@@ -3,7 +3,6 @@ use Rattle.line_engine.specs.declared.lines.RunFault.TheVariants.{Memory}
 use Rattle.spdx_lines.specs.Program.{IsTheMeaning, plan_of}
 use Rattle.spdx_lines.specs.Ending.{Done, Broken, stopped}
 use Rattle.spdx_lines.specs.Found.{found}
-use Rattle.spdx_lines.proofs.Catalogue.{the_catalogue}
 use Rattle.spdx_lines.proofs.Licensee.{the_licensee}
 use Rattle.spdx_lines.proofs.Verdict.{the_verdict}
 use Rattle.spdx_lines.proofs.Ends.{appends_nothing, breaks_off, unless_failed}

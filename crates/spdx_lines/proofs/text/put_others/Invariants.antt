@@ -1,7 +1,7 @@
 use Rattle.std.proofs.Common.{◌≡◌, ◌++◌, take, map, codes}
 use Rattle.std.specs.List.{flat_map}
-use Rattle.spdx_catalogue.specs.Items.{requirement_of}
-use Rattle.spdx_catalogue.specs.Texts.{requirement_text}
+use Rattle.spdx_requirement.specs.Items.{requirement_of}
+use Rattle.spdx_requirement.specs.Texts.{requirement_text}
 use Rattle.spdx_lines.proofs.text.put_others.Given as goal
 
 abbrev pub invariant-loop-requirement : goal.invariant-loop-requirement

@@ -1,8 +1,8 @@
 use Rattle.std.proofs.Common.{rules, arith, refl, ◌≡◌, ◌∙◌, sym, ap, ℕ, zero, suc, ◌+◌, ◌<◌, Bool, true, false, cond, List, [], ◌∷◌, ◌++◌, length, drop, map, get_or}
 use Rattle.std.proofs.lemmas.List.{append-nil, length-map, map-append}
 use denote.Ref.{Bor}
-use Rattle.spdx_catalogue.specs.declared.requirement.LicenseReq.{LicenseReq}
-use Rattle.spdx_catalogue.specs.Items.{Requirement, requirement_of}
+use Rattle.spdx_requirement.specs.declared.requirement.LicenseReq.{LicenseReq}
+use Rattle.spdx_requirement.specs.Items.{Requirement, requirement_of}
 use Rattle.spdx_minimize.specs.Choice.{chosen_of}
 use Rattle.spdx_evaluation.specs.Requirements.{nows}
 use Rattle.spdx_minimize.proofs.Chosen.{chosen_more}

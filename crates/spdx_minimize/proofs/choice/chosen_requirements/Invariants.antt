@@ -1,5 +1,5 @@
 use Rattle.std.proofs.Common.{◌≡◌, ◌++◌, drop, map}
-use Rattle.spdx_catalogue.specs.Items.{requirement_of}
+use Rattle.spdx_requirement.specs.Items.{requirement_of}
 use Rattle.spdx_minimize.specs.Choice.{chosen_of}
 use Rattle.spdx_evaluation.specs.Requirements.{nows}
 use Rattle.spdx_minimize.proofs.choice.chosen_requirements.Given as goal

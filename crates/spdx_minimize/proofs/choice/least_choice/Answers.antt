@@ -1,6 +1,6 @@
 use Rattle.std.proofs.Common.{rules, arith, ◌≡◌, ◌≤◌, ◌∙◌, sym, ap, List, length}
 use Rattle.std.proofs.lemmas.List.{length-map}
-use Rattle.spdx_catalogue.specs.Items.{Requirement}
+use Rattle.spdx_requirement.specs.Items.{Requirement}
 use Rattle.least_selection.specs.Selection.{IsLeast, NeedsEach, NoneSuffices}
 use Rattle.spdx_minimize.specs.Choice.{useful, chosen, chosen_of}
 use Rattle.spdx_minimize.specs.Trees.{trees_in}

@@ -1,5 +1,5 @@
 use Rattle.std.proofs.Common.{◌≡◌, ◌++◌, drop}
-use Rattle.spdx_catalogue.specs.Items.{requirement_of}
+use Rattle.spdx_requirement.specs.Items.{requirement_of}
 use Rattle.spdx_licensee.specs.Satisfies.{satisfies}
 use Rattle.spdx_minimize.specs.Places.{places_from, places}
 use Rattle.spdx_evaluation.specs.Requirements.{nows}

@@ -1,7 +1,7 @@
 use Rattle.std.proofs.Common.{rules, ◌∙◌, sym, ap, List}
 use Rattle.std.specs.List.{list_any}
 use Rattle.std.proofs.lemmas.List.{drop_all}
-use Rattle.spdx_catalogue.specs.Items.{requirement_of}
+use Rattle.spdx_requirement.specs.Items.{requirement_of}
 use Rattle.spdx_licensee.specs.Satisfies.{satisfies}
 use Rattle.spdx_parser.specs.declared.node.ExprNode.{ExprNode}
 use Rattle.spdx_evaluation.specs.Postfix.{tree_in}

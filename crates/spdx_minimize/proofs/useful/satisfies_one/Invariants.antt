@@ -1,6 +1,6 @@
 use Rattle.std.proofs.Common.{◌≡◌, drop}
 use Rattle.std.specs.List.{list_any}
-use Rattle.spdx_catalogue.specs.Items.{requirement_of}
+use Rattle.spdx_requirement.specs.Items.{requirement_of}
 use Rattle.spdx_licensee.specs.Satisfies.{satisfies}
 use Rattle.spdx_evaluation.specs.Requirements.{requirements_in}
 use Rattle.spdx_minimize.proofs.useful.satisfies_one.Given as goal

@@ -4,10 +4,10 @@ use Rattle.std.specs.List.{filter, list_any}
 use Rattle.std.specs.Ordering.{is_eq}
 use Rattle.std.proofs.lemmas.List.{append-nil, drop_more, take_more, map-append}
 use Rattle.std.proofs.lemmas.List.Folds.{list_any-append}
-use Rattle.spdx_catalogue.specs.declared.requirement.LicenseReq.{LicenseReq}
-use Rattle.spdx_catalogue.specs.Items.{Requirement, requirement_of}
-use Rattle.spdx_catalogue.specs.contracts.requirement.LicenseReqOrd.TheImpl as req_ord
-use Rattle.spdx_licensee.specs.Equality.{same_requirement}
+use Rattle.spdx_requirement.specs.declared.requirement.LicenseReq.{LicenseReq}
+use Rattle.spdx_requirement.specs.Items.{Requirement, requirement_of}
+use Rattle.spdx_requirement.specs.contracts.requirement.LicenseReqOrd.TheImpl as req_ord
+use Rattle.spdx_requirement.specs.Equality.{same_requirement}
 use Rattle.spdx_minimize.specs.Choice.{first_ones, satisfies_some}
 use Rattle.spdx_minimize.specs.Trees.{trees_in}
 use Rattle.spdx_evaluation.specs.Requirements.{nows}

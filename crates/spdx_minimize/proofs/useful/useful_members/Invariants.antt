@@ -2,10 +2,10 @@ use Rattle.std.proofs.Common.{◌≡◌, ◌++◌, take, drop}
 use denote.Ref.{Bor}
 use Rattle.std.specs.List.{filter, list_any}
 use Rattle.std.specs.BTreeSet as tree
-use Rattle.spdx_catalogue.specs.declared.requirement.LicenseReq.{LicenseReq}
-use Rattle.spdx_catalogue.specs.Items.{requirement_of}
-use Rattle.spdx_catalogue.specs.contracts.requirement.LicenseReqOrd.TheImpl as req_ord
-use Rattle.spdx_licensee.specs.Equality.{same_requirement}
+use Rattle.spdx_requirement.specs.declared.requirement.LicenseReq.{LicenseReq}
+use Rattle.spdx_requirement.specs.Items.{requirement_of}
+use Rattle.spdx_requirement.specs.contracts.requirement.LicenseReqOrd.TheImpl as req_ord
+use Rattle.spdx_requirement.specs.Equality.{same_requirement}
 use Rattle.spdx_minimize.specs.Choice.{first_ones, satisfies_some, useful}
 use Rattle.spdx_minimize.specs.Trees.{trees_in}
 use Rattle.spdx_evaluation.specs.Requirements.{nows}

@@ -1,6 +1,6 @@
 use Rattle.std.proofs.Common.{◌∙◌, ap, string_bytes, refl}
-use Rattle.spdx_catalogue.specs.Ids.{id_row}
-use Rattle.spdx_catalogue.specs.Names.{without_only}
+use Rattle.spdx_requirement.specs.Ids.{id_row}
+use Rattle.spdx_requirement.specs.Endings.{without_only}
 use Rattle.spdx_parser.proofs.Later.{strips, later_is}
 use Rattle.spdx_parser.proofs.name.later_id.Goals as goal
 
