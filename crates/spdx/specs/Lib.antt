@@ -8,24 +8,26 @@ pub mod Meaning
 pub mod JudgeModel
 -- What contracts of this crate's calls cite of the crates below, so that callers name this crate alone. Where two
 -- modules have one name, the crate's word stands before it.
+pub use Rattle.spdx_requirement.specs.Endings
+pub use Rattle.spdx_requirement.specs.Equality as RequirementEquality
 pub use Rattle.spdx_requirement.specs.Failures
-pub use Rattle.spdx_catalogue.specs.Faults as CatalogueFaults
 pub use Rattle.spdx_requirement.specs.Flags
 pub use Rattle.spdx_requirement.specs.Ids
 pub use Rattle.spdx_requirement.specs.Items
 pub use Rattle.spdx_requirement.specs.Keys
+pub use Rattle.spdx_requirement.specs.Orders
+pub use Rattle.spdx_requirement.specs.References
+pub use Rattle.spdx_requirement.specs.Rows
+pub use Rattle.spdx_requirement.specs.Texts
+pub use Rattle.spdx_requirement.specs.Versions
+pub use Rattle.spdx_tables.specs.Fields
+pub use Rattle.spdx_tables.specs.Shape
+pub use Rattle.spdx_tables.specs.TableReading
+pub use Rattle.spdx_catalogue.specs.Faults as CatalogueFaults
 pub use Rattle.spdx_catalogue.specs.LookUps
 pub use Rattle.spdx_catalogue.specs.NameOrders
 pub use Rattle.spdx_catalogue.specs.Names
-pub use Rattle.spdx_requirement.specs.Endings
-pub use Rattle.spdx_requirement.specs.Orders
 pub use Rattle.spdx_catalogue.specs.Reading as CatalogueReading
-pub use Rattle.spdx_tables.specs.TableReading
-pub use Rattle.spdx_requirement.specs.References
-pub use Rattle.spdx_requirement.specs.Rows
-pub use Rattle.spdx_tables.specs.Shape
-pub use Rattle.spdx_requirement.specs.Texts
-pub use Rattle.spdx_requirement.specs.Versions
 pub use Rattle.spdx_catalogue.specs.RowRules
 pub use Rattle.least_selection.specs.Selection
 pub use Rattle.spdx_lexer.specs.Code as LexerCode
@@ -37,7 +39,6 @@ pub use Rattle.spdx_lexer.specs.Modes
 pub use Rattle.spdx_lexer.specs.Reading
 pub use Rattle.spdx_lexer.specs.Text
 pub use Rattle.spdx_lexer.specs.Words
-pub use Rattle.spdx_requirement.specs.Equality as RequirementEquality
 pub use Rattle.spdx_licensee.specs.Answers
 pub use Rattle.spdx_licensee.specs.LicenseeText
 pub use Rattle.spdx_licensee.specs.Satisfies

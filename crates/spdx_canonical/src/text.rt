@@ -14,9 +14,9 @@ ghost use Rattle.spdx_requirement.specs.Failures.{IfRefused};
 ghost use Rattle.spdx_canonical.specs.Code.{placed_fault};
 
 use crate::draft::Draft;
-use spdx_requirement::endings::has_suffix;
 use spdx_catalogue::{Catalogue, LicenseId};
 use spdx_lexer::{Failure, Lexer, LexerToken, ParseError, ParseMode, Reason, Token};
+use spdx_requirement::endings::has_suffix;
 use std::alloc::{AllocError, Global};
 
 // The name, a final `-only` taken off.

@@ -6,14 +6,14 @@ use Rattle.std.specs.Ordering.{nat_cmp, is_lt}
 use Rattle.std.specs.declared.cmp.Ordering.{Ordering}
 use Rattle.std.specs.declared.cmp.Ordering.TheVariants.{Less, Equal, Greater}
 use Rattle.std.specs.Cmp.Lexicographic.{slice_cmp}
-use Rattle.spdx_catalogue.specs.Rows.{Rows, LicenseRow, ExceptionRow, ImpreciseRow, license_name, exception_name}
+use Rattle.spdx_requirement.specs.Rows.{Rows, LicenseRow, ExceptionRow, ImpreciseRow, license_name, exception_name}
 use Rattle.spdx_catalogue.specs.declared.error.CatalogueError.{CatalogueError}
 use Rattle.spdx_catalogue.specs.Names.{is_above, is_name, is_operator, has_two_suffixes}
 use Rattle.spdx_catalogue.specs.declared.error.List as kind
 use Rattle.spdx_catalogue.specs.declared.error.List.TheVariants.{Licenses, Exceptions}
 use Rattle.spdx_catalogue.specs.declared.error.CatalogueError.TheVariants.{BadName, OperatorName, NotAscending, BadIndex, TwoSuffixes, EmptyPrefix, UnlistedTarget}
-use Rattle.spdx_catalogue.specs.Flags.{is_gnu}
-use Rattle.spdx_catalogue.specs.RowRules.{RowRule, first_broken, all_below, before, name_rules, license_row_rules, exception_row_rules, imprecise_row_rules, license_rules, exception_rules, imprecise_rules, is_listed, first_fault, is_well_formed}
+use Rattle.spdx_requirement.specs.Flags.{is_gnu}
+use Rattle.spdx_catalogue.specs.RowRules.{RowRule, first_broken, all_below, before, name_rules, license_row_rules, exception_row_rules, imprecise_row_rules, rules_at, license_rules, exception_rules, imprecise_rules, is_listed, first_fault, is_well_formed}
 use Rattle.spdx_catalogue.proofs.First.{none_front, none_back, below_each}
 use Rattle.spdx_catalogue.specs.Ascent.{Ascends}
 use Rattle.spdx_catalogue.proofs.Sorted.{get_is}
@@ -56,36 +56,50 @@ keeps_name list name previous index row h =
     let d = later (not (index == row), BadIndex list row) [] c.1 in
     record { named = not_false (is_name name) a.0; no_operator = b.0; above = not_false (is_above previous name) c.0; placed = not_false (index == row) d.0 }
 
+-- a list whose rows keep rules that say of each what the rules of a name say
+module _ {A : Type 0} (key : A → List ℕ) (index : A → ℕ) (rules : Option (List ℕ) → ℕ → A → List RowRule)
+    (by_name : (previous : Option (List ℕ)) (i : ℕ) (r : A) → first_broken (rules previous i r) ≡ None → KeepsNameRules previous (key r) (index r) i)
+    (l : List A) (keep : first_broken (all_below (rules_at key rules l) (length l)) ≡ None) where
+  rules_kept : (i : ℕ) (r : A) → i < length l → slice_get l i ≡ Some r → first_broken (rules (option_map key (before l i)) i r) ≡ None
+  rules_kept i r lt at = subst (λ o. first_broken (option_map_or (rules (option_map key (before l i)) i) o []) ≡ None) at (below_each (rules_at key rules l) (length l) i lt keep)
+
+  name_kept : (i : ℕ) (r : A) → i < length l → slice_get l i ≡ Some r → KeepsNameRules (option_map key (before l i)) (key r) (index r) i
+  name_kept i r lt at = by_name (option_map key (before l i)) i r (rules_kept i r lt at)
+
+  ascends : Ascends key l
+  unfolding Ascends
+  ascends i d lt =
+      let a : A = get_or l i d in
+      let b : A = get_or l (suc i) d in
+      let above : is_above (option_map key (slice_get l i)) (key b) ≡ true = (name_kept (suc i) b lt (get_is l (suc i) d lt)).above in
+      less (slice_cmp nat_cmp (key a) (key b)) (subst (λ o. is_above (option_map key o) (key b) ≡ true) (get_is l i d (omega arith)) above)
+
+abbrev license_ending : ℕ → LicenseRow → List RowRule
+license_ending i r = (is_gnu r.flags && has_two_suffixes r.name, TwoSuffixes i) ∷ []
+
+license_by_name : (previous : Option (List ℕ)) (i : ℕ) (r : LicenseRow) → first_broken (license_row_rules previous i r) ≡ None → KeepsNameRules previous r.name r.index i
+license_by_name previous i r h = keeps_name Licenses r.name previous r.index i (none_front (name_rules Licenses r.name previous r.index i) (license_ending i r) h)
+
+exception_by_name : (previous : Option (List ℕ)) (i : ℕ) (r : ExceptionRow) → first_broken (exception_row_rules previous i r) ≡ None → KeepsNameRules previous r.name r.index i
+exception_by_name previous i r h = keeps_name Exceptions r.name previous r.index i h
+
 module _ (l : List LicenseRow) (keep : first_broken (all_below (license_rules l) (length l)) ≡ None) where
   pub license_kept : (i : ℕ) (r : LicenseRow) → i < length l → slice_get l i ≡ Some r → KeepsNameRules (option_map license_name (before l i)) r.name r.index i × ((is_gnu r.flags && has_two_suffixes r.name) ≡ false)
   license_kept i r lt at =
       let previous : Option (List ℕ) = option_map license_name (before l i) in
-      let names : List RowRule = name_rules Licenses r.name previous r.index i in
-      let ending : List RowRule = (is_gnu r.flags && has_two_suffixes r.name, TwoSuffixes i) ∷ [] in
-      let here : first_broken (names ++ ending) ≡ None = subst (λ o. first_broken (option_map_or (license_row_rules previous i) o []) ≡ None) at (below_each (license_rules l) (length l) i lt keep) in
-      (keeps_name Licenses r.name previous r.index i (none_front names ending here), (later (is_gnu r.flags && has_two_suffixes r.name, TwoSuffixes i) [] (none_back names ending here)).0)
+      let here = rules_kept license_name (λ (x : LicenseRow). x.index) license_row_rules license_by_name l keep i r lt at in
+      let ending = none_back (name_rules Licenses r.name previous r.index i) (license_ending i r) here in
+      (license_by_name previous i r here, (later (is_gnu r.flags && has_two_suffixes r.name, TwoSuffixes i) [] ending).0)
 
   pub licenses_ascend : Ascends license_name l
-  unfolding Ascends
-  licenses_ascend i d lt =
-      let a : LicenseRow = get_or l i d in
-      let b : LicenseRow = get_or l (suc i) d in
-      let above : is_above (option_map license_name (slice_get l i)) b.name ≡ true = (license_kept (suc i) b lt (get_is l (suc i) d lt)).0.above in
-      less (slice_cmp nat_cmp a.name b.name) (subst (λ o. is_above (option_map license_name o) b.name ≡ true) (get_is l i d (omega arith)) above)
+  licenses_ascend = ascends license_name (λ (x : LicenseRow). x.index) license_row_rules license_by_name l keep
 
 module _ (l : List ExceptionRow) (keep : first_broken (all_below (exception_rules l) (length l)) ≡ None) where
   pub exception_kept : (i : ℕ) (r : ExceptionRow) → i < length l → slice_get l i ≡ Some r → KeepsNameRules (option_map exception_name (before l i)) r.name r.index i
-  exception_kept i r lt at =
-      let previous : Option (List ℕ) = option_map exception_name (before l i) in
-      keeps_name Exceptions r.name previous r.index i (subst (λ o. first_broken (option_map_or (exception_row_rules previous i) o []) ≡ None) at (below_each (exception_rules l) (length l) i lt keep))
+  exception_kept = name_kept exception_name (λ (x : ExceptionRow). x.index) exception_row_rules exception_by_name l keep
 
   pub exceptions_ascend : Ascends exception_name l
-  unfolding Ascends
-  exceptions_ascend i d lt =
-      let a : ExceptionRow = get_or l i d in
-      let b : ExceptionRow = get_or l (suc i) d in
-      let above : is_above (option_map exception_name (slice_get l i)) b.name ≡ true = (exception_kept (suc i) b lt (get_is l (suc i) d lt)).above in
-      less (slice_cmp nat_cmp a.name b.name) (subst (λ o. is_above (option_map exception_name o) b.name ≡ true) (get_is l i d (omega arith)) above)
+  exceptions_ascend = ascends exception_name (λ (x : ExceptionRow). x.index) exception_row_rules exception_by_name l keep
 
 module _ (l : List LicenseRow) (ms : List ImpreciseRow) (keep : first_broken (all_below (imprecise_rules l ms) (length ms)) ≡ None) where
   pub imprecise_row_kept : (i : ℕ) (r : ImpreciseRow) → i < length ms → slice_get ms i ≡ Some r → ((length r.prefix == 0) ≡ false) × (is_listed l r.name ≡ true)

@@ -10,10 +10,11 @@ use Rattle.std.proofs.lemmas.Slice.Eq.{bytes_eq-Decides}
 use Rattle.std.proofs.lemmas.Map.Text.{is_eq-slice_cmp}
 use Rattle.std.proofs.lemmas.Bool.{eqb-true}
 use Rattle.std.proofs.lemmas.Option.{slice_get_within, get_or_from_slice_get}
-use Rattle.spdx_catalogue.specs.Names.{is_name, is_operator, has_two_suffixes, has_suffix, without_plus, ending, begins_caseless}
-use Rattle.spdx_catalogue.specs.Flags.{is_gnu}
-use Rattle.spdx_catalogue.specs.Rows.{Rows, LicenseRow, ExceptionRow, ImpreciseRow, license_name, exception_name, imprecise_of}
-use Rattle.spdx_catalogue.specs.declared.row.ImpreciseName.{ImpreciseName}
+use Rattle.spdx_catalogue.specs.Names.{is_name, is_operator, has_two_suffixes, without_plus, begins_caseless}
+use Rattle.spdx_requirement.specs.Endings.{has_suffix, ending}
+use Rattle.spdx_requirement.specs.Flags.{is_gnu}
+use Rattle.spdx_requirement.specs.Rows.{Rows, LicenseRow, ExceptionRow, ImpreciseRow, license_name, exception_name, imprecise_of}
+use Rattle.spdx_requirement.specs.declared.row.ImpreciseName.{ImpreciseName}
 use Rattle.std.specs.Option.{option_copied}
 use Rattle.spdx_catalogue.specs.LookUps.{listed, listed_exception, listed_caseless, listed_exception_caseless, imprecise_row, imprecise_license, gnu_listed}
 use Rattle.spdx_catalogue.specs.RowRules.{is_well_formed}

@@ -1,7 +1,7 @@
 -- What a catalogue shows, and what always holds of it.
 use Rattle.std.specs.Prelude.{map, string_bytes, IsTrue}
 use Rattle.spdx_catalogue.specs.declared.catalogue.Catalogue.TheInside.{Inside}
-use Rattle.spdx_catalogue.specs.Rows.{Rows, row_of, exception_of, imprecise_of}
+use Rattle.spdx_requirement.specs.Rows.{Rows, row_of, exception_of, imprecise_of}
 use Rattle.spdx_catalogue.specs.RowRules.{is_well_formed}
 
 -- a catalogue shows its rows as bytes and numbers

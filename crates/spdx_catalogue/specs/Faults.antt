@@ -5,10 +5,9 @@ use Rattle.spdx_catalogue.specs.declared.error.List as kind
 use Rattle.spdx_catalogue.specs.declared.error.List.TheVariants.{Licenses, Exceptions}
 use Rattle.spdx_catalogue.specs.declared.error.CatalogueError.{CatalogueError}
 use Rattle.spdx_catalogue.specs.declared.error.CatalogueError.TheVariants.{BadName, OperatorName, NotAscending, BadIndex, TwoSuffixes, EmptyPrefix, UnlistedTarget}
-use Rattle.spdx_catalogue.specs.declared.error.Field.{Field}
-use Rattle.spdx_catalogue.specs.declared.error.Field.TheVariants as key
 use Rattle.spdx_catalogue.specs.declared.error.ReadFault.{ReadFault}
 use Rattle.spdx_catalogue.specs.declared.error.ReadFault.TheVariants as read
+use Rattle.spdx_tables.specs.Fields.{field_text}
 
 abbrev pub list_text : kind.List → List ℕ
 list_text Licenses = codes "licenses"
@@ -26,13 +25,6 @@ catalogue_fault_text (BadIndex l row) = row_text (list_text l) row (codes "index
 catalogue_fault_text (TwoSuffixes row) = row_text (codes "licenses") row (codes "two GNU suffixes")
 catalogue_fault_text (EmptyPrefix row) = row_text (codes "imprecise") row (codes "empty prefix")
 catalogue_fault_text (UnlistedTarget row) = row_text (codes "imprecise") row (codes "target is not listed")
-
--- a field is named by its key
-abbrev pub field_text : Field → List ℕ
-field_text key.Version = codes "version"
-field_text key.Licenses = codes "licenses"
-field_text key.Exceptions = codes "exceptions"
-field_text key.Imprecise = codes "imprecise"
 
 abbrev pub read_text : ReadFault → List ℕ
 read_text read.NotJson = codes "not JSON"

@@ -3,7 +3,7 @@ use Rattle.std.specs.Prelude.{◌≡◌, true, Some, slice_get}
 use Rattle.std.specs.Ordering.{nat_cmp}
 use Rattle.std.specs.declared.cmp.Ordering.{Ordering}
 use Rattle.std.specs.Cmp.Lexicographic.{slice_cmp}
-use Rattle.spdx_catalogue.specs.Rows.{Rows, LicenseRow, ExceptionRow}
+use Rattle.spdx_requirement.specs.Rows.{Rows, LicenseRow, ExceptionRow}
 use Rattle.spdx_catalogue.specs.RowRules.{is_well_formed}
 
 -- the order of two licences of one catalogue is that of their names, by bytes

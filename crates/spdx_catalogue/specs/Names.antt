@@ -1,10 +1,11 @@
--- The bytes of a licence's name, and the two endings of GNU names.
-use Rattle.std.specs.Prelude.{ℕ, ◌-◌, Bool, true, false, not, ◌||◌, ◌&&◌, ◌==◌, List, [], ◌∷◌, length, take, Option, Some, None, if◌then◌else◌, nat_eq, codes, bytes_eq, unwrap_or}
-use Rattle.std.specs.List.{list_all, ends_with}
+-- What a licence's name may be, and the names that texts may write for it.
+use Rattle.std.specs.Prelude.{ℕ, ◌-◌, Bool, true, false, not, ◌||◌, ◌&&◌, ◌==◌, List, [], ◌∷◌, length, take, Option, Some, None, if◌then◌else◌, codes, bytes_eq}
+use Rattle.std.specs.List.{list_all}
 use Rattle.std.specs.Char.{is_ascii_alphanumeric}
 use Rattle.std.specs.Str.{str_eq_ignore_ascii_case}
 use Rattle.std.specs.Ordering.{nat_cmp, is_lt}
 use Rattle.std.specs.Cmp.Lexicographic.{slice_cmp}
+use Rattle.spdx_requirement.specs.Endings.{only, or_later, has_suffix, without}
 
 -- ASCII letters, digits, `-` and `.`
 abbrev pub is_name_byte : ℕ → Bool
@@ -26,42 +27,6 @@ is_below a b = is_lt (slice_cmp nat_cmp a b)
 abbrev pub is_above : Option (List ℕ) → List ℕ → Bool
 is_above None name = true
 is_above (Some before) name = is_below before name
-
--- the ending of a GNU licence of one version
-abbrev pub only : List ℕ
-only = codes "-only"
-
--- the ending of a GNU licence of that version and those after it
-abbrev pub or_later : List ℕ
-or_later = codes "-or-later"
-
--- the ending that says which versions are meant
-abbrev pub ending : Bool → List ℕ
-ending later = if later then or_later else only
-
--- the name ends in `-only`
-abbrev pub ends_only : List ℕ → Bool
-ends_only name = ends_with nat_eq name only
-
--- the name ends in `-or-later`
-abbrev pub ends_or_later : List ℕ → Bool
-ends_or_later name = ends_with nat_eq name or_later
-
--- the name has one of the two endings
-abbrev pub has_suffix : List ℕ → Bool
-has_suffix name = ends_only name || ends_or_later name
-
--- what stands before an ending
-abbrev pub without : List ℕ → List ℕ → Option (List ℕ)
-without ending name = if ends_with nat_eq name ending then Some (take (length name - length ending) name) else None
-
--- the name, a final `-only` taken off
-abbrev pub without_only : List ℕ → List ℕ
-without_only name = unwrap_or (without only name) name
-
--- the name, the one ending taken off that it may have
-abbrev pub without_suffix : List ℕ → List ℕ
-without_suffix name = unwrap_or (without only name) (unwrap_or (without or_later name) name)
 
 -- what is left has one of them, if anything is left
 abbrev pub still_has_suffix : Option (List ℕ) → Bool

@@ -1,9 +1,9 @@
 -- Which rows a catalogue may have: a table of the rules in their order, and the first that is broken.
 use Rattle.std.specs.Prelude.{ℕ, zero, suc, Bool, not, ◌&&◌, ◌==◌, List, [], ◌∷◌, ◌++◌, length, Option, Some, None, is_none, is_some, option_map, if◌then◌else◌, slice_get}
 use Rattle.std.specs.Option.{option_map_or}
-use Rattle.spdx_catalogue.specs.Rows.{Rows, LicenseRow, ExceptionRow, ImpreciseRow, license_name, exception_name}
+use Rattle.spdx_requirement.specs.Rows.{Rows, LicenseRow, ExceptionRow, ImpreciseRow, license_name, exception_name}
 use Rattle.spdx_catalogue.specs.LookUps.{listed}
-use Rattle.spdx_catalogue.specs.Flags.{is_gnu}
+use Rattle.spdx_requirement.specs.Flags.{is_gnu}
 use Rattle.spdx_catalogue.specs.declared.error.List as kind
 use Rattle.spdx_catalogue.specs.declared.error.List.TheVariants.{Licenses, Exceptions}
 use Rattle.spdx_catalogue.specs.declared.error.CatalogueError.{CatalogueError}
@@ -45,13 +45,17 @@ license_row_rules previous row r = name_rules Licenses (license_name r) previous
 abbrev pub exception_row_rules : Option (List ℕ) → ℕ → ExceptionRow → List RowRule
 exception_row_rules previous row r = name_rules Exceptions (exception_name r) previous r.index row
 
+-- those of the row at that place
+abbrev pub rules_at : {A : Type 0} → (A → List ℕ) → (Option (List ℕ) → ℕ → A → List RowRule) → List A → ℕ → List RowRule
+rules_at name rules rows row = option_map_or (rules (option_map name (before rows row)) row) (slice_get rows row) []
+
 -- those of the licence of that row
 abbrev pub license_rules : List LicenseRow → ℕ → List RowRule
-license_rules rows row = option_map_or (license_row_rules (option_map license_name (before rows row)) row) (slice_get rows row) []
+license_rules rows row = rules_at license_name license_row_rules rows row
 
 -- those of the exception of that row
 abbrev pub exception_rules : List ExceptionRow → ℕ → List RowRule
-exception_rules rows row = option_map_or (exception_row_rules (option_map exception_name (before rows row)) row) (slice_get rows row) []
+exception_rules rows row = rules_at exception_name exception_row_rules rows row
 
 -- some licence has that name
 abbrev pub is_listed : List LicenseRow → List ℕ → Bool

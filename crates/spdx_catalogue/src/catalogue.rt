@@ -1,13 +1,19 @@
 // A checked catalogue.
 
-ghost use Rattle.std.specs.Prelude.{◌≡◌, IsTrue, IfOk, string_bytes, map};
+ghost use Rattle.std.specs.Prelude.{◌≡◌, Ok, Err, IsTrue, IfOk, IfErr, string_bytes, map};
 ghost use Rattle.std.specs.Result.{result_err};
-ghost use Rattle.spdx_catalogue.specs.Rows.{row_of, exception_of, imprecise_of, HasTextPrefixes};
+ghost use Rattle.spdx_requirement.specs.Rows.{row_of, exception_of, imprecise_of, HasTextPrefixes};
 ghost use Rattle.spdx_catalogue.specs.RowRules.{first_fault, is_well_formed};
+ghost use Rattle.spdx_catalogue.specs.Reading as reading;
+ghost use Rattle.spdx_catalogue.specs.Reading.{catalogue_in};
+ghost use Rattle.spdx_requirement.specs.Failures.{IfRefused};
 
 use crate::checks::first_fault;
-use crate::error::CatalogueError;
-use crate::row::{Exception, ImpreciseName, License};
+use crate::error::{CatalogueError, ReadFault};
+use spdx_requirement::failure::Failure;
+use spdx_requirement::row::{Exception, ImpreciseName, License};
+use spdx_tables::{TableFault, Tables};
+use std::alloc::Global;
 use std::marker::Model;
 
 /// Licences, exceptions and imprecise names that break no rule of `CatalogueError`.
@@ -22,7 +28,7 @@ pub struct Catalogue {
 }
 
 impl Model for Catalogue {
-    ghost use Rattle.spdx_catalogue.specs.Rows.{Rows};
+    ghost use Rattle.spdx_requirement.specs.Rows.{Rows};
 
     ghost Value = { Rows };
 
@@ -61,6 +67,35 @@ impl Catalogue {
         }
     }
 
+    /// Reads a catalogue from JSON: an object with the keys `version` (a string), `licenses`
+    /// (objects with the strings `name` and `full_name`, and `flags`, a whole number to 255),
+    /// `exceptions` (objects with `name` and `flags`) and `imprecise` (objects with the strings
+    /// `prefix` and `name`). Other keys are ignored; of a key that stands twice the last value
+    /// counts; a row's index is its position.
+    ///
+    /// # Errors
+    ///
+    /// The first `ReadFault` that applies, or that memory was refused.
+    pub fn from_json(alloc: Global, bytes: &[u8]) -> Result<Catalogue, Failure<ReadFault>>
+        ensures ok { IfOk result (λ c. catalogue_in bytes.now ≡ Ok c) }
+        ensures err { IfErr result (IfRefused (λ f. catalogue_in bytes.now ≡ Err f)) }
+    {
+        let tables = match Tables::from_json(alloc, bytes) {
+            Ok(tables) => tables,
+            Err(Failure::Refused(fault)) => return Err(Failure::Refused(read_fault(fault))),
+            Err(Failure::Memory(error)) => return Err(Failure::Memory(error)),
+        };
+        match Catalogue::new(
+            tables.version,
+            tables.licenses,
+            tables.exceptions,
+            tables.imprecise,
+        ) {
+            Ok(catalogue) => Ok(catalogue),
+            Err(fault) => Err(Failure::Refused(ReadFault::Catalogue(fault))),
+        }
+    }
+
     /// The version of the licence list that the catalogue was made of.
     pub fn license_version(&self) -> &str
         ensures { result.now ≡ self.now.version }
@@ -80,5 +115,16 @@ impl Catalogue {
         ensures { HasTextPrefixes self.now }
     {
         let _ = &self.imprecise;
+    }
+}
+
+// Bytes that hold no tables hold no catalogue.
+fn read_fault(fault: TableFault) -> ReadFault
+    ensures { result ≡ reading.read_fault fault }
+{
+    match fault {
+        TableFault::NotJson => ReadFault::NotJson,
+        TableFault::Float => ReadFault::Float,
+        TableFault::Shape(field) => ReadFault::Shape(field),
     }
 }

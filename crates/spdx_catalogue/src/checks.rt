@@ -3,136 +3,38 @@
 ghost use Rattle.std.specs.Prelude.{◌≡◌, ◌+◌, ◌<◌, ◌≤◌, option_map, length, map, slice_get};
 ghost use Rattle.spdx_catalogue.specs.Ascent.{Ascends};
 ghost use Rattle.std.specs.Option.{option_copied};
-ghost use Rattle.spdx_catalogue.specs.Rows.{row_of, exception_of, imprecise_of, license_name};
-ghost use Rattle.spdx_catalogue.specs.RowRules.{first_broken, name_rules, license_row_rules, exception_row_rules, imprecise_row_rules, license_rules, exception_rules, imprecise_rules, all_below, is_listed, before, first_fault};
+ghost use Rattle.spdx_requirement.specs.Rows.{row_of, exception_of, imprecise_of, license_name};
+ghost use Rattle.spdx_catalogue.specs.RowRules.{first_broken, imprecise_row_rules, rules_at, imprecise_rules, all_below, is_listed, before, first_fault};
 
-use crate::error::{CatalogueError, List};
-use crate::flags::IS_GNU;
-use crate::halving::{exception_at, license_at, license_named};
-use crate::names::{has_two_suffixes, is_above, is_name, is_operator};
-use crate::row::{Exception, ImpreciseName, License};
+use crate::error::CatalogueError;
+use crate::halving::{named, row_at};
+use crate::row::Row;
+use spdx_requirement::row::{Exception, ImpreciseName, License};
 
-fn name_fault(
-    list: List,
-    name: &str,
-    previous: Option<&str>,
-    index: usize,
-    row: usize,
-) -> Option<CatalogueError>
-    ensures { result ≡ first_broken
-        (name_rules list name.now (option_copied previous.entry) index row) }
-{
-    if !is_name(name) {
-        return Some(CatalogueError::BadName(list, row));
-    }
-    if is_operator(name) {
-        return Some(CatalogueError::OperatorName(list, row));
-    }
-    if !is_above(previous, name) {
-        return Some(CatalogueError::NotAscending(list, row));
-    }
-    if index != row {
-        return Some(CatalogueError::BadIndex(list, row));
-    }
-    None
-}
-
-fn license_before(rows: &[License], row: usize) -> Option<&License>
-    ensures { option_map row_of (option_copied result) ≡ before (map row_of rows.now) row }
+fn row_before<R: Row>(rows: &[R], row: usize) -> Option<&R>
+    ensures { option_map R.shown (option_copied result) ≡ before (map R.shown rows.now) row }
 {
     if row == 0 {
         None
     } else {
-        license_at(rows, row - 1)
+        row_at(rows, row - 1)
     }
 }
 
-fn license_row_fault(
-    license: &License,
-    previous: Option<&str>,
-    row: usize,
-) -> Option<CatalogueError>
-    ensures { result ≡ first_broken
-        (license_row_rules (option_copied previous.entry) row (row_of license.now)) }
+fn row_fault<R: Row>(rows: &[R], row: usize) -> Option<CatalogueError>
+    ensures { result ≡ first_broken (rules_at R.name_of R.rules (map R.shown rows.now) row) }
 {
-    if let Some(fault) = name_fault(
-        List::Licenses,
-        license.name.as_str(),
-        previous,
-        license.index,
-        row,
-    ) {
-        return Some(fault);
-    }
-    if license.flags & IS_GNU != 0 && has_two_suffixes(license.name.as_bytes()) {
-        return Some(CatalogueError::TwoSuffixes(row));
-    }
-    None
+    let here = row_at(rows, row)?;
+    let previous = row_before(rows, row).map(|r| r.name());
+    here.fault(previous, row)
 }
 
-fn license_fault(rows: &[License], row: usize) -> Option<CatalogueError>
-    ensures { result ≡ first_broken (license_rules (map row_of rows.now) row) }
-{
-    let license = rows.get(row)?;
-    let previous = license_before(rows, row).map(|r| r.name.as_str());
-    license_row_fault(license, previous, row)
-}
-
-fn licenses_fault(rows: &[License]) -> Option<CatalogueError>
+fn rows_fault<R: Row>(rows: &[R]) -> Option<CatalogueError>
     ensures { result ≡ first_broken
-        (all_below (license_rules (map row_of rows.now)) (length rows.now)) }
+        (all_below (rules_at R.name_of R.rules (map R.shown rows.now)) (length rows.now)) }
 {
     for row in 0..rows.len() {
-        match license_fault(rows, row) {
-            Some(fault) => return Some(fault),
-            None => {}
-        }
-    }
-    None
-}
-
-fn exception_before(rows: &[Exception], row: usize) -> Option<&Exception>
-    ensures { option_map exception_of (option_copied result)
-        ≡ before (map exception_of rows.now) row }
-{
-    if row == 0 {
-        None
-    } else {
-        exception_at(rows, row - 1)
-    }
-}
-
-fn exception_row_fault(
-    exception: &Exception,
-    previous: Option<&str>,
-    row: usize,
-) -> Option<CatalogueError>
-    ensures { result ≡ first_broken
-        (exception_row_rules (option_copied previous.entry) row (exception_of exception.now)) }
-{
-    name_fault(
-        List::Exceptions,
-        exception.name.as_str(),
-        previous,
-        exception.index,
-        row,
-    )
-}
-
-fn exception_fault(rows: &[Exception], row: usize) -> Option<CatalogueError>
-    ensures { result ≡ first_broken (exception_rules (map exception_of rows.now) row) }
-{
-    let exception = rows.get(row)?;
-    let previous = exception_before(rows, row).map(|r| r.name.as_str());
-    exception_row_fault(exception, previous, row)
-}
-
-fn exceptions_fault(rows: &[Exception]) -> Option<CatalogueError>
-    ensures { result ≡ first_broken
-        (all_below (exception_rules (map exception_of rows.now)) (length rows.now)) }
-{
-    for row in 0..rows.len() {
-        match exception_fault(rows, row) {
+        match row_fault(rows, row) {
             Some(fault) => return Some(fault),
             None => {}
         }
@@ -144,7 +46,7 @@ fn is_listed(rows: &[License], name: &str) -> bool
     requires { Ascends license_name (map row_of rows.now) }
     ensures { result ≡ is_listed (map row_of rows.now) name.now }
 {
-    license_named(rows, name.as_bytes()).is_some()
+    named(rows, name.as_bytes()).is_some()
 }
 
 fn imprecise_row_fault(
@@ -202,9 +104,9 @@ pub(crate) fn first_fault(
     ensures { result
         ≡ first_fault (record { version = version.now; licenses = map row_of licenses.now; exceptions = map exception_of exceptions.now; imprecise = map imprecise_of imprecise.now }) }
 {
-    match licenses_fault(licenses) {
+    match rows_fault(licenses) {
         Some(fault) => Some(fault),
-        None => match exceptions_fault(exceptions) {
+        None => match rows_fault(exceptions) {
             Some(fault) => Some(fault),
             None => imprecises_fault(licenses, imprecise),
         },

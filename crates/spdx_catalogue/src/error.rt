@@ -1,9 +1,9 @@
 // Why a catalogue is refused.
 
 ghost use Rattle.std.specs.Prelude.{Some};
-ghost use Rattle.spdx_catalogue.specs.Faults.{list_text, catalogue_fault_text, field_text, read_text};
+ghost use Rattle.spdx_catalogue.specs.Faults.{list_text, catalogue_fault_text, read_text};
 
-use std::alloc::{AllocError, AllocFailed};
+use spdx_tables::error::Field;
 use std::fmt;
 
 /// The list that a fault speaks of.
@@ -33,15 +33,6 @@ pub enum CatalogueError {
     UnlistedTarget(usize),
 }
 
-/// A key of a catalogue's JSON.
-#[derive(Clone, Copy, Debug, PartialEq, Eq)]
-pub enum Field {
-    Version,
-    Licenses,
-    Exceptions,
-    Imprecise,
-}
-
 /// Why bytes hold no catalogue: the first of these that applies.
 #[derive(Clone, Copy, Debug, PartialEq, Eq)]
 pub enum ReadFault {
@@ -53,37 +44,6 @@ pub enum ReadFault {
     Shape(Field),
     /// The rows break a rule.
     Catalogue(CatalogueError),
-}
-
-/// Why a call that takes memory gave nothing.
-#[derive(Debug, PartialEq, Eq, Drop)]
-pub enum Failure<E> {
-    /// The call refuses what it was given.
-    Refused(E),
-    /// Memory was refused.
-    Memory(AllocError),
-}
-
-impl<E> From<AllocError> for Failure<E> {
-    ghost use Rattle.std.specs.Prelude.{◌≡◌};
-    ghost use Rattle.spdx_catalogue.specs.declared.error.Failure.TheVariants.{Memory};
-
-    ghost from_gives = { λ e f. f ≡ Memory e };
-
-    fn from(error: AllocError) -> Failure<E> {
-        Failure::Memory(error)
-    }
-}
-
-impl<T: Drop, E> From<AllocFailed<T>> for Failure<E> {
-    ghost use Rattle.std.specs.Prelude.{◌≡◌, alloc_error};
-    ghost use Rattle.spdx_catalogue.specs.declared.error.Failure.TheVariants.{Memory};
-
-    ghost from_gives = { λ _ f. f ≡ Memory alloc_error };
-
-    fn from(_failed: AllocFailed<T>) -> Failure<E> {
-        Failure::Memory(AllocError)
-    }
 }
 
 impl fmt::Display for List {
@@ -118,19 +78,6 @@ impl fmt::Display for CatalogueError {
                 f,
                 "imprecise row {row}: target is not listed"
             ),
-        }
-    }
-}
-
-impl fmt::Display for Field {
-    ghost output = { λ k. Some (field_text k) };
-
-    fn fmt<W: fmt::Write>(&self, f: &mut fmt::Formatter<W>) -> fmt::Result {
-        match self {
-            Field::Version => write!(f, "version"),
-            Field::Licenses => write!(f, "licenses"),
-            Field::Exceptions => write!(f, "exceptions"),
-            Field::Imprecise => write!(f, "imprecise"),
         }
     }
 }

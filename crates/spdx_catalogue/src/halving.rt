@@ -1,62 +1,57 @@
-// Rows whose names ascend, searched by halving.
+// Rows by name: those whose names ascend are searched by halving.
 
-ghost use Rattle.std.specs.Prelude.{◌≡◌, ◌++◌, ◌<◌, option_map, slice_get, map};
+ghost use Rattle.std.specs.Prelude.{◌≡◌, ◌++◌, ◌<◌, option_map, slice_get, map, find};
 ghost use Rattle.std.specs.Option.{option_copied};
+ghost use Rattle.std.specs.Str.{str_eq_ignore_ascii_case};
 ghost use Rattle.spdx_catalogue.specs.Ascent.{Ascends};
-ghost use Rattle.spdx_catalogue.specs.LookUps.{listed, listed_exception};
-ghost use Rattle.spdx_catalogue.specs.Rows.{row_of, exception_of, license_name, exception_name};
+ghost use Rattle.spdx_catalogue.specs.LookUps.{named, named_caseless};
 
 use crate::names::compare_joined;
-use crate::row::{Exception, License};
+use crate::row::Row;
 
-pub(crate) fn license_at(rows: &[License], at: usize) -> Option<&License>
-    ensures { option_map row_of (option_copied result) ≡ slice_get (map row_of rows.now) at }
+pub(crate) fn row_at<R: Row>(rows: &[R], at: usize) -> Option<&R>
+    ensures { option_map R.shown (option_copied result) ≡ slice_get (map R.shown rows.now) at }
 {
     rows.get(at)
 }
 
-pub(crate) fn exception_at(rows: &[Exception], at: usize) -> Option<&Exception>
-    ensures { option_map exception_of (option_copied result)
-        ≡ slice_get (map exception_of rows.now) at }
+/// The row of that name.
+pub(crate) fn named<'c, R: Row>(rows: &'c [R], name: &[u8]) -> Option<&'c R>
+    requires { Ascends R.name_of (map R.shown rows.now) }
+    ensures { option_map R.shown (option_copied result)
+        ≡ named R.name_of (map R.shown rows.now) name.now }
 {
-    rows.get(at)
-}
-
-/// The licence of that name.
-pub(crate) fn license_named<'c>(rows: &'c [License], name: &[u8]) -> Option<&'c License>
-    requires { Ascends license_name (map row_of rows.now) }
-    ensures { option_map row_of (option_copied result) ≡ listed (map row_of rows.now) name.now }
-{
-    match rows.binary_search_by(|row| row.name.as_bytes().cmp(name)) {
-        Ok(place) => license_at(rows, place),
+    match rows.binary_search_by(|row| row.name().as_bytes().cmp(name)) {
+        Ok(place) => row_at(rows, place),
         Err(_) => None,
     }
 }
 
-/// The licence whose name is the front and the ending.
-pub(crate) fn license_joined<'c>(
-    rows: &'c [License],
-    front: &[u8],
-    ending: &[u8],
-) -> Option<&'c License>
-    requires { Ascends license_name (map row_of rows.now) }
-    ensures { option_map row_of (option_copied result)
-        ≡ listed (map row_of rows.now) (front.now ++ ending.now) }
+/// The row whose name is the front and the ending.
+pub(crate) fn joined<'c, R: Row>(rows: &'c [R], front: &[u8], ending: &[u8]) -> Option<&'c R>
+    requires { Ascends R.name_of (map R.shown rows.now) }
+    ensures { option_map R.shown (option_copied result)
+        ≡ named R.name_of (map R.shown rows.now) (front.now ++ ending.now) }
 {
-    match rows.binary_search_by(|row| compare_joined(row.name.as_bytes(), front, ending)) {
-        Ok(at) => license_at(rows, at),
+    match rows.binary_search_by(|row| compare_joined(row.name().as_bytes(), front, ending)) {
+        Ok(at) => row_at(rows, at),
         Err(_) => None,
     }
 }
 
-/// The exception of that name.
-pub(crate) fn exception_named<'c>(rows: &'c [Exception], name: &[u8]) -> Option<&'c Exception>
-    requires { Ascends exception_name (map exception_of rows.now) }
-    ensures { option_map exception_of (option_copied result)
-        ≡ listed_exception (map exception_of rows.now) name.now }
+// The first row whose own name it is, the case of ASCII letters aside.
+fn own_alike<'c, R: Row>(rows: &'c [R], name: &str) -> Option<&'c R>
+    ensures { option_copied result
+        ≡ find (λ r. str_eq_ignore_ascii_case (R.name_of (R.shown r)) name.now) rows.now }
 {
-    match rows.binary_search_by(|row| row.name.as_bytes().cmp(name)) {
-        Ok(at) => exception_at(rows, at),
-        Err(_) => None,
-    }
+    rows.iter()
+        .find(|row| row.name().eq_ignore_ascii_case(name))
+}
+
+/// The first row whose name it is, the case of ASCII letters aside.
+pub(crate) fn alike<'c, R: Row>(rows: &'c [R], name: &str) -> Option<&'c R>
+    ensures { option_map R.shown (option_copied result)
+        ≡ named_caseless R.name_of (map R.shown rows.now) name.now }
+{
+    own_alike(rows, name)
 }

@@ -2,37 +2,18 @@
 
 ghost use Rattle.std.specs.Prelude.{◌≡◌, ◌<◌, ◌++◌, IsTrue, IfSome, IsCharBoundary, option_map, map, length, find, string_bytes};
 ghost use Rattle.std.specs.Option.{option_copied};
-ghost use Rattle.spdx_catalogue.specs.Rows.{row_of, exception_of, imprecise_of};
-ghost use Rattle.spdx_catalogue.specs.Ids.{id_row, exception_row};
+ghost use Rattle.spdx_requirement.specs.Rows.{row_of, exception_of, imprecise_of};
+ghost use Rattle.spdx_requirement.specs.Ids.{id_row, exception_row};
 ghost use Rattle.spdx_catalogue.specs.Names.{without_plus, begins_caseless};
-ghost use Rattle.std.specs.Str.{str_eq_ignore_ascii_case};
-ghost use Rattle.spdx_catalogue.specs.declared.row.License.{License};
-ghost use Rattle.spdx_catalogue.specs.declared.row.Exception.{Exception};
-ghost use Rattle.spdx_catalogue.specs.declared.row.ImpreciseName.{ImpreciseName};
+ghost use Rattle.spdx_requirement.specs.declared.row.ImpreciseName.{ImpreciseName};
 ghost use Rattle.spdx_catalogue.specs.LookUps.{listed, listed_exception, listed_caseless, listed_exception_caseless, imprecise_row, imprecise_license, gnu_listed};
 
 use crate::catalogue::Catalogue;
-use crate::halving::{exception_named, license_joined, license_named};
-use crate::id::{ExceptionId, LicenseId};
-use crate::names::{begins_caseless, ending, has_suffix, without_plus};
-use crate::row::{Exception, ImpreciseName, License};
-
-fn license_alike<'c>(rows: &'c [License], name: &str) -> Option<&'c License>
-    ensures { option_copied result
-        ≡ find (λ (r : License). str_eq_ignore_ascii_case (string_bytes r.name) name.now) rows.now }
-{
-    rows.iter()
-        .find(|row| row.name.as_str().eq_ignore_ascii_case(name))
-}
-
-fn exception_alike<'c>(rows: &'c [Exception], name: &str) -> Option<&'c Exception>
-    ensures { option_copied result
-        ≡ find (λ (r : Exception). str_eq_ignore_ascii_case (string_bytes r.name) name.now)
-        rows.now }
-{
-    rows.iter()
-        .find(|row| row.name.as_str().eq_ignore_ascii_case(name))
-}
+use crate::halving::{alike, joined, named};
+use crate::names::{begins_caseless, without_plus};
+use spdx_requirement::endings::{ending, has_suffix};
+use spdx_requirement::id::{ExceptionId, LicenseId};
+use spdx_requirement::row::{Exception, ImpreciseName, License};
 
 fn imprecise_front<'c>(rows: &'c [ImpreciseName], text: &str) -> Option<&'c ImpreciseName>
     ensures { option_copied result
@@ -46,35 +27,35 @@ impl Catalogue {
     fn license_named(&self, name: &[u8]) -> Option<&License>
         ensures { option_map row_of (option_copied result) ≡ listed self.now.licenses name.now }
     {
-        license_named(&self.licenses, name)
+        named(&self.licenses, name)
     }
 
     fn license_joined(&self, front: &[u8], ending: &[u8]) -> Option<&License>
         ensures { option_map row_of (option_copied result)
             ≡ listed self.now.licenses (front.now ++ ending.now) }
     {
-        license_joined(&self.licenses, front, ending)
+        joined(&self.licenses, front, ending)
     }
 
     fn exception_named(&self, name: &[u8]) -> Option<&Exception>
         ensures { option_map exception_of (option_copied result)
             ≡ listed_exception self.now.exceptions name.now }
     {
-        exception_named(&self.exceptions, name)
+        named(&self.exceptions, name)
     }
 
     fn license_caseless(&self, name: &str) -> Option<&License>
         ensures { option_map row_of (option_copied result)
             ≡ listed_caseless self.now.licenses name.now }
     {
-        license_alike(&self.licenses, name)
+        alike(&self.licenses, name)
     }
 
     fn exception_caseless(&self, name: &str) -> Option<&Exception>
         ensures { option_map exception_of (option_copied result)
             ≡ listed_exception_caseless self.now.exceptions name.now }
     {
-        exception_alike(&self.exceptions, name)
+        alike(&self.exceptions, name)
     }
 
     fn imprecise_name(&self, text: &str) -> Option<&ImpreciseName>

@@ -1,4 +1,4 @@
-// The bytes of a licence's name, and the two endings of GNU names.
+// What a licence's name may be, and the names that texts may write for it.
 
 ghost use Rattle.std.specs.Prelude.{◌≡◌, ◌++◌, ◌<◌, ◌≤◌};
 ghost use Rattle.std.specs.Option.{option_copied};
@@ -7,6 +7,7 @@ ghost use Rattle.std.specs.Ordering.{nat_cmp};
 ghost use Rattle.std.specs.Cmp.Lexicographic.{slice_cmp};
 ghost use Rattle.spdx_catalogue.specs.Names as spec;
 
+use spdx_requirement::endings::{has_suffix, without};
 use std::cmp::Ordering;
 
 /// Whether a name may have the byte: an ASCII letter or digit, `-` or `.`.
@@ -48,24 +49,6 @@ pub(crate) fn is_above(before: Option<&str>, name: &str) -> bool
     }
 }
 
-// What stands before the ending.
-fn without<'n>(ending: &[u8], name: &'n [u8]) -> Option<&'n [u8]>
-    ensures { option_copied result ≡ spec.without ending.now name.now }
-{
-    if name.ends_with(ending) {
-        Some(&name[..name.len() - ending.len()])
-    } else {
-        None
-    }
-}
-
-/// Whether a name ends in `-only` or `-or-later`.
-pub fn has_suffix(name: &[u8]) -> bool
-    ensures { result ≡ spec.has_suffix name.now }
-{
-    name.ends_with(b"-only") || name.ends_with(b"-or-later")
-}
-
 fn still_has_suffix(front: Option<&[u8]>) -> bool
     ensures { result ≡ spec.still_has_suffix (option_copied front.entry) }
 {
@@ -81,15 +64,8 @@ pub(crate) fn has_two_suffixes(name: &[u8]) -> bool
     still_has_suffix(without(b"-only", name)) || still_has_suffix(without(b"-or-later", name))
 }
 
-// The ending of a GNU name.
-pub(crate) fn ending(or_later: bool) -> &'static [u8]
-    ensures { result.now ≡ spec.ending or_later }
-{
-    if or_later { b"-or-later" } else { b"-only" }
-}
-
 /// The name, every `+` at its end taken off.
-pub fn without_plus(name: &[u8]) -> &[u8]
+pub(crate) fn without_plus(name: &[u8]) -> &[u8]
     ensures { result.now ≡ spec.without_plus name.now }
 {
     let mut end = name.len();

@@ -1,17 +1,13 @@
 //! Licensees, and which requirements they satisfy.
 
-ghost use Rattle.std.specs.Prelude.{◌≡◌, ◌↔◌, IsTrue, IsOk, IfOk, IfErr, false, option_map};
-ghost use Rattle.std.specs.Option.{option_copied};
+ghost use Rattle.std.specs.Prelude.{◌≡◌, IsOk, IfOk, IfErr, false};
 ghost use Rattle.spdx_requirement.specs.Ids.{id_row};
-ghost use Rattle.spdx_requirement.specs.Items.{license_of, addition_of, requirement_of};
-ghost use Rattle.spdx_requirement.specs.Keys.{addition_key};
+ghost use Rattle.spdx_requirement.specs.Items.{license_of, requirement_of};
 ghost use Rattle.spdx_requirement.specs.References.{HasNoReference};
-ghost use Rattle.spdx_requirement.specs.Endings as endings;
 ghost use Rattle.spdx_requirement.specs.Versions as parted;
 ghost use Rattle.spdx_lexer.specs.Faults.{fault_of};
 ghost use Rattle.spdx_lexer.specs.Code.{span_of};
 ghost use Rattle.spdx_lexer.specs.Layout.{IsPlace};
-ghost use Rattle.spdx_requirement.specs.Equality.{same_additions};
 ghost use Rattle.spdx_licensee.specs.LicenseeText.{Names, NamesNone, IsLicenseeFault, has_reference};
 ghost use Rattle.spdx_requirement.specs.Failures.{IfRefused};
 ghost use Rattle.spdx_licensee.specs.Answers.{TellsAFault};
@@ -19,8 +15,10 @@ ghost use Rattle.spdx_licensee.specs.Satisfies as spec;
 
 use crate::reading::read_requirement;
 use crate::version::{is_older, same_family, version};
-use spdx_catalogue::{AdditionItem, Catalogue, LicenseId, LicenseItem, LicenseReq};
+use spdx_catalogue::{Catalogue, LicenseId, LicenseItem, LicenseReq};
 use spdx_lexer::{Failure, Lexer, ParseError};
+use spdx_requirement::endings::without;
+use spdx_requirement::equality::are_same_additions;
 use std::alloc::{AllocError, Global};
 use std::marker::Model;
 
@@ -108,27 +106,6 @@ impl<'c> Licensee<'c> {
     {
         are_same_additions(&self.req.addition, &req.addition)
             && covers(&self.req.license, &req.license)
-    }
-}
-
-/// `==` of additions, or of none, as `satisfies` compares them.
-pub fn are_same_additions(one: &Option<AdditionItem<'_>>, other: &Option<AdditionItem<'_>>) -> bool
-    ensures test { result ≡ same_additions (option_map addition_of one.now)
-        (option_map addition_of other.now) }
-    ensures same { IsTrue result
-        ↔ (option_map addition_key (option_map addition_of one.now) ≡ option_map addition_key (option_map addition_of other.now)) }
-{
-    one == other
-}
-
-// What stands before the ending, if the name has it.
-fn without<'n>(ending: &[u8], name: &'n [u8]) -> Option<&'n [u8]>
-    ensures { option_copied result ≡ endings.without ending.now name.now }
-{
-    if name.ends_with(ending) {
-        Some(&name[..name.len() - ending.len()])
-    } else {
-        None
     }
 }
 

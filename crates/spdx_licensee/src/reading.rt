@@ -1,8 +1,7 @@
 //! The words of a licensee, one after another.
 
-ghost use Rattle.std.specs.Prelude.{◌≡◌, ◌∷◌, [], IfOk, IsOk, Some, None, Ok, Err, false, true, string_bytes, length, option_map, codes};
+ghost use Rattle.std.specs.Prelude.{◌≡◌, ◌∷◌, [], IfOk, IsOk, Some, None, Ok, Err, false, true, length, option_map, codes};
 ghost use Rattle.std.specs.List.{list_any};
-ghost use Rattle.std.specs.Option.{option_copied};
 ghost use Rattle.spdx_requirement.specs.Items.{license_of, addition_of, requirement_of};
 ghost use Rattle.spdx_lexer.specs.Words.{Unexpected};
 ghost use Rattle.spdx_lexer.specs.Faults.{fault_of};
@@ -12,7 +11,7 @@ ghost use Rattle.spdx_licensee.specs.LicenseeText.{license_named, addition_named
 ghost use Rattle.spdx_requirement.specs.Failures.{IfRefused};
 ghost use Rattle.spdx_licensee.specs.Answers.{TellsAFault, Gives, license_at, with_at, addition_at, end_at, starts_reference, licensee_at};
 
-use spdx_catalogue::{AdditionItem, AdditionRef, LicenseItem, LicenseRef, LicenseReq};
+use spdx_catalogue::{AdditionItem, LicenseItem, LicenseReq};
 use spdx_lexer::{Failure, Lexer, LexerToken, ParseError, Reason, Token};
 use std::alloc::{AllocError, Global};
 use std::ops::Range;
@@ -32,16 +31,6 @@ fn refused<'t>(text: &'t str, span: Range<usize>, reason: Reason) -> Failure<Par
         span,
         reason,
     })
-}
-
-// A copy of the text, if there is one.
-fn owned(alloc: Global, text: Option<&str>) -> Result<Option<String>, AllocError>
-    ensures { IfOk result (λ copy. option_map string_bytes copy ≡ option_copied text.entry) }
-{
-    match text {
-        Some(text) => Ok(Some(String::from_str(alloc, text)?)),
-        None => Ok(None),
-    }
 }
 
 // The licence that a token names: a listed one that is not deprecated, or a reference.
@@ -64,11 +53,7 @@ fn license_named<'c>(
             }))
         }
         Token::LicenseRef { doc_ref, lic_ref } => {
-            let reference = LicenseRef {
-                doc_ref: owned(alloc, doc_ref)?,
-                lic_ref: String::from_str(alloc, lic_ref)?,
-            };
-            Ok(Some(LicenseItem::Other(Box::new(alloc, reference)?)))
+            Ok(Some(LicenseItem::referred(alloc, doc_ref, lic_ref)?))
         }
         _ => Ok(None),
     }
@@ -86,11 +71,7 @@ fn addition_named<'c>(
     match token {
         Token::Exception(id) => Ok(Some(AdditionItem::Spdx(id))),
         Token::AdditionRef { doc_ref, add_ref } => {
-            let reference = AdditionRef {
-                doc_ref: owned(alloc, doc_ref)?,
-                add_ref: String::from_str(alloc, add_ref)?,
-            };
-            Ok(Some(AdditionItem::Other(Box::new(alloc, reference)?)))
+            Ok(Some(AdditionItem::referred(alloc, doc_ref, add_ref)?))
         }
         _ => Ok(None),
     }

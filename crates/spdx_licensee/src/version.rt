@@ -9,19 +9,8 @@ ghost use Rattle.std.specs.Str.Parse.{digits_value};
 ghost use Rattle.spdx_requirement.specs.Versions as parted;
 ghost use Rattle.spdx_licensee.specs.Version as spec;
 
+use spdx_requirement::versions::is_version;
 use std::cmp::Ordering;
-
-fn is_version_byte(byte: u8) -> bool
-    ensures { result ≡ parted.is_version_byte byte }
-{
-    byte.is_ascii_digit() || byte == b'.'
-}
-
-fn is_version(part: &[u8]) -> bool
-    ensures { result ≡ parted.is_version part.now }
-{
-    part.iter().all(|byte| is_version_byte(*byte))
-}
 
 // Where a byte stands first.
 fn first_place(text: &[u8], sought: u8) -> Option<usize>

@@ -1,16 +1,11 @@
--- What lines, catalogues and licensees mean, found by reading them: what the code's own contracts cite. The public ones
+-- What lines and licensees mean, found by reading them: what the code's own contracts cite. The public ones
 -- speak of what is found by what the definitions say of it.
-use Rattle.std.specs.Prelude.{ℕ, List, [], length, Option, None, Some, Result, Ok, Err, if◌then◌else◌, unwrap_or}
+use Rattle.std.specs.Prelude.{ℕ, List, [], length, Result, Ok, Err, if◌then◌else◌, unwrap_or}
 use Rattle.std.specs.Str.{is_utf8}
 use Rattle.std.specs.Result.{result_ok}
-use Rattle.serde_json.specs.Data.{Data}
-use Rattle.serde_json.specs.Read.{read}
 use Rattle.line_engine.specs.Rule.{Rule}
 use Rattle.spdx_requirement.specs.Rows.{Rows}
 use Rattle.spdx_requirement.specs.Items.{Requirement}
-use Rattle.spdx_catalogue.specs.Reading.{rows_in}
-use Rattle.spdx_catalogue.specs.declared.error.ReadFault.{ReadFault}
-use Rattle.spdx_catalogue.specs.declared.error.ReadFault.TheVariants.{NotJson}
 use Rattle.spdx_lexer.specs.Modes.{strict}
 use Rattle.spdx_lexer.specs.Words.{Fault, Span}
 use Rattle.spdx_lexer.specs.Reading.{reading}
@@ -48,20 +43,12 @@ rule_of c mode accepted = rule_by (verdict c mode) accepted
 abbrev pub rule_of_all : Rows → LineMode → List Requirement → Rule
 rule_of_all c mode accepted = rule_by_all (verdict c mode) accepted
 
--- ---- the catalogue and the licensees
-
-abbrev pub rows_read : Option Data → Result Rows ReadFault
-rows_read None = Err NotJson
-rows_read (Some d) = rows_in d
-
--- the rows that the bytes hold, or the first fault that applies
-unfoldable pub catalogue_of : List ℕ → Result Rows ReadFault
-catalogue_of bytes = if is_utf8 bytes then rows_read (read bytes) else Err NotJson
+-- ---- the licensees
 
 -- the licensee that a text names, or the fault of the text
 unfoldable pub licensee_of : Rows → List ℕ → Result Requirement (Fault × Span)
 licensee_of c text = licensee_at (length text) (reading c strict 0 text)
 
--- all three
+-- both
 abbrev pub found : Meaning
-found = record { catalogue = catalogue_of; licensee = licensee_of; verdict = verdict }
+found = record { licensee = licensee_of; verdict = verdict }

@@ -5,7 +5,7 @@ use Rattle.std.specs.Borrow.{Bor}
 use Rattle.line_engine.specs.Rule.{Rule}
 use Rattle.spdx_requirement.specs.Rows.{Rows}
 use Rattle.spdx_requirement.specs.Items.{Requirement}
-use Rattle.spdx_catalogue.specs.Reading.{IsReading, IsFault}
+use Rattle.spdx_catalogue.specs.Reading.{catalogue_in}
 use Rattle.spdx_catalogue.specs.Faults.{read_text}
 use Rattle.spdx_catalogue.specs.declared.error.ReadFault.{ReadFault}
 use Rattle.spdx_lexer.specs.Words.{Fault, Span}
@@ -61,15 +61,13 @@ licensee_before n (Err fault) others = Err (NoLicensee n fault.0 fault.1)
 
 -- ---- what is meant
 
--- what a catalogue's bytes, a licensee's text and a line mean
+-- what a licensee's text and a line mean
 pub record Meaning : Type 0 where
-  pub catalogue : List ℕ → Result Rows ReadFault
   pub licensee : Rows → List ℕ → Result Requirement (Fault × Span)
   pub verdict : Rows → LineMode → List ℕ → Verdict
 
 -- it is what the definitions say of each, and there is no other
 pub record IsTheMeaning (by : Meaning) : Type 0 where
-  pub catalogues : (bytes : List ℕ) → IsTheCatalogue bytes (by.catalogue bytes)
   pub licensees : (c : Rows) (text : List ℕ) → IsTheLicensee c text (by.licensee c text)
   pub verdicts : (c : Rows) (mode : LineMode) → AreTheVerdicts c mode (by.verdict c mode)
 
@@ -92,7 +90,7 @@ with_rows by task texts (Ok c) = with_licensees by c task (licensees_from by c 1
 with_rows by task texts (Err fault) = Err (NoCatalogue fault)
 
 abbrev pub with_task : Meaning → Task → List (List ℕ) → Option (Bor (List ℕ)) → Result Rule Refusal
-with_task by task texts (Some bytes) = with_rows by task texts (by.catalogue bytes.now)
+with_task by task texts (Some bytes) = with_rows by task texts (catalogue_in bytes.now)
 with_task by task texts None = Err Unreadable
 
 abbrev pub with_words : Meaning → List (List ℕ) → Option Task → Option (Bor (List ℕ)) → Result Rule Refusal

@@ -1,9 +1,9 @@
 // What names a licence, and the items that are made of names.
 
-ghost use Rattle.std.specs.Prelude.{◌≡◌, true, false, IfOk, option_map, string_bytes};
+ghost use Rattle.std.specs.Prelude.{◌≡◌, true, false, IfOk, option_map};
 ghost use Rattle.spdx_requirement.specs.Flags as Flags;
 ghost use Rattle.spdx_requirement.specs.Ids.{id_row};
-ghost use Rattle.spdx_requirement.specs.Items.{license_of, referred, addition_of, added};
+ghost use Rattle.spdx_requirement.specs.Items.{license_of, addition_of, added};
 ghost use Rattle.spdx_requirement.specs.Endings as Endings;
 ghost use Rattle.spdx_lexer.specs.Code.{document_of};
 ghost use Rattle.spdx_parser.specs.Code.{name_license, IsLicenseRow};
@@ -11,7 +11,7 @@ ghost use Rattle.spdx_parser.specs.Grammar as Grammar;
 ghost use Rattle.spdx_parser.specs.State as states;
 
 use crate::last::ends_or_later;
-use spdx_catalogue::{AdditionItem, AdditionRef, Catalogue, LicenseId, LicenseItem, LicenseRef};
+use spdx_catalogue::{AdditionItem, Catalogue, LicenseId, LicenseItem};
 use spdx_lexer::token::ParseMode;
 use std::alloc::{AllocError, Global};
 
@@ -29,38 +29,14 @@ pub enum Name<'c, 't> {
     Unknown(&'t str),
 }
 
-fn owned(alloc: Global, text: Option<&str>) -> Result<Option<String>, AllocError>
-    ensures { IfOk result (λ copy. option_map string_bytes copy ≡ document_of text.entry) }
-{
-    match text {
-        Some(text) => Ok(Some(String::from_str(alloc, text)?)),
-        None => Ok(None),
-    }
-}
-
-fn reference<'c>(
-    alloc: Global,
-    doc_ref: Option<&str>,
-    lic_ref: &str,
-) -> Result<LicenseItem<'c>, AllocError>
-    ensures { IfOk result (λ item.
-        license_of item ≡ referred (Grammar.reference (document_of doc_ref.entry) lic_ref.now)) }
-{
-    let reference = LicenseRef {
-        doc_ref: owned(alloc, doc_ref)?,
-        lic_ref: String::from_str(alloc, lic_ref)?,
-    };
-    Ok(LicenseItem::Other(Box::new(alloc, reference)?))
-}
-
 /// The licence of a name. Only a reference takes memory.
 pub fn license_item<'c>(alloc: Global, name: Name<'c, '_>) -> Result<LicenseItem<'c>, AllocError>
     ensures { IfOk result (λ item. license_of item ≡ name_license name.entry) }
 {
     match name {
         Name::Listed { id, or_later } => Ok(LicenseItem::Spdx { id, or_later }),
-        Name::Reference { doc_ref, lic_ref } => reference(alloc, doc_ref, lic_ref),
-        Name::Unknown(text) => reference(alloc, None, text),
+        Name::Reference { doc_ref, lic_ref } => LicenseItem::referred(alloc, doc_ref, lic_ref),
+        Name::Unknown(text) => LicenseItem::referred(alloc, None, text),
     }
 }
 
@@ -73,11 +49,7 @@ pub fn addition_item<'c>(
     ensures { IfOk result (λ item.
         addition_of item ≡ added (Grammar.reference (document_of doc_ref.entry) add_ref.now)) }
 {
-    let reference = AdditionRef {
-        doc_ref: owned(alloc, doc_ref)?,
-        add_ref: String::from_str(alloc, add_ref)?,
-    };
-    Ok(AdditionItem::Other(Box::new(alloc, reference)?))
+    AdditionItem::referred(alloc, doc_ref, add_ref)
 }
 
 /// A listed licence with its `+`: of a GNU licence the one whose name has `-or-later` in place of

@@ -3,8 +3,8 @@
 use crate::answer::{Answer, NoAnswer, fields};
 use spdx::expression::MinimizeError;
 use spdx::{
-    Catalogue, Expression, ExpressionJudge, Failure, LicenseReq, Licensee, select_least,
-    minimized_for_all,
+    Catalogue, Expression, ExpressionJudge, Failure, LicenseReq, Licensee, minimized_for_all,
+    select_least,
 };
 use std::alloc::Global;
 

@@ -1,6 +1,6 @@
 // Catalogues that are read from JSON.
 
-use crate::answer::{Answer, NoAnswer};
+use crate::answer::{Answer, NoAnswer, fields};
 use row_texts::number;
 use spdx::{Catalogue, Failure};
 use std::alloc::{AllocError, Global};
@@ -45,4 +45,35 @@ pub fn large(alloc: Global, count: &str) -> Answer {
     let (first, last) = (one.license().index, other.license().index);
     let millions = json.len() / 1_000_000;
     Ok(format!(in alloc; "{millions} million bytes, {first} to {last}")?)
+}
+
+// What the bytes are read as: `read`, or the printed fault.
+fn outcome(alloc: Global, bytes: &[u8]) -> Answer {
+    match Catalogue::from_json(alloc, bytes) {
+        Ok(_) => Ok("read".to_string(alloc)?),
+        Err(Failure::Refused(fault)) => Ok(format!(in alloc; "{fault}")?),
+        Err(Failure::Memory(_)) => Err(NoAnswer::Memory),
+    }
+}
+
+/// What a catalogue is read as that has these licences and exceptions and, behind all of its keys, this text.
+pub fn tables(alloc: Global, given: &str) -> Answer {
+    let (licenses, rest) = fields(given)?;
+    let (exceptions, more) = fields(rest)?;
+    let json = format!(in alloc;
+        "{{\"version\":\"a\",\"licenses\":[{licenses}],\"exceptions\":[{exceptions}],\"imprecise\":[]{more}}}"
+    )?;
+    outcome(alloc, json.as_str().as_bytes())
+}
+
+/// What bytes are read as, each of which is given as a number.
+pub fn bytes(alloc: Global, given: &str) -> Answer {
+    let mut bytes = Vec::new(alloc);
+    for byte in given.split(' ') {
+        match byte.parse::<u8>() {
+            Ok(byte) => bytes.push(byte)?,
+            Err(_) => return Err(NoAnswer::Row),
+        }
+    }
+    outcome(alloc, &bytes)
 }

@@ -95,3 +95,14 @@ fn put_again(
     write!(all, "[{alone:?}]")?;
     Ok(())
 }
+
+/// The printed requirement of a listed licence alone.
+pub fn requirement(alloc: Global, catalogue: &Catalogue, name: &str) -> Answer {
+    match catalogue.license_id(name) {
+        Some(id) => {
+            let requirement = LicenseReq::from(id);
+            Ok(format!(in alloc; "{requirement}")?)
+        }
+        None => Err(NoAnswer::Row),
+    }
+}

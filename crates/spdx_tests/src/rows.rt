@@ -2,7 +2,10 @@
 
 use crate::answer::{Answer, NoAnswer, two_parts};
 use crate::catalogues::Catalogues;
-use crate::{canonical, choice, copies, evaluation, json, lexing, licensees, parsing, printing};
+use crate::{
+    canonical, choice, copies, evaluation, json, lexing, licensees, look_ups, making, orders,
+    parsing, printing,
+};
 use row_texts::written_out;
 use spdx::Catalogue;
 use std::alloc::{AllocError, Global};
@@ -109,12 +112,35 @@ fn answer_to_tree(alloc: Global, catalogue: &Catalogue, call: &str, given: &str)
         "choice for none" => choice::for_none(alloc, catalogue, given),
         "questions" => choice::questions(alloc, catalogue, given),
         "printed fault" => printing::fault(alloc, catalogue, given),
-        "JSON" => json::text(alloc, given),
-        "licences" => json::large(alloc, given),
         "reason" => printing::reason(alloc, given),
         "marked licence" => printing::marked(alloc, catalogue, given),
         "printed text" => printing::whole(alloc, catalogue, given),
         "read back" => printing::read_back(alloc, catalogue, given),
+        "requirement" => printing::requirement(alloc, catalogue, given),
+        "ascending" => orders::ascending(alloc, catalogue, given),
+        "licences ascending" => orders::licenses_ascending(alloc, catalogue, given),
+        _ => answer_of_rows(alloc, catalogue, call, given),
+    }
+}
+
+fn answer_of_rows(alloc: Global, catalogue: &Catalogue, call: &str, given: &str) -> Answer {
+    match call {
+        "JSON" => json::text(alloc, given),
+        "licences" => json::large(alloc, given),
+        "tables" => json::tables(alloc, given),
+        "bytes" => json::bytes(alloc, given),
+        "made" => making::made(alloc, given),
+        "fault of rows" => making::fault(alloc, given),
+        "version" => look_ups::version(alloc, catalogue),
+        "licence" => look_ups::license(alloc, catalogue, given),
+        "exception" => look_ups::exception(alloc, catalogue, given),
+        "near licence" => look_ups::near_license(alloc, catalogue, given),
+        "near exception" => look_ups::near_exception(alloc, catalogue, given),
+        "GNU licence" => look_ups::gnu(alloc, catalogue, given),
+        "imprecise licence" => look_ups::imprecise(alloc, catalogue, given),
+        "parts" => look_ups::parts(alloc, catalogue, given),
+        "flags" => look_ups::license_flags(alloc, catalogue, given),
+        "exception's flags" => look_ups::exception_flags(alloc, catalogue, given),
         _ => Err(NoAnswer::Row),
     }
 }

@@ -1,6 +1,6 @@
 use Rattle.std.proofs.Common.{sym, ◌∙◌, length, map, List, Some, None, ◌≡◌, ◌++◌}
 use Rattle.spdx_catalogue.specs.RowRules.{RowRule, first_broken, all_below, license_rules, exception_rules, imprecise_rules}
-use Rattle.spdx_catalogue.specs.Rows.{row_of, exception_of, imprecise_of}
+use Rattle.spdx_requirement.specs.Rows.{row_of, exception_of, imprecise_of}
 use Rattle.spdx_catalogue.proofs.First.{first_some, first_none}
 use Rattle.spdx_catalogue.proofs.Mapped.{length_map}
 use Rattle.spdx_catalogue.proofs.Ascending.{licenses_ascend}
@@ -19,8 +19,8 @@ returns-in-Some c =
     let front : first_broken (all_below (license_rules ls) (length ls)) ≡ Some c.in-Some.fault = rw (length_map row_of c.args.licenses.now) (sym c.in-Some.ensures) in
     sym (first_some (all_below (license_rules ls) (length ls)) (all_below (exception_rules es) (length es) ++ all_below (imprecise_rules ls ms) (length ms)) c.in-Some.fault front)
 
-pub returns-in-Some-exceptions_fault : goal.returns-in-Some-exceptions_fault
-returns-in-Some-exceptions_fault c =
+pub returns-in-Some-rows_fault : goal.returns-in-Some-rows_fault
+returns-in-Some-rows_fault c =
     let ls = map row_of c.args.licenses.now in
     let es = map exception_of c.args.exceptions.now in
     let ms = map imprecise_of c.args.imprecise.now in
@@ -28,11 +28,11 @@ returns-in-Some-exceptions_fault c =
     let excepted : List RowRule = all_below (exception_rules es) (length es) in
     let spelled : List RowRule = all_below (imprecise_rules ls ms) (length ms) in
     let front : first_broken names ≡ None = rw (length_map row_of c.args.licenses.now) (sym c.in-None.ensures) in
-    let next : first_broken excepted ≡ Some c.in-Some-exceptions_fault.fault = rw (length_map exception_of c.args.exceptions.now) (sym c.in-Some-exceptions_fault.ensures) in
-    sym (first_none names (excepted ++ spelled) front ∙ first_some excepted spelled c.in-Some-exceptions_fault.fault next)
+    let next : first_broken excepted ≡ Some c.in-Some-rows_fault.fault = rw (length_map exception_of c.args.exceptions.now) (sym c.in-Some-rows_fault.ensures) in
+    sym (first_none names (excepted ++ spelled) front ∙ first_some excepted spelled c.in-Some-rows_fault.fault next)
 
-pub returns-in-None-exceptions_fault : goal.returns-in-None-exceptions_fault
-returns-in-None-exceptions_fault c =
+pub returns-in-None-rows_fault : goal.returns-in-None-rows_fault
+returns-in-None-rows_fault c =
     let ls = map row_of c.args.licenses.now in
     let es = map exception_of c.args.exceptions.now in
     let ms = map imprecise_of c.args.imprecise.now in
@@ -40,6 +40,6 @@ returns-in-None-exceptions_fault c =
     let excepted : List RowRule = all_below (exception_rules es) (length es) in
     let spelled : List RowRule = all_below (imprecise_rules ls ms) (length ms) in
     let front : first_broken names ≡ None = rw (length_map row_of c.args.licenses.now) (sym c.in-None.ensures) in
-    let next : first_broken excepted ≡ None = rw (length_map exception_of c.args.exceptions.now) (sym c.in-None-exceptions_fault.ensures) in
+    let next : first_broken excepted ≡ None = rw (length_map exception_of c.args.exceptions.now) (sym c.in-None-rows_fault.ensures) in
     let back : c.imprecises_fault.result ≡ first_broken spelled = rw (length_map imprecise_of c.args.imprecise.now) c.imprecises_fault.ensures in
     back ∙ sym (first_none names (excepted ++ spelled) front ∙ first_none excepted spelled next)

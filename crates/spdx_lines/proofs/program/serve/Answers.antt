@@ -9,7 +9,7 @@ use Rattle.spdx_lines.proofs.Ends.{appends_nothing, breaks_off, unless_failed}
 use Rattle.spdx_lines.proofs.program.serve.Goals as goal
 
 found_is_meant : IsTheMeaning found
-found_is_meant = record { catalogues = the_catalogue; licensees = the_licensee; verdicts = the_verdict }
+found_is_meant = record { licensees = the_licensee; verdicts = the_verdict }
 
 pub returns-in-Ok : goal.returns-in-Ok
 returns-in-Ok g c = record {

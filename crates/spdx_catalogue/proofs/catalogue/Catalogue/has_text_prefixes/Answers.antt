@@ -2,8 +2,8 @@ use Rattle.std.proofs.Common.{◌≡◌, Option, Some, None, option_map, sym, �
 use Rattle.std.specs.Prelude.{slice_get}
 use Rattle.std.proofs.lemmas.Option.{slice_get-map}
 use Rattle.std.proofs.lemmas.Str.{IsUtf8-string_bytes}
-use Rattle.spdx_catalogue.specs.Rows.{ImpreciseRow, imprecise_of}
-use Rattle.spdx_catalogue.specs.declared.row.ImpreciseName.{ImpreciseName}
+use Rattle.spdx_requirement.specs.Rows.{ImpreciseRow, imprecise_of}
+use Rattle.spdx_requirement.specs.declared.row.ImpreciseName.{ImpreciseName}
 use Rattle.spdx_catalogue.proofs.catalogue.Catalogue.has_text_prefixes.Goals as goal
 
 shown_text : (o : Option ImpreciseName) (m : ImpreciseRow) → option_map imprecise_of o ≡ Some m → IsUtf8 m.prefix

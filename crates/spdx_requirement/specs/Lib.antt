@@ -1,0 +1,13 @@
+pub mod Flags
+pub mod Rows
+pub mod Ids
+pub mod Items
+pub mod Endings
+pub mod Versions
+pub mod Keys
+pub mod Equality
+pub mod EqualityLaws
+pub mod Orders
+pub mod Texts
+pub mod References
+pub mod Failures

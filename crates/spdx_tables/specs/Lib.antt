@@ -1,0 +1,3 @@
+pub mod Shape
+pub mod Fields
+pub mod TableReading
