@@ -1,15 +1,18 @@
 -- The useful licensees, the chosen ones, and the choice.
-use Rattle.std.proofs.Common.{◌≡◌, ℕ, ◌+◌, ◌<◌, ◌≤◌, Bool, true, false, ◌||◌, cond, List, [], ◌∷◌, ◌++◌, length, drop, map, nat_lt, get_or, refl, sym, ◌∙◌, ap, subst, arith}
+use Rattle.std.proofs.Common.{◌≡◌, ℕ, ◌+◌, ◌<◌, ◌≤◌, Bool, true, false, ◌||◌, ◌&&◌, cond, List, [], ◌∷◌, ◌++◌, length, take, drop, map, nat_lt, get_or, suc, Some, None, refl, sym, ◌∙◌, ap, subst, arith}
 use Rattle.std.specs.List.{list_any, filter}
-use Rattle.std.proofs.lemmas.List.{append_assoc, drop_more}
+use Rattle.std.proofs.lemmas.List.{append_assoc, drop_more, take-map, drop-map}
 use Rattle.std.proofs.lemmas.List.Elements.{filter-append}
 use Rattle.std.proofs.lemmas.Bool.Decides.{nat_tests}
 use Rattle.spdx_requirement.specs.Items.{Requirement, requirement_of}
 use Rattle.spdx_parser.specs.declared.node.ExpressionReq.{ExpressionReq}
 use Rattle.spdx_parser.specs.declared.node.ExprNode.{ExprNode}
-use Rattle.spdx_parser.specs.Tree.{Tree, postfix, leaves, node_of}
+use Rattle.spdx_parser.specs.declared.node.Operator.{Operator}
+use Rattle.spdx_parser.specs.declared.node.Operator.TheVariants.{And, Or}
+use Rattle.spdx_parser.specs.Tree.{Tree, Leaf, Join, postfix, leaves, node_of}
 use Rattle.least_selection.specs.Selection.{IsLeast, NoneSuffices}
 use Rattle.spdx_requirement.specs.Equality.{same_requirement}
+use Rattle.spdx_evaluation.specs.Truth.{joined, truth_of}
 use Rattle.spdx_evaluation.specs.Requirements.{requirements_in}
 use Rattle.spdx_minimize.specs.Choice.{first_ones, suffices_for, chosen_of, chosen, unmet, choice_among, choice_by, too_many, least_of}
 use Rattle.spdx_evaluation.proofs.Nodes.{requirement_at, requirements_of_tree}
@@ -48,6 +51,26 @@ pub choice_unmet : (trees : List Tree) (ms : List Requirement) → length ms ≤
 choice_unmet trees ms few none =
     ap (λ (b : Bool). cond b (too_many (length ms)) (choice_by ms (least_of (suffices_for trees ms) (length ms)))) (few_enough (length ms) few)
     ∙ ap (choice_by ms) (none_found (suffices_for trees ms) (length ms) none)
+
+both_false : (o : Operator) → joined o false false ≡ false
+both_false And = refl
+both_false Or = refl
+
+-- no tree is true where every answer is false
+nobody_suffices : (t : Tree) (rs : List Requirement) → truth_of t (map (λ r. false) rs) ≡ false
+nobody_suffices (Leaf r) [] = refl
+nobody_suffices (Leaf r) (x ∷ xs) = refl
+nobody_suffices (Join o l r) rs =
+    let n = length (leaves l) in
+    let left : truth_of l (take n (map (λ r. false) rs)) ≡ false = ap (truth_of l) (take-map (λ (r : Requirement). false) n rs) ∙ nobody_suffices l (take n rs) in
+    let right : truth_of r (drop n (map (λ r. false) rs)) ≡ false = ap (truth_of r) (drop-map (λ (r : Requirement). false) n rs) ∙ nobody_suffices r (drop n rs) in
+    ap (λ (z : Bool). joined o z (truth_of r (drop n (map (λ r. false) rs)))) left ∙ ap (joined o false) right ∙ both_false o
+
+-- without members there is no choice for some trees
+pub choice_of_nobody : (trees : List Tree) (ms : List Requirement) → length ms ≡ 0 → 0 < length trees → choice_among trees ms ≡ unmet
+choice_of_nobody [] ms e h = absurd (omega arith)
+choice_of_nobody (t ∷ ts) (m ∷ ms) e h = let bad : suc (length ms) ≡ 0 = e in cc
+choice_of_nobody (t ∷ ts) [] e h = ap (λ (b : Bool). choice_by [] (cond (b && suffices_for ts [] []) (Some []) None)) (nobody_suffices t (leaves t))
 
 -- what is said of a judge's trees and members is said of those that it was made for
 pub of_judge : (P : (List Bool → Bool) → ℕ → Type 0) (trees trees2 : List Tree) (ms ms2 : List Requirement) (n : ℕ) → trees ≡ trees2 → ms ≡ ms2 → n ≡ length ms2 → P (suffices_for trees ms) n → P (suffices_for trees2 ms2) (length ms2)

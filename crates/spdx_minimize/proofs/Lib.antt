@@ -3,4 +3,3 @@ pub mod Asking
 pub mod Places
 pub mod Chosen
 pub mod Doubles
-pub mod Told

@@ -25,8 +25,8 @@ use std::alloc::{AllocError, Global};
 /// against each other one, leaves out the last licensee on which the two differ. Without an
 /// expression the choice is empty.
 ///
-/// Each distinct licensee is compared with each requirement at most twice, and licensees with one
-/// another about `n * log n` times for n of them. Then at most one question more than there are
+/// Each licensee is compared with each requirement at most twice, and each useful one with the licensees
+/// before it. Then at most one question more than there are
 /// useful licensees is asked, each a walk over the nodes of the expressions.
 ///
 /// # Errors
@@ -49,6 +49,9 @@ pub fn least_choice<'a, 'c: 'a>(
 {
     let members = useful_members(alloc, lists, accepted)?;
     let count = members.len();
+    if count == 0 && !lists.is_empty() {
+        return Err(Failure::Refused(MinimizeError::RequirementsUnmet));
+    }
     if count > 1024 {
         return Err(Failure::Refused(MinimizeError::TooManyRequirements(count)));
     }

@@ -3,6 +3,7 @@
 ghost use Rattle.std.specs.Prelude.{◌≡◌, map, IfOk};
 ghost use Rattle.std.specs.List.{list_any};
 ghost use Rattle.spdx_parser.specs.Tree.{leaves, node_of};
+ghost use Rattle.spdx_requirement.specs.Equality.{same_requirement};
 ghost use Rattle.spdx_licensee.specs.Satisfies as spec;
 ghost use Rattle.spdx_evaluation.specs.Postfix.{IsPostfix, tree_in};
 ghost use Rattle.spdx_evaluation.specs.Requirements.{nows};
@@ -10,13 +11,11 @@ ghost use Rattle.spdx_minimize.specs.Choice.{satisfies_some, useful};
 ghost use Rattle.spdx_minimize.specs.Trees.{trees_in};
 
 use crate::nodes::TreeNodes;
-use spdx_catalogue::LicenseReq;
 use spdx_licensee::Licensee;
 use spdx_parser::node::ExprNode;
 use std::alloc::{AllocError, Global};
-use std::collections::BTreeSet;
 
-// The useful ones of these licensees.
+// The useful ones of these licensees. Only a useful one is compared with those before it.
 pub(crate) fn useful_members<'a, 'c>(
     alloc: Global,
     lists: &[TreeNodes<'_, '_>],
@@ -25,14 +24,21 @@ pub(crate) fn useful_members<'a, 'c>(
     ensures { IfOk result (λ members.
         nows members.items ≡ useful (trees_in lists.now) accepted.now) }
 {
-    let mut seen: BTreeSet<&'a LicenseReq<'c>> = BTreeSet::new(alloc);
     let mut members = Vec::new(alloc);
-    for licensee in accepted {
-        if seen.insert(licensee.req())? && is_useful(licensee, lists) {
+    for place in 0..accepted.len() {
+        let licensee = &accepted[place];
+        if is_useful(licensee, lists) && !is_among(licensee, &accepted[..place]) {
             members.push(licensee)?;
         }
     }
     Ok(members)
+}
+
+// Whether one of these is the same licensee.
+fn is_among(licensee: &Licensee<'_>, others: &[Licensee<'_>]) -> bool
+    ensures { result ≡ list_any (λ b. same_requirement b licensee.now) others.now }
+{
+    others.iter().any(|other| other == licensee)
 }
 
 // Whether the licensee satisfies a requirement of some expression.

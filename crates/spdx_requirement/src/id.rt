@@ -5,7 +5,7 @@ ghost use Rattle.std.proofs.Common.{rules};
 ghost use Rattle.std.specs.Cmp.{partial_order_from_own_ties};
 ghost use Rattle.std.specs.Cmp.Rules.{comparing};
 ghost use Rattle.std.specs.Ordering.{nat_cmp, on, as_partial_cmp};
-ghost use Rattle.spdx_requirement.specs.Ids.{id_row, exception_row};
+ghost use Rattle.spdx_requirement.specs.Ids.{license_in, id_row, exception_in, exception_row};
 ghost use Rattle.spdx_requirement.specs.Flags as flag;
 ghost use Rattle.std.specs.Prelude.{find, take_while};
 ghost use Rattle.std.specs.Option.{option_copied};
@@ -32,14 +32,14 @@ pub struct ExceptionId<'c> {
 impl<'c> LicenseId<'c> {
     /// The id of a row.
     pub fn new(row: &'c License) -> LicenseId<'c>
-        ensures { result.row.now ≡ row.now }
+        ensures { license_in result ≡ row.now }
     {
         LicenseId { row }
     }
 
     /// The licence's row.
     pub fn license(self) -> &'c License
-        ensures { result.now ≡ self.entry.row.now }
+        ensures { result.now ≡ license_in self.entry }
     {
         self.row
     }
@@ -113,14 +113,14 @@ fn base_of(name: &str) -> &str
 impl<'c> ExceptionId<'c> {
     /// The id of a row.
     pub fn new(row: &'c Exception) -> ExceptionId<'c>
-        ensures { result.row.now ≡ row.now }
+        ensures { exception_in result ≡ row.now }
     {
         ExceptionId { row }
     }
 
     /// The exception's row.
     pub fn exception(self) -> &'c Exception
-        ensures { result.now ≡ self.entry.row.now }
+        ensures { result.now ≡ exception_in self.entry }
     {
         self.row
     }
@@ -134,7 +134,7 @@ impl<'c> ExceptionId<'c> {
 }
 
 impl PartialEq for LicenseId<'_> {
-    ghost eq = { on (λ i. i.row.now.index) nat_eq };
+    ghost eq = { on (λ i. (license_in i).index) nat_eq };
 
     ghost laws = { Prim.search (comparing, rules) };
 
@@ -148,7 +148,7 @@ impl Eq for LicenseId<'_> {
 }
 
 impl Ord for LicenseId<'_> {
-    ghost cmp = { on (λ i. i.row.now.index) nat_cmp };
+    ghost cmp = { on (λ i. (license_in i).index) nat_cmp };
 
     ghost total = { Prim.search (comparing, rules) };
 
@@ -162,7 +162,7 @@ impl Ord for LicenseId<'_> {
 }
 
 impl PartialOrd for LicenseId<'_> {
-    ghost partial_cmp = { as_partial_cmp (on (λ i. i.row.now.index) nat_cmp) };
+    ghost partial_cmp = { as_partial_cmp (on (λ i. (license_in i).index) nat_cmp) };
 
     ghost laws = { partial_order_from_own_ties (Prim.search (comparing, rules)) (Prim.search (comparing, rules)) };
 
@@ -172,7 +172,7 @@ impl PartialOrd for LicenseId<'_> {
 }
 
 impl fmt::Debug for LicenseId<'_> {
-    ghost debug_output = { λ i. Some (string_bytes i.row.now.name) };
+    ghost debug_output = { λ i. Some (string_bytes (license_in i).name) };
 
     fn fmt<W: fmt::Write>(&self, f: &mut fmt::Formatter<W>) -> fmt::Result {
         f.write_str(self.row.name.as_str())
@@ -180,7 +180,7 @@ impl fmt::Debug for LicenseId<'_> {
 }
 
 impl PartialEq for ExceptionId<'_> {
-    ghost eq = { on (λ i. i.row.now.index) nat_eq };
+    ghost eq = { on (λ i. (exception_in i).index) nat_eq };
 
     ghost laws = { Prim.search (comparing, rules) };
 
@@ -194,7 +194,7 @@ impl Eq for ExceptionId<'_> {
 }
 
 impl Ord for ExceptionId<'_> {
-    ghost cmp = { on (λ i. i.row.now.index) nat_cmp };
+    ghost cmp = { on (λ i. (exception_in i).index) nat_cmp };
 
     ghost total = { Prim.search (comparing, rules) };
 
@@ -208,7 +208,7 @@ impl Ord for ExceptionId<'_> {
 }
 
 impl PartialOrd for ExceptionId<'_> {
-    ghost partial_cmp = { as_partial_cmp (on (λ i. i.row.now.index) nat_cmp) };
+    ghost partial_cmp = { as_partial_cmp (on (λ i. (exception_in i).index) nat_cmp) };
 
     ghost laws = { partial_order_from_own_ties (Prim.search (comparing, rules)) (Prim.search (comparing, rules)) };
 
@@ -218,7 +218,7 @@ impl PartialOrd for ExceptionId<'_> {
 }
 
 impl fmt::Debug for ExceptionId<'_> {
-    ghost debug_output = { λ i. Some (string_bytes i.row.now.name) };
+    ghost debug_output = { λ i. Some (string_bytes (exception_in i).name) };
 
     fn fmt<W: fmt::Write>(&self, f: &mut fmt::Formatter<W>) -> fmt::Result {
         f.write_str(self.row.name.as_str())

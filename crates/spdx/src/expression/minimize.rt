@@ -50,8 +50,8 @@ impl<'c> Expression<'c> {
 /// that stand first are preferred, and the number of the chosen ones need not be the least. None of
 /// them can be left out with the rest sufficient. Without an expression the choice is empty.
 ///
-/// Each distinct licensee is compared with each requirement at most twice, and licensees with one
-/// another about `n * log n` times for n of them. Then at most one question more than there are
+/// Each licensee is compared with each requirement at most twice, and each useful one with the licensees
+/// before it. Then at most one question more than there are
 /// useful licensees is asked, each a walk over the nodes of the expressions. A list of the
 /// expressions takes memory.
 ///

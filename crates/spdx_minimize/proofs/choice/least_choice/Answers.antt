@@ -1,12 +1,23 @@
-use Rattle.std.proofs.Common.{rules, arith, ◌≡◌, ◌≤◌, ◌∙◌, sym, ap, List, length}
+use Rattle.std.proofs.Common.{rules, arith, ◌≡◌, ◌<◌, ◌≤◌, ◌∙◌, sym, ap, false, List, length}
 use Rattle.std.proofs.lemmas.List.{length-map}
 use Rattle.spdx_requirement.specs.Items.{Requirement}
 use Rattle.least_selection.specs.Selection.{IsLeast, NeedsEach, NoneSuffices}
 use Rattle.spdx_minimize.specs.Choice.{useful, chosen, chosen_of}
-use Rattle.spdx_minimize.specs.Trees.{trees_in}
+use Rattle.spdx_minimize.specs.Trees.{tree_of_nodes, trees_in}
 use Rattle.spdx_evaluation.specs.Requirements.{nows}
-use Rattle.spdx_minimize.proofs.Chosen.{choice_least, choice_unmet, of_judge}
+use Rattle.spdx_minimize.proofs.Chosen.{choice_least, choice_of_nobody, choice_unmet, of_judge}
 use Rattle.spdx_minimize.proofs.choice.least_choice.Goals as goal
+
+pub returns-then-not-is_empty-clause-err : goal.returns-then-not-is_empty-clause-err
+returns-then-not-is_empty-clause-err c =
+    let ts = trees_in c.args.lists.now in
+    let us = useful ts c.args.accepted.now in
+    let count : length c.in_ok-members.members.items ≡ length us = sym (length-map c.in_ok-members.members.items (λ m. m.now)) ∙ ap length c.in_ok-members.ensures in
+    let none : length us ≡ 0 = omega (arith, count, c.if-count-eq0.true, c.len-count.ensures) in
+    let many : length ts ≡ length c.args.lists.now = length-map c.args.lists.now tree_of_nodes in
+    let there : c.is_empty.result ≡ false = search rules in
+    let some : 0 < length ts = grind (arith, many, there, c.is_empty.ensures) in
+    choice_of_nobody ts us none some
 
 pub returns-then-not-select_least-clause-err : goal.returns-then-not-select_least-clause-err
 returns-then-not-select_least-clause-err c =
