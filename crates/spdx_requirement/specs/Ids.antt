@@ -17,5 +17,6 @@ id_row id = row_of (license_in id)
 abbrev pub exception_in : ExceptionId → Exception
 exception_in id = id.row.now
 
+-- and as definitions see it
 abbrev pub exception_row : ExceptionId → ExceptionRow
 exception_row id = exception_of (exception_in id)
