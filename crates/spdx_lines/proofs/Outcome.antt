@@ -8,7 +8,8 @@ use Rattle.spdx_parser.specs.Tree.{Tree}
 use Rattle.spdx_parser.specs.Last.{last_of, is_closing}
 use Rattle.spdx_parser.specs.Grammar.{Derives, IsViable, IsTheTree}
 use Rattle.spdx_parser.specs.Faults.{word_fault, IsLastOpen, IsEndFault, empty, short, unclosed, IsFaultOf, at_word, at_place, at_end}
-use Rattle.spdx_parser.specs.Machine.{State, start, step, run, built, built_on}
+use Rattle.spdx_parser.specs.Machine.{State, start, step, built}
+use Rattle.spdx_parser.proofs.Runs.{run, built_on}
 use Rattle.spdx_parser.proofs.Complete.{complete}
 use Rattle.spdx_parser.proofs.Sound.{run_none}
 use Rattle.spdx_parser.proofs.Theorem.{run_front, viable, not_viable, the_tree, no_tree}

@@ -12,7 +12,8 @@ use Rattle.spdx_parser.specs.Last.{Last, next_last, last_behind, last_of, is_clo
 use Rattle.spdx_parser.specs.Grammar.{may_stand, later_row}
 use Rattle.spdx_parser.specs.Faults.{opens, closes}
 use Rattle.spdx_parser.specs.Machine
-use Rattle.spdx_parser.specs.Machine.{Frame, State, Phase, run}
+use Rattle.spdx_parser.specs.Machine.{Frame, State, Phase}
+use Rattle.spdx_parser.proofs.Runs.{run}
 use Rattle.spdx_parser.proofs.Sound.{run_none}
 
 -- an expression can end there

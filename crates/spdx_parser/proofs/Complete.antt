@@ -9,6 +9,7 @@ use Rattle.spdx_parser.specs.declared.node.Operator.{Operator}
 use Rattle.spdx_parser.specs.Tree.{Tree, Leaf, Join}
 use Rattle.spdx_parser.specs.Grammar.{may_stand, later_row, Derives, IsTheTree}
 use Rattle.spdx_parser.specs.Machine
+use Rattle.spdx_parser.proofs.Runs
 use Rattle.spdx_parser.proofs.Threaded.{LicenseOf, plain, marked, later, named, unknown, AdditionOf, exception, named_addition, unknown_addition, LeafOf, alone, joined, PrimaryOf, leaf, group, AndOf, one_primary, and_more, OrOf, one_and, or_more, threaded}
 
 -- what may follow a chain of OR, a chain of AND, a primary and a licence
@@ -35,7 +36,7 @@ in_state p f fs = record { phase = p; frame = f; outer = fs }
 module _ (c : Rows) (m : ParseMode) where
   -- what the machine makes of the rest, from a state given by its parts
   abbrev from : Machine.Phase → Machine.Frame → List Machine.Frame → List Word → Option Tree
-  from p f fs ws = Machine.parsed c m (in_state p f fs) ws
+  from p f fs ws = Runs.parsed c m (in_state p f fs) ws
 
   -- a fresh licence is one where no plus follows
   fresh_named : (r : LicenseRow) (f : Machine.Frame) (fs : List Machine.Frame) (ws : List Word) → AfterLicense ws → from (Machine.Fresh r) f fs ws ≡ from (Machine.Named (listed r false)) f fs ws
@@ -44,20 +45,20 @@ module _ (c : Rows) (m : ParseMode) where
   fresh_named r f fs (_ ∷ ws) h = refl
 
   -- from a licence that may stand
-  stands : (r : LicenseRow) (s : Option Machine.State) (ws : List Word) → may_stand m r ≡ true → Machine.built_on (Machine.run c m (Machine.if_may (may_stand m r) s) ws) ≡ Machine.built_on (Machine.run c m s ws)
-  stands r s ws h = ap (λ b. Machine.built_on (Machine.run c m (Machine.if_may b s) ws)) h
+  stands : (r : LicenseRow) (s : Option Machine.State) (ws : List Word) → may_stand m r ≡ true → Runs.built_on (Runs.run c m (Machine.if_may (may_stand m r) s) ws) ≡ Runs.built_on (Runs.run c m s ws)
+  stands r s ws h = ap (λ b. Runs.built_on (Runs.run c m (Machine.if_may b s) ws)) h
 
   license_runs : {ws rest : List Word} {l : LicenseTerm} → LicenseOf c m ws l rest → AfterLicense rest → (f : Machine.Frame) (fs : List Machine.Frame) → from Machine.Due f fs ws ≡ from (Machine.Named l) f fs rest
   license_runs (plain {r = r} {rest = rest} may) h f fs = stands r _ rest may ∙ fresh_named r f fs rest h
   license_runs (marked {r = r} {rest = rest} may other) h f fs =
       stands r _ (Plus ∷ rest) may
-      ∙ ap (λ g. Machine.built_on (Machine.run c m (Machine.add_plus c m g r f fs) rest)) other
+      ∙ ap (λ g. Runs.built_on (Runs.run c m (Machine.add_plus c m g r f fs) rest)) other
   license_runs (later {r = r} {next = next} {rest = rest} may gnu allowed bare is) h f fs =
       stands r _ (Plus ∷ rest) may
-      ∙ ap (λ g. Machine.built_on (Machine.run c m (Machine.add_plus c m g r f fs) rest)) gnu
-      ∙ ap (λ b. Machine.built_on (Machine.run c m (Machine.if_may b (Machine.if_bare (ends_or_later r.name) (Machine.go_later (later_row c r) f fs))) rest)) allowed
-      ∙ ap (λ b. Machine.built_on (Machine.run c m (Machine.if_bare b (Machine.go_later (later_row c r) f fs)) rest)) bare
-      ∙ ap (λ o. Machine.built_on (Machine.run c m (Machine.go_later o f fs) rest)) is
+      ∙ ap (λ g. Runs.built_on (Runs.run c m (Machine.add_plus c m g r f fs) rest)) gnu
+      ∙ ap (λ b. Runs.built_on (Runs.run c m (Machine.if_may b (Machine.if_bare (ends_or_later r.name) (Machine.go_later (later_row c r) f fs))) rest)) allowed
+      ∙ ap (λ b. Runs.built_on (Runs.run c m (Machine.if_bare b (Machine.go_later (later_row c r) f fs)) rest)) bare
+      ∙ ap (λ o. Runs.built_on (Runs.run c m (Machine.go_later o f fs) rest)) is
   license_runs named h f fs = refl
   license_runs unknown h f fs = refl
 
@@ -117,7 +118,7 @@ module _ (c : Rows) (m : ParseMode) where
     or_runs (or_more {rest = rest} {t = t} {u = u} d e) h ors fs = and_runs d tt (record { ors = ors; ands = [] }) fs ∙ or_runs e h (t ∷ ors) fs ∙ take_or t u ors fs rest h
 
   -- what the grammar derives is what the machine builds
-  pub complete : (ws : List Word) (t : Tree) → Derives c m ws t → Machine.parsed c m Machine.start ws ≡ Some t
+  pub complete : (ws : List Word) (t : Tree) → Derives c m ws t → Runs.parsed c m Machine.start ws ≡ Some t
   complete ws t d = or_runs (threaded c m d) tt [] []
 
   -- words mean one tree at most

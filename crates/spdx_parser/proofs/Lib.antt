@@ -1,3 +1,4 @@
+pub mod Runs
 pub mod Complete
 pub mod Sound
 pub mod Theorem

@@ -24,6 +24,7 @@ use Rattle.spdx_requirement.specs.declared.failure.Failure.TheVariants.{Refused}
 use Rattle.spdx_requirement.specs.Failures.{IfRefused}
 use Rattle.spdx_parser.specs.Meaning.{IsParsed, IsRefused}
 use Rattle.spdx_parser.specs.Machine as machine
+use Rattle.spdx_parser.proofs.Runs as runs
 use Rattle.spdx_parser.specs.Code.{IsKnown}
 use Rattle.spdx_parser.specs.State.{State, start, step, all_joined, require, if_taken}
 use Rattle.spdx_parser.specs.ParserModel.{opened_of}
@@ -105,7 +106,7 @@ module _ (c : Rows) (m : ParseMode) (text : List ℕ) where
   pub record Reads (read : List Placed) (left : List Item) (is_empty : Bool) (s : State) : Type 0 where
     pub so_far : reading c m 0 text ≡ map Ok read ++ left
     pub state : machine.State
-    pub reached : machine.run c m (Some machine.start) (words read) ≡ Some state
+    pub reached : runs.run c m (Some machine.start) (words read) ≡ Some state
     pub shows : Shows state.phase state.frame state.outer s
     pub last_is : s.last ≡ last_of (words read)
     pub spans_are : spans_of s ≡ license_spans Due read
@@ -157,7 +158,7 @@ module _ (c : Rows) (m : ParseMode) (text : List ℕ) where
         go (Some state) h (shows, k) = record {
           so_far = r.so_far ∙ ap (λ xs. map Ok read ++ xs) is ∙ sym (append_assoc (map Ok read) (Ok (w, at) ∷ []) more) ∙ ap (λ xs. xs ++ more) (sym (map-append Ok read ((w, at) ∷ [])));
           state = state;
-          reached = ap (λ ws. machine.run c m (Some machine.start) ws) (words_more w at) ∙ run_front c m (words read) (w ∷ []) (Some r.state) r.reached ∙ h;
+          reached = ap (λ ws. runs.run c m (Some machine.start) ws) (words_more w at) ∙ run_front c m (words read) (w ∷ []) (Some r.state) r.reached ∙ h;
           shows = shows;
           last_is = k.last_is ∙ ap (λ last. next_last last w) r.last_is ∙ sym (last_more Due (words read) w) ∙ ap last_of (sym (words_more w at));
           spans_are = k.spans_are ∙ ap (λ last. add_span (is_license last w) (spans_of s) at) r.last_is ∙ ap (λ xs. add_span (is_license (last_of (words read)) w) xs at) r.spans_are ∙ sym (spans_more Due read w at);
@@ -201,8 +202,8 @@ module _ (c : Rows) (m : ParseMode) (text : List ℕ) where
           nil [] e = refl
           nil (x ∷ xs) e = absurd cc
 
-          no_tree_of : (state : machine.State) → machine.run c m (Some machine.start) (words read) ≡ Some state → is_empty ≡ true → (t : Tree) → Derives c m (words read) t → ⊥
-          no_tree_of state reached e t d = let a = complete c m (words read) t d in let b : machine.parsed c m machine.start [] ≡ Some t = subst (λ (xs : List Placed). machine.parsed c m machine.start (words xs) ≡ Some t) (nil read (sym r.begun ∙ e)) a in cc
+          no_tree_of : (state : machine.State) → runs.run c m (Some machine.start) (words read) ≡ Some state → is_empty ≡ true → (t : Tree) → Derives c m (words read) t → ⊥
+          no_tree_of state reached e t d = let a = complete c m (words read) t d in let b : runs.parsed c m machine.start [] ≡ Some t = subst (λ (xs : List Placed). runs.parsed c m machine.start (words xs) ≡ Some t) (nil read (sym r.begun ∙ e)) a in cc
 
           go : (xs : List Placed) → reading c m 0 text ≡ map Ok xs → IsViable c m (words xs) → ((t : Tree) → Derives c m (words xs) t → ⊥) → is_nil xs ≡ true → IsFaultOf c m text Empty (span 0 (length text))
           go [] e v none is = at_end [] e v none empty
@@ -246,7 +247,7 @@ module _ (c : Rows) (m : ParseMode) (text : List ℕ) where
           bottom : r.state.outer ≡ [] → IsParsed c m text nodes
           bottom outer =
               let (t, ended, joined) = ends r.state.phase r.state.frame s (subst (λ fs. Shows r.state.phase r.state.frame fs s) outer r.shows) closing in
-              let final : machine.parsed c m machine.start (words read) ≡ Some t = ap machine.built_on r.reached ∙ ap (λ fs. machine.finish r.state.phase r.state.frame fs) outer ∙ ended in
+              let final : runs.parsed c m machine.start (words read) ≡ Some t = ap runs.built_on r.reached ∙ ap (λ fs. machine.finish r.state.phase r.state.frame fs) outer ∙ ended in
               let meant = the_tree c m (words read) t final in
               record {
                 read = read;

@@ -10,6 +10,7 @@ use Rattle.spdx_parser.specs.declared.node.Operator.{Operator}
 use Rattle.spdx_parser.specs.Tree.{Tree, Join}
 use Rattle.spdx_parser.specs.Grammar.{may_stand, later_row, reference, Derives}
 use Rattle.spdx_parser.specs.Machine
+use Rattle.spdx_parser.proofs.Runs
 use Rattle.spdx_parser.specs.Machine.{Frame, State, Phase, fold}
 use Rattle.spdx_parser.proofs.Threaded.{LicenseOf, plain, marked, later, named, unknown, AdditionOf, exception, named_addition, unknown_addition, alone, joined, PrimaryOf, leaf, group, AndOf, one_primary, and_more, OrOf, one_and, or_more, derives}
 
@@ -74,7 +75,7 @@ module _ (c : Rows) (m : ParseMode) where
   license_of may (plus_marked other) = marked may other
   license_of may (plus_later gnu allowed bare is) = later may gnu allowed bare is
 
-  pub run_none : (ws : List Word) → Machine.run c m None ws ≡ None
+  pub run_none : (ws : List Word) → Runs.run c m None ws ≡ None
   run_none [] = refl
   run_none (w ∷ ws) = run_none ws
 
@@ -166,13 +167,13 @@ module _ (c : Rows) (m : ParseMode) where
     end_law (Machine.Joined l) f fs e = absurd cc
     end_law (Machine.Whole t) f fs e = ends_here f fs t [] (bottom_law _ fs e)
 
-    runs_law : (o : Option State) (ws : List Word) → Machine.built_on (Machine.run c m o ws) ≡ Some final → After o ws
-    runs_law None ws e = absurd (let n = run_none ws in let p : Machine.built_on None ≡ Some final = subst (λ o. Machine.built_on o ≡ Some final) n e in cc)
+    runs_law : (o : Option State) (ws : List Word) → Runs.built_on (Runs.run c m o ws) ≡ Some final → After o ws
+    runs_law None ws e = absurd (let n = run_none ws in let p : Runs.built_on None ≡ Some final = subst (λ o. Runs.built_on o ≡ Some final) n e in cc)
     runs_law (Some s) [] e = end_law s.phase s.frame s.outer e
     runs_law (Some s) (w ∷ ws) e = law s.phase s.frame s.outer w ws (runs_law (Machine.step c m s w) ws e)
 
     -- what the machine builds is what the grammar derives
-    pub sound : (ws : List Word) → Machine.parsed c m Machine.start ws ≡ Some final → Derives c m ws final
+    pub sound : (ws : List Word) → Runs.parsed c m Machine.start ws ≡ Some final → Derives c m ws final
     sound ws e =
         let h = runs_law (Some Machine.start) ws e in
         let k = h.3 in

@@ -120,30 +120,5 @@ finish (Named l) f fs = at_bottom (close_frame f (bare_leaf l)) fs
 finish (Joined l) f fs = None
 finish (Whole t) f fs = at_bottom (close_frame f t) fs
 
--- a primary of what was read last, where the words may end
-abbrev pub end_phase : Phase → Frame → List Frame → Option State
-end_phase Due f fs = None
-end_phase (Fresh r) f fs = goes_to (Whole (bare_leaf (listed r false))) f fs
-end_phase (Named l) f fs = goes_to (Whole (bare_leaf l)) f fs
-end_phase (Joined l) f fs = None
-end_phase (Whole t) f fs = goes_to (Whole t) f fs
-
 abbrev pub built : State → Option Tree
 built s = finish s.phase s.frame s.outer
-
-abbrev pub step_on : Rows → ParseMode → Option State → Word → Option State
-step_on c m None w = None
-step_on c m (Some s) w = step c m s w
-
--- the state after all the words
-abbrev pub run : Rows → ParseMode → Option State → List Word → Option State
-run c m s [] = s
-run c m s (w ∷ ws) = run c m (step_on c m s w) ws
-
-abbrev pub built_on : Option State → Option Tree
-built_on None = None
-built_on (Some s) = built s
-
--- the tree of all the words, from a state
-abbrev pub parsed : Rows → ParseMode → State → List Word → Option Tree
-parsed c m s ws = built_on (run c m (Some s) ws)

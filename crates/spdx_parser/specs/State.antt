@@ -28,6 +28,7 @@ pub record State : Type 0 where
   -- the parentheses that are open, the innermost first, each with its place and the frame that it stands in
   pub opened : List (Span × Frame)
 
+-- nothing waits
 abbrev pub empty_frame : Frame
 empty_frame = record { ors = 0; ands = 0 }
 
@@ -35,10 +36,11 @@ empty_frame = record { ors = 0; ands = 0 }
 abbrev pub start : State
 start = record { last = Due; license = None; place = span 0 0; nodes = []; frame = empty_frame; opened = [] }
 
+-- an operator, so many times
 abbrev pub operators : Operator → ℕ → List PlacedNode
 operators o n = replicate n (Op o, None)
 
--- a licence was read
+-- a licence, which stands there, is what was read last
 abbrev pub name_as : State → Last → LicenseTerm → Span → State
 name_as s last l at = record s { last = last; license = Some l; place = at }
 
@@ -51,10 +53,11 @@ abbrev pub leaf_of : Option LicenseTerm → Span → Option Addition → List Pl
 leaf_of None at a = []
 leaf_of (Some l) at a = (Req (record { license = l; addition = a }), Some at) ∷ []
 
--- the licence becomes a requirement, with this addition
+-- the licence becomes a requirement, with this addition; what may follow is what may follow an addition
 abbrev pub require : State → Option Addition → State
 require s a = record s { last = Added; license = None; nodes = s.nodes ++ leaf_of s.license s.place a }
 
+-- a `)` closes the innermost parenthesis
 abbrev pub close : State → List (Span × Frame) → Option State
 close s [] = None
 close s (o ∷ outer) = Some (record s { last = Closed; nodes = all_joined s; frame = o.1; opened = outer })
@@ -95,6 +98,7 @@ read_joined s (AdditionRef d n) = Some (require s (Some (added (reference d n)))
 read_joined s (Unknown n) = Some (require s (Some (added (reference None n))))
 read_joined s w = None
 
+-- behind such a one
 abbrev pub read_behind : Rows → ParseMode → Last → State → Word → Span → Option State
 read_behind c m Due s w at = read_due m s w at
 read_behind c m (Listed r) s w at = read_listed c m r s w

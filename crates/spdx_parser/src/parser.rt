@@ -24,14 +24,14 @@ use std::ops::Range;
 
 /// How many left sides of OR wait for their right side, and above them how many of AND.
 #[derive(Clone, Copy)]
-pub struct Frame {
+pub(crate) struct Frame {
     pub ors: usize,
     pub ands: usize,
 }
 
 /// A parenthesis that is open, and the frame that it stands in.
 #[derive(Drop)]
-pub struct Opened {
+pub(crate) struct Opened {
     pub place: Range<usize>,
     pub around: Frame,
 }
@@ -40,7 +40,7 @@ pub struct Opened {
 /// frame, what was read last, the licence that is no requirement yet, and where the last licence
 /// stands.
 #[derive(Drop)]
-pub struct Parser<'c, 't> {
+pub(crate) struct Parser<'c, 't> {
     pub alloc: Global,
     pub nodes: NodeList<'c>,
     pub opened: Vec<Opened>,

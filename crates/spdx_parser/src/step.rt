@@ -185,7 +185,7 @@ impl<'c, 't> Parser<'c, 't> {
     }
 
     /// Takes a token, or says that it cannot stand here.
-    pub fn read(
+    pub(crate) fn read(
         &mut self,
         catalogue: &'c Catalogue,
         mode: ParseMode,
@@ -207,7 +207,7 @@ impl<'c, 't> Parser<'c, 't> {
     }
 
     /// Writes what waits, where an expression may end.
-    pub fn finish(&mut self) -> Result<(), AllocError>
+    pub(crate) fn finish(&mut self) -> Result<(), AllocError>
         ensures { OnOk result (self.new.nodes ≡ all_joined (states.require self.old None)) }
     {
         self.require(None)?;
