@@ -1,6 +1,6 @@
 -- What the machine comes to behind all of some words.
 use Rattle.std.proofs.Common.{List, [], ◌∷◌, Option, Some, None}
-use Rattle.spdx_catalogue.specs.Rows.{Rows}
+use Rattle.spdx_requirement.specs.Rows.{Rows}
 use Rattle.spdx_lexer.specs.declared.token.ParseMode.{ParseMode}
 use Rattle.spdx_lexer.specs.Words.{Word}
 use Rattle.spdx_parser.specs.Tree.{Tree}
