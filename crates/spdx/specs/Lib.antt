@@ -29,7 +29,7 @@ pub use Rattle.spdx_catalogue.specs.NameOrders
 pub use Rattle.spdx_catalogue.specs.Names
 pub use Rattle.spdx_catalogue.specs.Reading as CatalogueReading
 pub use Rattle.spdx_catalogue.specs.RowRules
-pub use Rattle.least_selection.specs.Selection
+pub use Rattle.sufficiency.specs.Selection
 pub use Rattle.spdx_lexer.specs.Code as LexerCode
 pub use Rattle.spdx_lexer.specs.Faults as LexerFaults
 pub use Rattle.spdx_lexer.specs.Layout

@@ -16,10 +16,10 @@ pub mod lexer {
 
 pub use crate::error::{CatalogueError, Error, Failure, MinimizeError, ParseError, ReadFault};
 pub use crate::expression::{Expression, ExpressionJudge, minimized_for_all};
-pub use least_selection::{Sufficiency, select_least};
 pub use spdx_catalogue::{
     AdditionItem, AdditionRef, Catalogue, Exception, ExceptionId, ImpreciseName, License,
     LicenseId, LicenseItem, LicenseRef, LicenseReq, flags,
 };
 pub use spdx_lexer::token::ParseMode;
 pub use spdx_licensee::Licensee;
+pub use sufficiency::{Sufficiency, least_selection};

@@ -1,6 +1,6 @@
 -- The least selection, found as the first that suffices and as the one that leaves out more of the last members.
 use Rattle.std.specs.Prelude.{◌≡◌, ◌↔◌, ℕ, Bool, List, Some}
-use Rattle.least_selection.specs.Selection.{IsLeast}
+use Rattle.sufficiency.specs.Selection.{IsLeast}
 use Rattle.spdx_minimize.specs.Choice.{least_of}
 
 abbrev pub IsFirstLeast : Type 0

@@ -11,11 +11,11 @@ ghost use Rattle.spdx_minimize.specs.Trees.{trees_in};
 use crate::judge::NodesJudge;
 use crate::nodes::TreeNodes;
 use crate::useful::useful_members;
-use least_selection::select_least;
 use spdx_catalogue::{Failure, LicenseReq};
 use spdx_error::MinimizeError;
 use spdx_licensee::Licensee;
 use std::alloc::{AllocError, Global};
+use sufficiency::least_selection;
 
 /// The requirements of the licensees in the least choice that makes every one of some expressions
 /// true, in the order of `accepted`; a requirement is met if a chosen licensee satisfies it.
@@ -58,7 +58,7 @@ pub fn least_choice<'a, 'c: 'a>(
     let mut judge = NodesJudge::new(alloc, lists, members.as_slice())?;
     let mut selection = Vec::from_elem(alloc, false, count)?;
     let places = selection.as_mut_slice();
-    if !select_least(&mut judge, places) {
+    if !least_selection(&mut judge, places) {
         return Err(Failure::Refused(MinimizeError::RequirementsUnmet));
     }
     Ok(chosen_requirements(alloc, members.as_slice(), places)?)

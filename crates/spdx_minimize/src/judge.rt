@@ -12,11 +12,11 @@ ghost use Rattle.spdx_minimize.specs.Places.{places, places_in, met_by, any_at, 
 use crate::nodes::TreeNodes;
 use crate::question::Question;
 use bit_stack::Truths;
-use least_selection::Sufficiency;
 use spdx_catalogue::LicenseReq;
 use spdx_licensee::Licensee;
 use spdx_parser::node::{ExprNode, Operator};
 use std::alloc::{AllocError, Global};
+use sufficiency::Sufficiency;
 
 /// Judges selections of some members: one suffices if it makes every one of some expressions true,
 /// where a requirement is met if a chosen member satisfies it.

@@ -3,8 +3,8 @@
 use crate::answer::{Answer, NoAnswer, fields};
 use spdx::expression::MinimizeError;
 use spdx::{
-    Catalogue, Expression, ExpressionJudge, Failure, LicenseReq, Licensee, minimized_for_all,
-    select_least,
+    Catalogue, Expression, ExpressionJudge, Failure, LicenseReq, Licensee, least_selection,
+    minimized_for_all,
 };
 use std::alloc::Global;
 
@@ -91,7 +91,7 @@ fn asked<'c>(
     }
     let mut judge = ExpressionJudge::new(alloc, &expression, members.as_slice())?;
     let mut selection = Vec::from_elem(alloc, false, members.len())?;
-    let suffices = select_least(&mut judge, selection.as_mut_slice());
+    let suffices = least_selection(&mut judge, selection.as_mut_slice());
     let are_few = judge.asked() <= (members.len() as u64).saturating_add(1);
     let chosen = selection.iter().filter(|is_chosen| **is_chosen).count();
     Ok(format!(in alloc; "{suffices}, {chosen} chosen, few questions: {are_few}")?)

@@ -1,7 +1,7 @@
 use Rattle.std.proofs.Common.{rules, arith, ◌≡◌, ◌<◌, ◌≤◌, ◌∙◌, sym, ap, false, List, length}
 use Rattle.std.proofs.lemmas.List.{length-map}
 use Rattle.spdx_requirement.specs.Items.{Requirement}
-use Rattle.least_selection.specs.Selection.{IsLeast, NeedsEach, NoneSuffices}
+use Rattle.sufficiency.specs.Selection.{IsLeast, NeedsEach, NoneSuffices}
 use Rattle.spdx_minimize.specs.Choice.{useful, chosen, chosen_of}
 use Rattle.spdx_minimize.specs.Trees.{tree_of_nodes, trees_in}
 use Rattle.spdx_evaluation.specs.Requirements.{nows}
@@ -19,8 +19,8 @@ returns-then-not-is_empty-clause-err c =
     let some : 0 < length ts = grind (arith, many, there, c.is_empty.ensures) in
     choice_of_nobody ts us none some
 
-pub returns-then-not-select_least-clause-err : goal.returns-then-not-select_least-clause-err
-returns-then-not-select_least-clause-err c =
+pub returns-then-not-least_selection-clause-err : goal.returns-then-not-least_selection-clause-err
+returns-then-not-least_selection-clause-err c =
     let ts = trees_in c.args.lists.now in
     let us = useful ts c.args.accepted.now in
     let same = c.in_ok-members.ensures in
@@ -28,7 +28,7 @@ returns-then-not-select_least-clause-err c =
     let few : length us ≤ 1024 = omega (arith, count, c.if-count-gt1024.false, c.len-count.ensures) in
     let named = c.in_ok-judge.ensures.members ∙ ap nows c.as_slice.ensures.value ∙ same in
     let each = c.in_ok-judge.ensures.count ∙ ap length c.as_slice.ensures.value ∙ count in
-    let none = c.select_least.ensures.none_suffices (search rules) in
+    let none = c.least_selection.ensures.none_suffices (search rules) in
     choice_unmet ts us few (of_judge NoneSuffices _ ts _ us _ c.in_ok-judge.ensures.trees named each none)
 
 pub returns-clause-ok : goal.returns-clause-ok
@@ -40,8 +40,8 @@ returns-clause-ok c =
     let few : length us ≤ 1024 = omega (arith, count, c.if-count-gt1024.false, c.len-count.ensures) in
     let named = c.in_ok-judge.ensures.members ∙ ap nows c.as_slice.ensures.value ∙ same in
     let each = c.in_ok-judge.ensures.count ∙ ap length c.as_slice.ensures.value ∙ count in
-    let s = c.select_least.new.selection in
-    let least = c.select_least.ensures.least (search rules) in
+    let s = c.least_selection.new.selection in
+    let least = c.least_selection.ensures.least (search rules) in
     let moved : IsLeast _ (length us) s = of_judge (λ f n. IsLeast f n s) _ ts _ us _ c.in_ok-judge.ensures.trees named each least in
     choice_least ts us s few moved ∙ ap chosen (sym (c.in_ok-chosen_requirements.ensures ∙ ap (λ (z : List Requirement). chosen_of z s) (ap nows c.as_slice-2.ensures.value ∙ same)))
 
@@ -53,9 +53,9 @@ returns-clause-least c =
     let count : length c.in_ok-members.members.items ≡ length us = sym (length-map c.in_ok-members.members.items (λ m. m.now)) ∙ ap length same in
     let named = c.in_ok-judge.ensures.members ∙ ap nows c.as_slice.ensures.value ∙ same in
     let each = c.in_ok-judge.ensures.count ∙ ap length c.as_slice.ensures.value ∙ count in
-    let s = c.select_least.new.selection in
-    let least = c.select_least.ensures.least (search rules) in
-    let needed = c.select_least.ensures.needed (search rules) in
+    let s = c.least_selection.new.selection in
+    let least = c.least_selection.ensures.least (search rules) in
+    let needed = c.least_selection.ensures.needed (search rules) in
     record {
       selection = s;
       least = of_judge (λ f n. IsLeast f n s) _ ts _ us _ c.in_ok-judge.ensures.trees named each least;

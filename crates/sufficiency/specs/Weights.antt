@@ -2,7 +2,7 @@
 use Rattle.std.specs.Prelude.{◌≡◌, ℕ, ◌+◌, ◌≤◌, cond, Bool, true, false, List, [], ◌∷◌, nat_le}
 use Rattle.std.proofs.Common.{arith, refl}
 use Rattle.std.proofs.lemmas.Bool.Decides.{nat_tests}
-use Rattle.least_selection.specs.Selection.{IsWithin}
+use Rattle.sufficiency.specs.Selection.{IsWithin}
 
 -- the sum of the weights of the chosen members
 abbrev pub chosen_sum : List ℕ → List Bool → ℕ

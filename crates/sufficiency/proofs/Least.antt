@@ -1,7 +1,7 @@
 -- Going from the last member to the first: what is decided so far, and one step.
 use Rattle.std.proofs.Common.{◌≡◌, ℕ, zero, suc, ◌+◌, Bool, true, false, List, [], ◌∷◌, ◌++◌, length, ◌⊎◌, replicate, set, refl, sym, ◌∙◌, ap, subst, inl, inr, arith}
 use Rattle.std.proofs.lemmas.List.{append-nil, append_assoc, set_at, length-replicate, length-append, replicate_more, nil_from_length}
-use Rattle.least_selection.specs.Selection.{IsWithin, IsLeast, LeavesOutLast, everything}
+use Rattle.sufficiency.specs.Selection.{IsWithin, IsLeast, LeavesOutLast, everything}
 
 pub within_refl : (xs : List Bool) → IsWithin xs xs
 within_refl [] = tt

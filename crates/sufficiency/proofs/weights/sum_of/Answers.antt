@@ -1,8 +1,8 @@
 use Rattle.std.proofs.Common.{arith, ◌≡◌, length, ℕ, List, Bool, false, ◌+◌, ◌<◌, rules, cond, drop, get_or}
 use Rattle.std.proofs.lemmas.List.{drop_more}
-use Rattle.least_selection.specs.Weights.{chosen_sum}
-use Rattle.least_selection.proofs.weights.sum_of.Goals as goal
-use Rattle.least_selection.proofs.weights.sum_of.Goals.{then-selection-i, else-selection-i}
+use Rattle.sufficiency.specs.Weights.{chosen_sum}
+use Rattle.sufficiency.proofs.weights.sum_of.Goals as goal
+use Rattle.sufficiency.proofs.weights.sum_of.Goals.{then-selection-i, else-selection-i}
 
 step : (ws : List ℕ) (bs : List Bool) (i : ℕ) → i < length ws → i < length bs → chosen_sum (drop i ws) (drop i bs) ≡ cond (get_or bs i false) (get_or ws i 0) 0 + chosen_sum (drop (i + 1) ws) (drop (i + 1) bs)
 step ws bs i h k = rw (drop_more ws i 0 h, drop_more bs i false k) search rules

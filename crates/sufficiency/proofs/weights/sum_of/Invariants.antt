@@ -1,6 +1,6 @@
 use Rattle.std.proofs.Common.{◌≡◌, ◌+◌, ◌*◌, ◌≤◌, drop}
-use Rattle.least_selection.specs.Weights.{chosen_sum}
-use Rattle.least_selection.proofs.weights.sum_of.Given as goal
+use Rattle.sufficiency.specs.Weights.{chosen_sum}
+use Rattle.sufficiency.proofs.weights.sum_of.Given as goal
 
 abbrev pub invariant-loop-i : goal.invariant-loop-i
 invariant-loop-i l = record {

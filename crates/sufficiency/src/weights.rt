@@ -1,9 +1,9 @@
 //! Members with weights: a selection suffices if the chosen weights add up to at least the goal.
 
 ghost use Rattle.std.specs.Prelude.{◌≡◌, ◌+◌, ◌*◌, ◌≤◌, ◌<◌, ◌^◌, ℕ, Bool, List, length, true, false, nat_le};
-ghost use Rattle.least_selection.specs.Weights.{chosen_sum};
+ghost use Rattle.sufficiency.specs.Weights.{chosen_sum};
 
-use crate::{Sufficiency, select_least};
+use crate::{Sufficiency, least_selection};
 use std::test::Fail;
 
 /// Weights, the goal of their sum, and the number of questions so far.
@@ -31,7 +31,7 @@ impl Sufficiency for Weights<'_> {
         self.goal <= sum_of(self.weights, selection)
     }
 
-    ghost use Rattle.least_selection.specs.Weights.{enough_grows};
+    ghost use Rattle.sufficiency.specs.Weights.{enough_grows};
 
     ghost grows = { λ w some more e h f. enough_grows w.goal w.weights.now some more h f };
 }
@@ -65,7 +65,7 @@ fn chooses(weights: &[u8], goal: u64, answer: bool, chosen: &[bool]) -> bool
         goal,
         asked: 0,
     };
-    select_least(&mut judge, selection) == answer
+    least_selection(&mut judge, selection) == answer
         && *selection == *chosen
         && judge.asked <= weights.len() as u64 + 1
 }

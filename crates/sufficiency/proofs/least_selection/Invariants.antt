@@ -1,6 +1,6 @@
 use Rattle.std.proofs.Common.{◌≡◌, ◌+◌, ◌≤◌}
-use Rattle.least_selection.proofs.Least.{Choosing}
-use Rattle.least_selection.proofs.select_least.Given as goal
+use Rattle.sufficiency.proofs.Least.{Choosing}
+use Rattle.sufficiency.proofs.least_selection.Given as goal
 
 abbrev pub invariant-loop-i : goal.invariant-loop-i
 invariant-loop-i g l = record {

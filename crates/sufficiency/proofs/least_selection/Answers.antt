@@ -1,8 +1,8 @@
 use Rattle.std.proofs.Common.{rules, ◌≡◌, ◌∙◌, sym, ap, subst, arith, ◌+◌, ℕ, Bool, List, length, true, false, ◌-◌, ◌<◌, replicate, slice_set}
-use Rattle.least_selection.specs.Selection.{everything, IsLeast}
-use Rattle.least_selection.proofs.Least.{Choosing, starts, drops, keeps, ends}
-use Rattle.least_selection.proofs.Only.{only_least, needs_each, none_suffices}
-use Rattle.least_selection.proofs.select_least.Goals as goal
+use Rattle.sufficiency.specs.Selection.{everything, IsLeast}
+use Rattle.sufficiency.proofs.Least.{Choosing, starts, drops, keeps, ends}
+use Rattle.sufficiency.proofs.Only.{only_least, needs_each, none_suffices}
+use Rattle.sufficiency.proofs.least_selection.Goals as goal
 
 -- the same state of the choice, where the place is one less
 one_less : (suffices : List Bool → Bool) (n i : ℕ) (chosen : List Bool) → 0 < i → Choosing suffices n i chosen → Choosing suffices n (i - 1 + 1) chosen

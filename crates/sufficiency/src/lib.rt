@@ -5,7 +5,7 @@
 #![tactic(auto)]
 
 ghost use Rattle.std.specs.Prelude.{◌≡◌, ◌+◌, ◌≤◌, ℕ, Bool, List, length, true, false};
-ghost use Rattle.least_selection.specs.Selection.{IsWithin, IsLeast, IsOnlyLeast, NeedsEach, NoneSuffices, everything, one_more};
+ghost use Rattle.sufficiency.specs.Selection.{IsWithin, IsLeast, IsOnlyLeast, NeedsEach, NoneSuffices, everything, one_more};
 
 /// Which selections of some members suffice. A selection has a truth for each member, true where
 /// the member is chosen.
@@ -40,7 +40,7 @@ pub trait Sufficiency {
 /// member on which the two differ; none of its members can be left out with the rest sufficient.
 /// The answer is false exactly if not even all members together suffice, and then the slice holds
 /// all of them. For n members at most n + 1 questions are asked.
-pub fn select_least<S: Sufficiency>(judge: &mut S, selection: &mut [bool]) -> bool
+pub fn least_selection<S: Sufficiency>(judge: &mut S, selection: &mut [bool]) -> bool
     requires { length selection.old ≡ S.count judge.old }
     ensures answer { result ≡ S.suffices judge.old (everything (S.count judge.old)) }
     ensures none { result ≡ false → selection.new ≡ everything (S.count judge.old) }

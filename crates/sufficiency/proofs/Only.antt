@@ -1,6 +1,6 @@
 -- The least selection is the only one, and needs each of its members.
 use Rattle.std.proofs.Common.{◌≡◌, ◌≢◌, ℕ, zero, suc, Bool, true, false, List, [], ◌∷◌, ◌++◌, length, ◌⊎◌, refl, sym, ◌∙◌, subst, inl, inr, arith}
-use Rattle.least_selection.specs.Selection.{IsWithin, IsLeast, IsOnlyLeast, NeedsEach, NoneSuffices, everything}
+use Rattle.sufficiency.specs.Selection.{IsWithin, IsLeast, IsOnlyLeast, NeedsEach, NoneSuffices, everything}
 
 same_or_not : (xs ys : List Bool) → (xs ≡ ys) ⊎ (xs ≢ ys)
 same_or_not [] [] = inl refl
