@@ -63,7 +63,8 @@ impl Truths {
     /// Takes the newest truth off, if there is one.
     pub fn pop(&mut self) -> Option<bool>
         ensures none { result ≡ None → (self.old.items ≡ []) × (self.new.items ≡ []) }
-        ensures some { (truth : Bool) → result ≡ Some truth → self.old.items ≡ truth ∷ self.new.items }
+        ensures some { (truth : Bool) → result ≡ Some truth →
+            self.old.items ≡ truth ∷ self.new.items }
         ensures room { self.new.room ≡ self.old.room }
     {
         if self.used == 0 {

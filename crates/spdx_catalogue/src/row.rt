@@ -25,7 +25,8 @@ pub(crate) trait Row: Drop {
 
     /// The first of its rules that the row breaks, behind a row of that name.
     fn fault(&self, previous: Option<&str>, row: usize) -> Option<CatalogueError>
-        ensures { result ≡ first_broken (rules (option_copied previous.entry) row (shown self.now)) };
+        ensures { result
+            ≡ first_broken (rules (option_copied previous.entry) row (shown self.now)) };
 }
 
 fn name_fault(

@@ -164,7 +164,8 @@ impl Ord for LicenseId<'_> {
 impl PartialOrd for LicenseId<'_> {
     ghost partial_cmp = { as_partial_cmp (on (λ i. (license_in i).index) nat_cmp) };
 
-    ghost laws = { partial_order_from_own_ties (Prim.search (comparing, rules)) (Prim.search (comparing, rules)) };
+    ghost laws = { partial_order_from_own_ties
+        (Prim.search (comparing, rules)) (Prim.search (comparing, rules)) };
 
     fn partial_cmp(&self, other: &Self) -> Option<Ordering> {
         Some(self.cmp(other))
@@ -210,7 +211,8 @@ impl Ord for ExceptionId<'_> {
 impl PartialOrd for ExceptionId<'_> {
     ghost partial_cmp = { as_partial_cmp (on (λ i. (exception_in i).index) nat_cmp) };
 
-    ghost laws = { partial_order_from_own_ties (Prim.search (comparing, rules)) (Prim.search (comparing, rules)) };
+    ghost laws = { partial_order_from_own_ties
+        (Prim.search (comparing, rules)) (Prim.search (comparing, rules)) };
 
     fn partial_cmp(&self, other: &Self) -> Option<Ordering> {
         Some(self.cmp(other))

@@ -31,7 +31,9 @@ pub trait Sufficiency {
         ensures same_meaning { suffices self.new ≡ suffices self.old }
         ensures question { asked self.new ≡ one_more (asked self.old) };
 
-    ghost grows: { (judge : Self) (some more : List Bool) → length some ≡ count judge → IsWithin some more → suffices judge some ≡ true → suffices judge more ≡ true };
+    ghost grows: { (judge : Self) (some more : List Bool) →
+        length some ≡ count judge → IsWithin some more →
+        suffices judge some ≡ true → suffices judge more ≡ true };
 }
 
 /// Writes the least selection that suffices into the slice, whose items on entry don't count.
@@ -44,9 +46,12 @@ pub fn least_selection<S: Sufficiency>(judge: &mut S, selection: &mut [bool]) ->
     requires { length selection.old ≡ S.count judge.old }
     ensures answer { result ≡ S.suffices judge.old (everything (S.count judge.old)) }
     ensures none { result ≡ false → selection.new ≡ everything (S.count judge.old) }
-    ensures none_suffices { result ≡ false → NoneSuffices (S.suffices judge.old) (S.count judge.old) }
-    ensures least { result ≡ true → IsLeast (S.suffices judge.old) (S.count judge.old) selection.new }
-    ensures only { result ≡ true → IsOnlyLeast (S.suffices judge.old) (S.count judge.old) selection.new }
+    ensures none_suffices { result ≡ false →
+        NoneSuffices (S.suffices judge.old) (S.count judge.old) }
+    ensures least { result ≡ true →
+        IsLeast (S.suffices judge.old) (S.count judge.old) selection.new }
+    ensures only { result ≡ true →
+        IsOnlyLeast (S.suffices judge.old) (S.count judge.old) selection.new }
     ensures needed { result ≡ true → NeedsEach (S.suffices judge.old) selection.new }
     ensures same_members { S.count judge.new ≡ S.count judge.old }
     ensures same_meaning { S.suffices judge.new ≡ S.suffices judge.old }
