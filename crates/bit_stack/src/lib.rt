@@ -25,7 +25,10 @@ impl Model for Truths {
 
     ghost Value = { Stack };
 
-    ghost view = { λ s. record { items = bits s.used s.top (words_bits s.full.items []); room = 64 * s.full.capacity + 64 } };
+    ghost view = { λ s. record {
+      items = bits s.used s.top (words_bits s.full.items []);
+      room = 64 * s.full.capacity + 64;
+    } };
 
     ghost invariant = { λ s. (s.used ≤ 64) × (s.top < 2 ^ s.used) };
 }

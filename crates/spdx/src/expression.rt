@@ -117,7 +117,8 @@ impl<'c> Expression<'c> {
 // The nodes once more, spans included.
 fn clone_nodes<'c>(alloc: Global, nodes: &[ExprNode<'c>]) -> Result<NodeList<'c>, AllocError>
     ensures nodes { IfOk result (λ copy. map node_of copy.items ≡ map node_of nodes.now) }
-    ensures spans { IfOk result (λ copy. requirement_spans copy.items ≡ requirement_spans nodes.now) }
+    ensures spans { IfOk result (λ copy.
+        requirement_spans copy.items ≡ requirement_spans nodes.now) }
 {
     let mut copy = SmallVec::new(alloc);
     for node in nodes {

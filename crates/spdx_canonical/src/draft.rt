@@ -78,7 +78,8 @@ impl<'t> Draft<'t> {
 
     // What was written, unless it is the text.
     pub(crate) fn finish(self, alloc: Global) -> Result<Option<String>, AllocError>
-        ensures ok { IfOk result (λ answer. option_map string_bytes answer ≡ difference self.entry) }
+        ensures ok { IfOk result (λ answer.
+            option_map string_bytes answer ≡ difference self.entry) }
         ensures err { IfErr result (λ _. bytes_eq self.entry.bytes self.entry.text ≡ false) }
     {
         let Draft {

@@ -186,7 +186,8 @@ pub fn canonical<'t>(
     ensures answer { IfOk result (λ answer.
         answer_to text.now (canonical_of catalogue.now text.now) ≡ Ok (option_map string_bytes answer)) }
     ensures refusal { IfErr result (IfRefused (λ error.
-        (canonical_of catalogue.now text.now ≡ Err (placed_fault error)) × (error.original.now ≡ text.now))) }
+        (canonical_of catalogue.now text.now ≡ Err (placed_fault error))
+        × (error.original.now ≡ text.now))) }
     ensures place { IfErr result (IfRefused (λ error. IsPlace text.now (span_of error.span))) }
     ensures itself { canonical_of catalogue.now text.now ≡ Ok text.now → result ≡ Ok None }
     ensures laws { CanonicalLaws catalogue.now text.now }

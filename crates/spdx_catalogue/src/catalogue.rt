@@ -52,9 +52,19 @@ impl Catalogue {
         imprecise: Vec<ImpreciseName>,
     ) -> Result<Catalogue, CatalogueError>
         ensures fault { result_err result
-            ≡ first_fault (record { version = string_bytes version; licenses = map row_of licenses.items; exceptions = map exception_of exceptions.items; imprecise = map imprecise_of imprecise.items }) }
+            ≡ first_fault (record {
+              version = string_bytes version;
+              licenses = map row_of licenses.items;
+              exceptions = map exception_of exceptions.items;
+              imprecise = map imprecise_of imprecise.items;
+            }) }
         ensures rows { IfOk result (λ c. c
-            ≡ record { version = string_bytes version; licenses = map row_of licenses.items; exceptions = map exception_of exceptions.items; imprecise = map imprecise_of imprecise.items }) }
+            ≡ record {
+              version = string_bytes version;
+              licenses = map row_of licenses.items;
+              exceptions = map exception_of exceptions.items;
+              imprecise = map imprecise_of imprecise.items;
+            }) }
     {
         match first_fault(version.as_str(), &licenses, &exceptions, &imprecise) {
             Some(fault) => Err(fault),
@@ -101,6 +111,27 @@ impl Catalogue {
         ensures { result.now ≡ self.now.version }
     {
         self.version.as_str()
+    }
+
+    /// The licences, in the order of their names.
+    pub fn licenses(&self) -> &[License]
+        ensures { map row_of result.now ≡ self.now.licenses }
+    {
+        self.licenses.as_slice()
+    }
+
+    /// The exceptions, in the order of their names.
+    pub fn exceptions(&self) -> &[Exception]
+        ensures { map exception_of result.now ≡ self.now.exceptions }
+    {
+        self.exceptions.as_slice()
+    }
+
+    /// The imprecise names, in their order.
+    pub fn imprecise_names(&self) -> &[ImpreciseName]
+        ensures { map imprecise_of result.now ≡ self.now.imprecise }
+    {
+        self.imprecise.as_slice()
     }
 
     /// States that the rows of every catalogue break no rule. Does nothing when it runs.

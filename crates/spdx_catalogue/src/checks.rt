@@ -102,7 +102,12 @@ pub(crate) fn first_fault(
     imprecise: &[ImpreciseName],
 ) -> Option<CatalogueError>
     ensures { result
-        ≡ first_fault (record { version = version.now; licenses = map row_of licenses.now; exceptions = map exception_of exceptions.now; imprecise = map imprecise_of imprecise.now }) }
+        ≡ first_fault (record {
+          version = version.now;
+          licenses = map row_of licenses.now;
+          exceptions = map exception_of exceptions.now;
+          imprecise = map imprecise_of imprecise.now;
+        }) }
 {
     match rows_fault(licenses) {
         Some(fault) => Some(fault),

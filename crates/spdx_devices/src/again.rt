@@ -8,7 +8,7 @@ use spdx_lines::{Input, Output, RunFault, Sink, Source};
 
 /// A second run on an input that fails behind k bytes, for each k up to the input's length: the reader is asked nothing
 /// more, and nothing is written.
-pub fn failed_input(judge: &Judge<'_>, way: Way) -> Shown {
+pub(crate) fn failed_input(judge: &Judge<'_>, way: Way) -> Shown {
     let cases = INPUT.len() + 1;
     for room in 0..cases {
         if !stays_broken(judge, way, room) {
@@ -39,7 +39,7 @@ fn stays_broken(judge: &Judge<'_>, way: Way, room: usize) -> bool {
 
 /// A second run on an output that has room for k bytes, for each k below the output's length: the writer is asked nothing
 /// more, also where there is nothing to write but the flush.
-pub fn failed_output(judge: &Judge<'_>, way: Way) -> Shown {
+pub(crate) fn failed_output(judge: &Judge<'_>, way: Way) -> Shown {
     let length = way.output().len();
     for room in 0..length {
         if !stays_full(judge, way, room, INPUT) || !stays_full(judge, way, room, b"") {

@@ -16,7 +16,7 @@ pub struct Feed<'a> {
 
 impl<'a> Feed<'a> {
     /// Gives all that is asked for, and never fails.
-    pub fn new(rest: &'a [u8]) -> Feed<'a> {
+    pub(crate) fn new(rest: &'a [u8]) -> Feed<'a> {
         Feed {
             rest,
             step: usize::MAX,
@@ -65,7 +65,7 @@ pub struct Tray {
 
 impl Tray {
     /// Takes all that it is given, and never fails.
-    pub fn new(alloc: Global) -> Tray {
+    pub(crate) fn new(alloc: Global) -> Tray {
         Tray {
             taken: Vec::new(alloc),
             step: usize::MAX,

@@ -20,7 +20,7 @@ fn repeated(alloc: Global, front: &str, middle: &str, back: &str) -> Result<Vec<
 }
 
 /// MIT, `TIMES` over and once more, with slashes between: its answer has operators in their place.
-pub fn long_line(judge: &Judge<'_>) -> Result<Shown, AllocError> {
+pub(crate) fn long_line(judge: &Judge<'_>) -> Result<Shown, AllocError> {
     let input = repeated(judge.alloc, "", "mit/", "mit\n")?;
     let wanted = repeated(judge.alloc, "accepted\t", "MIT OR ", "MIT\tMIT\n")?;
     let played = judge.play(Way::Run, Feed::new(&input), Tray::new(judge.alloc));

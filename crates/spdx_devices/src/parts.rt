@@ -13,7 +13,7 @@ fn asked_if(holds: bool, asked: usize) -> Asked {
 }
 
 /// Reads of four bytes and of none, twice each, where the reader has failed at once.
-pub fn input_that_fails() -> Asked {
+pub(crate) fn input_that_fails() -> Asked {
     let mut feed = Feed::new(INPUT);
     feed.room = 0;
     let mut input = Input::new(feed);
@@ -27,7 +27,7 @@ pub fn input_that_fails() -> Asked {
 }
 
 /// Two reads into no room, and one into room for all.
-pub fn input_without_room() -> Asked {
+pub(crate) fn input_without_room() -> Asked {
     let mut input = Input::new(Feed::new(INPUT));
     let mut buffer = [0u8; 4096];
     let mut reads = true;
@@ -40,7 +40,7 @@ pub fn input_without_room() -> Asked {
 }
 
 /// Three reads at the end.
-pub fn input_at_its_end() -> Asked {
+pub(crate) fn input_at_its_end() -> Asked {
     let mut input = Input::new(Feed::new(b""));
     let mut buffer = [0u8; 4];
     let mut ends = true;
@@ -62,7 +62,7 @@ fn fails_for_good(output: &mut Output<Tray>) -> bool {
 }
 
 /// A write that fails, and writes and flushes behind it.
-pub fn output_that_fails(alloc: Global, full: Full) -> Asked {
+pub(crate) fn output_that_fails(alloc: Global, full: Full) -> Asked {
     let mut tray = Tray::new(alloc);
     tray.room = 0;
     tray.full = full;
@@ -73,7 +73,7 @@ pub fn output_that_fails(alloc: Global, full: Full) -> Asked {
 }
 
 /// A flush that fails, and writes and flushes behind it.
-pub fn output_that_is_not_flushed(alloc: Global) -> Asked {
+pub(crate) fn output_that_is_not_flushed(alloc: Global) -> Asked {
     let mut tray = Tray::new(alloc);
     tray.can_flush = false;
     let mut output = Output::new(tray);
@@ -83,7 +83,7 @@ pub fn output_that_is_not_flushed(alloc: Global) -> Asked {
 }
 
 /// Two writes of no byte where there is no room, and a flush.
-pub fn output_without_bytes(alloc: Global) -> Asked {
+pub(crate) fn output_without_bytes(alloc: Global) -> Asked {
     let mut tray = Tray::new(alloc);
     tray.room = 0;
     let mut output = Output::new(tray);
@@ -100,7 +100,7 @@ pub fn output_without_bytes(alloc: Global) -> Asked {
 }
 
 /// All of the input written to a writer of one byte at a time, which is not flushed.
-pub fn output_of_one_byte(alloc: Global) -> Asked {
+pub(crate) fn output_of_one_byte(alloc: Global) -> Asked {
     let mut tray = Tray::new(alloc);
     tray.step = 1;
     let mut output = Output::new(tray);

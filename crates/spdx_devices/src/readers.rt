@@ -22,7 +22,7 @@ fn is_broken_off(judge: &Judge<'_>, way: Way, step: usize, room: usize) -> bool 
 }
 
 /// A reader that gives k bytes, in steps, and then fails, for each k up to the input's length.
-pub fn broken_off(judge: &Judge<'_>, way: Way, step: usize) -> Shown {
+pub(crate) fn broken_off(judge: &Judge<'_>, way: Way, step: usize) -> Shown {
     let cases = INPUT.len() + 1;
     for room in 0..cases {
         if !is_broken_off(judge, way, step, room) {
@@ -121,7 +121,7 @@ fn is_cut_off(
 }
 
 /// The input cut off after k bytes, for each k below its length.
-pub fn cut_off(judge: &Judge<'_>, way: Way, step: usize) -> Result<Shown, AllocError> {
+pub(crate) fn cut_off(judge: &Judge<'_>, way: Way, step: usize) -> Result<Shown, AllocError> {
     let mut cases = 0usize;
     for (length, row) in CUTS.lines().enumerate() {
         if !is_cut_off(judge, way, step, length, row)? {

@@ -33,7 +33,7 @@ pub const WAYS: [Way; 10] = [
 
 impl Way {
     /// Whether one choice is for all lines.
-    pub fn is_joint(self) -> bool {
+    pub(crate) fn is_joint(self) -> bool {
         match self {
             Way::Run | Way::RunIn(_) => false,
             Way::RunAll | Way::RunAllIn(_) => true,
@@ -52,7 +52,7 @@ impl Way {
     }
 
     /// What is written for the worked lines.
-    pub fn output(self) -> &'static str {
+    pub(crate) fn output(self) -> &'static str {
         if self.is_joint() { JOINT } else { EACH }
     }
 }
@@ -89,7 +89,7 @@ pub struct Judge<'c> {
 
 impl Judge<'_> {
     /// One call over fresh devices.
-    pub fn play<'a>(&self, way: Way, feed: Feed<'a>, tray: Tray) -> Played<'a> {
+    pub(crate) fn play<'a>(&self, way: Way, feed: Feed<'a>, tray: Tray) -> Played<'a> {
         let mut input = Input::new(feed);
         let mut output = Output::new(tray);
         let answer = self.call(way, &mut input, &mut output);
@@ -101,7 +101,12 @@ impl Judge<'_> {
     }
 
     /// One call over these devices.
-    pub fn call(&self, way: Way, input: &mut Input<Feed<'_>>, output: &mut Output<Tray>) -> Answer {
+    pub(crate) fn call(
+        &self,
+        way: Way,
+        input: &mut Input<Feed<'_>>,
+        output: &mut Output<Tray>,
+    ) -> Answer {
         let (alloc, cat, accepted) = (self.alloc, self.catalogue, self.accepted.as_slice());
         let lax = LineMode::Lax;
         let mut buffer = [0u8; 4096];

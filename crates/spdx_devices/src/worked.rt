@@ -88,7 +88,7 @@ MIT AND Apache-2.0|accepted\tMIT AND Apache-2.0\tApache-2.0, MIT|unmet
 ||unmet";
 
 /// The first lines of a text, so many, with their newlines.
-pub fn first_lines(text: &str, count: usize) -> &[u8] {
+pub(crate) fn first_lines(text: &str, count: usize) -> &[u8] {
     let bytes = text.as_bytes();
     let mut ended = 0usize;
     for (place, byte) in bytes.iter().enumerate() {
@@ -103,7 +103,7 @@ pub fn first_lines(text: &str, count: usize) -> &[u8] {
 }
 
 /// The first bytes of the input, so many, and how many lines end in them.
-pub fn front_of_input(count: usize) -> (&'static [u8], usize) {
+pub(crate) fn front_of_input(count: usize) -> (&'static [u8], usize) {
     let (front, _) = INPUT.split_at(count.min(INPUT.len()));
     let ended = front.iter().filter(|byte| **byte == b'\n').count();
     (front, ended)

@@ -25,7 +25,7 @@ fn is_whole(judge: &Judge<'_>, way: Way, reads: usize, writes: usize) -> bool {
 }
 
 /// Devices that give and take one byte at a time, or all at once.
-pub fn whole(judge: &Judge<'_>, way: Way) -> Shown {
+pub(crate) fn whole(judge: &Judge<'_>, way: Way) -> Shown {
     let steps = [
         (usize::MAX, usize::MAX),
         (usize::MAX, 1),
@@ -54,7 +54,7 @@ fn is_cut_short(judge: &Judge<'_>, way: Way, step: usize, full: Full, room: usiz
 }
 
 /// A writer that takes k bytes, in steps, and then none, for each k below the output's length.
-pub fn cut_short(judge: &Judge<'_>, way: Way, step: usize, full: Full) -> Shown {
+pub(crate) fn cut_short(judge: &Judge<'_>, way: Way, step: usize, full: Full) -> Shown {
     let length = way.output().len();
     for room in 0..length {
         if !is_cut_short(judge, way, step, full, room) {
@@ -65,7 +65,7 @@ pub fn cut_short(judge: &Judge<'_>, way: Way, step: usize, full: Full) -> Shown 
 }
 
 /// A flush that fails: the output is whole, and the flush the last that the writer is asked for.
-pub fn unflushed(judge: &Judge<'_>, way: Way) -> Shown {
+pub(crate) fn unflushed(judge: &Judge<'_>, way: Way) -> Shown {
     let mut tray = Tray::new(judge.alloc);
     tray.step = 1;
     tray.can_flush = false;

@@ -4,15 +4,12 @@ use Rattle.spdx_requirement.specs.Rows.{Rows}
 use Rattle.spdx_lexer.specs.declared.token.ParseMode.{ParseMode}
 use Rattle.spdx_lexer.specs.Words.{Word, Fault, Item, Placed, words}
 use Rattle.spdx_lexer.specs.Reading.{said, reading}
+use Rattle.spdx_lexer.proofs.Said.{said_words}
 use Rattle.spdx_parser.specs.Grammar.{Derives}
 use Rattle.spdx_parser.specs.Faults.{HasNoTree}
 use Rattle.spdx_parser.specs.Meaning.{IsParsed}
 use Rattle.spdx_parser.specs.declared.node.ExprNode.{ExprNode}
 use Rattle.spdx_fix.specs.Fix.{Reads}
-
-said_words : (read : List Placed) → map said (map {B = Item} Ok read) ≡ map {B = Result Word Fault} Ok (words read)
-said_words [] = refl
-said_words (p ∷ read) = ap (λ (xs : List (Result Word Fault)). Ok p.0 ∷ xs) (said_words read)
 
 -- the words of a text that is read without a fault, with their places
 record Places (items : List Item) (ws : List Word) : Type 0 where

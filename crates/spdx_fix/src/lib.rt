@@ -42,8 +42,8 @@ pub fn fix(alloc: Global, catalogue: &Catalogue, text: &str) -> Result<Option<St
     }
 }
 
-/// Whether a reader in this mode accepts the text.
-pub fn accepts(
+// Whether a reader in this mode accepts the text.
+fn accepts(
     alloc: Global,
     catalogue: &Catalogue,
     text: &str,

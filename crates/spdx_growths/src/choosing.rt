@@ -30,7 +30,7 @@ fn joined(alloc: Global, requirements: &[LicenseReq<'_>]) -> Answer {
 }
 
 /// What the call of that name answers.
-pub fn answer(alloc: Global, catalogue: &Catalogue, call: &str) -> Answer {
+pub(crate) fn answer(alloc: Global, catalogue: &Catalogue, call: &str) -> Answer {
     match call {
         "ExpressionJudge::new" => judge(alloc, catalogue),
         "minimized_requirements" => for_one(alloc, catalogue),

@@ -59,7 +59,7 @@ fn told(alloc: Global, outcome: Result<Summary, RunFault>, written: &[u8], whole
 }
 
 /// Answers the worked lines.
-pub fn run(alloc: Global, catalogue: &Catalogue) -> Answer {
+pub(crate) fn run(alloc: Global, catalogue: &Catalogue) -> Answer {
     let accepted = licensees(alloc, catalogue)?;
     let mut input = Input::new(INPUT);
     let mut output = room(alloc)?;
@@ -76,7 +76,7 @@ pub fn run(alloc: Global, catalogue: &Catalogue) -> Answer {
 }
 
 /// Answers the worked lines with one choice for all.
-pub fn run_all(alloc: Global, catalogue: &Catalogue) -> Answer {
+pub(crate) fn run_all(alloc: Global, catalogue: &Catalogue) -> Answer {
     let accepted = licensees(alloc, catalogue)?;
     let mut input = Input::new(INPUT);
     let mut output = room(alloc)?;

@@ -11,7 +11,7 @@ pub const REFERENCES: &str = "DocumentRef-d:LicenseRef-x WITH DocumentRef-e:Addi
 pub const LAX: &str = "apache with LLVM-exception/gpl-3.0+ and gplv2";
 
 /// Reads the catalogue.
-pub fn from_json(alloc: Global, json: &[u8]) -> Answer {
+pub(crate) fn from_json(alloc: Global, json: &[u8]) -> Answer {
     match Catalogue::from_json(alloc, json) {
         Ok(catalogue) => Ok(catalogue.license_version().to_string(alloc)?),
         Err(Failure::Memory(_)) => Err(End::InTheCall),
@@ -20,7 +20,7 @@ pub fn from_json(alloc: Global, json: &[u8]) -> Answer {
 }
 
 /// Reads the references.
-pub fn parse_mode(alloc: Global, catalogue: &Catalogue, text: &str) -> Answer {
+pub(crate) fn parse_mode(alloc: Global, catalogue: &Catalogue, text: &str) -> Answer {
     match Expression::parse_mode(alloc, catalogue, text, ParseMode::STRICT) {
         Ok(expression) => Ok(format!(in alloc; "{expression:?}")?),
         Err(Failure::Memory(_)) => Err(End::InTheCall),
@@ -29,7 +29,7 @@ pub fn parse_mode(alloc: Global, catalogue: &Catalogue, text: &str) -> Answer {
 }
 
 /// Copies the expression of the references.
-pub fn try_clone(alloc: Global, catalogue: &Catalogue) -> Answer {
+pub(crate) fn try_clone(alloc: Global, catalogue: &Catalogue) -> Answer {
     let expression = Expression::parse(alloc, catalogue, REFERENCES)?;
     let before = Expression::parse(alloc, catalogue, REFERENCES)?;
     match expression.try_clone(alloc) {
@@ -39,7 +39,7 @@ pub fn try_clone(alloc: Global, catalogue: &Catalogue) -> Answer {
 }
 
 /// Writes a canonical text that isn't the text.
-pub fn canonicalize(alloc: Global, catalogue: &Catalogue, text: &str) -> Answer {
+pub(crate) fn canonicalize(alloc: Global, catalogue: &Catalogue, text: &str) -> Answer {
     match Expression::canonicalize(alloc, catalogue, text) {
         Ok(Some(canonical)) => Ok(canonical),
         Ok(None) => Err(End::Otherwise("the text stays")),
@@ -49,7 +49,7 @@ pub fn canonicalize(alloc: Global, catalogue: &Catalogue, text: &str) -> Answer 
 }
 
 /// Mends a text that has a fix.
-pub fn fix(alloc: Global, catalogue: &Catalogue, text: &str) -> Answer {
+pub(crate) fn fix(alloc: Global, catalogue: &Catalogue, text: &str) -> Answer {
     match Expression::fix(alloc, catalogue, text) {
         Ok(Some(fix)) => Ok(fix),
         Ok(None) => Err(End::Otherwise("no fix")),
@@ -58,7 +58,7 @@ pub fn fix(alloc: Global, catalogue: &Catalogue, text: &str) -> Answer {
 }
 
 /// Reads a licensee that is a reference.
-pub fn licensee(alloc: Global, catalogue: &Catalogue, text: &str) -> Answer {
+pub(crate) fn licensee(alloc: Global, catalogue: &Catalogue, text: &str) -> Answer {
     match Licensee::parse(alloc, catalogue, text) {
         Ok(licensee) => {
             let requirement = licensee.into_req();

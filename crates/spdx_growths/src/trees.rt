@@ -14,7 +14,7 @@ fn long_text(alloc: Global) -> Result<String, AllocError> {
 }
 
 /// Evaluates a thousand requirements, the last alone true.
-pub fn evaluate(alloc: Global, catalogue: &Catalogue) -> Answer {
+pub(crate) fn evaluate(alloc: Global, catalogue: &Catalogue) -> Answer {
     let text = long_text(alloc)?;
     let expression = Expression::parse(alloc, catalogue, text.as_str())?;
     let before = expression.try_clone(alloc)?;
@@ -31,7 +31,7 @@ pub fn evaluate(alloc: Global, catalogue: &Catalogue) -> Answer {
 }
 
 /// The same, all of them false, with the list of those that were refused.
-pub fn evaluate_with_failures(alloc: Global, catalogue: &Catalogue) -> Answer {
+pub(crate) fn evaluate_with_failures(alloc: Global, catalogue: &Catalogue) -> Answer {
     let text = long_text(alloc)?;
     let expression = Expression::parse(alloc, catalogue, text.as_str())?;
     let before = expression.try_clone(alloc)?;
@@ -53,7 +53,7 @@ pub fn evaluate_with_failures(alloc: Global, catalogue: &Catalogue) -> Answer {
 }
 
 /// Writes the normal text of a tree that leans left.
-pub fn normal_text(alloc: Global, catalogue: &Catalogue) -> Answer {
+pub(crate) fn normal_text(alloc: Global, catalogue: &Catalogue) -> Answer {
     let text = "((MIT AND (Zlib)) AND Apache-2.0 OR LicenseRef-a) OR BSD-2-Clause+ OR Zlib";
     let expression = Expression::parse(alloc, catalogue, text)?;
     let before = expression.try_clone(alloc)?;

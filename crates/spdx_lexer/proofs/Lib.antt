@@ -8,3 +8,4 @@ pub mod Next
 pub mod Bound
 pub mod Spelt
 pub mod Laid
+pub mod Said

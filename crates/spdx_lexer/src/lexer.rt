@@ -94,7 +94,8 @@ impl<'c, 't> Iterator for Lexer<'c, 't> {
         ensures steps { YieldsFirstBy item_of items_left self.old result self.new }
         ensures goes { MakesProgress (λ _. ⊤) (item_count items_left) self.old result self.new }
         ensures text { source_of self.new ≡ source_of self.old }
-        ensures original { IfSome result (λ item. IfErr item (λ e. e.original.now ≡ source_of self.old)) }
+        ensures original { IfSome result (λ item.
+            IfErr item (λ e. e.original.now ≡ source_of self.old)) }
     {
         let before = self.text.len() - self.rest.len();
         let rest = skip_white(self.rest);

@@ -76,7 +76,8 @@ impl<'a, 'c: 'a> Sufficiency for NodesJudge<'a, 'c> {
 
     ghost count = { λ judge. judged_count judge };
 
-    ghost suffices = { λ judge selection. suffices_for (judged_trees judge) (judged_members judge) selection };
+    ghost suffices = { λ judge selection.
+        suffices_for (judged_trees judge) (judged_members judge) selection };
 
     ghost asked = { λ judge. questions_asked judge };
 
@@ -89,7 +90,8 @@ impl<'a, 'c: 'a> Sufficiency for NodesJudge<'a, 'c> {
         are_all_true(&mut self.truths, self.questions.as_slice(), selection)
     }
 
-    ghost grows = { λ judge some more e h f. suffices_grows (judged_trees judge) (judged_members judge) some more h f };
+    ghost grows = { λ judge some more e h f.
+        suffices_grows (judged_trees judge) (judged_members judge) some more h f };
 }
 
 // The questions of these expressions to these members.

@@ -6,6 +6,7 @@ pub mod Later
 pub mod Known
 pub mod Threaded
 pub mod Places
+pub mod Folded
 pub mod Shown
 pub mod Seen
 pub mod Loop

@@ -30,7 +30,8 @@ use Rattle.spdx_parser.specs.State.{State, start, step, all_joined, require, if_
 use Rattle.spdx_parser.specs.ParserModel.{opened_of}
 use Rattle.spdx_parser.proofs.Complete.{complete}
 use Rattle.spdx_parser.proofs.Theorem.{run_front, viable, not_viable, the_tree, no_tree}
-use Rattle.spdx_parser.proofs.Shown.{Shows, Goes, FramesFit, add_span, places_in, spans_of, places_of, goes, ends, not_ended, ended_spans, starts, bare_nodes, places_nodes}
+use Rattle.spdx_parser.proofs.Shown.{Shows, Goes, FramesFit, add_span, spans_of, places_of, goes, ends, not_ended, ended_spans, starts}
+use Rattle.spdx_parser.proofs.Folded.{places_in, bare_nodes, places_nodes}
 use Rattle.spdx_parser.proofs.Seen.{Nest, whole, nest_more, none_open_is, last_open, last_more, spans_more, words_on}
 use Rattle.spdx_parser.proofs.Known.{last_known, words_known, tree_known}
 

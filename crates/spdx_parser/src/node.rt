@@ -49,7 +49,8 @@ impl<'c> ExpressionReq<'c> {
     /// A copy with the same requirement and the same span, or the want of memory, which references
     /// alone take.
     pub fn try_clone(&self, alloc: Global) -> Result<ExpressionReq<'c>, AllocError>
-        ensures requirement { IfOk result (λ copy. requirement_of copy.req ≡ requirement_of self.now.req) }
+        ensures requirement { IfOk result (λ copy.
+            requirement_of copy.req ≡ requirement_of self.now.req) }
         ensures span { IfOk result (λ copy. copy.span ≡ self.now.span) }
         ensures no_memory { HasNoReference (requirement_of self.now.req) → IsOk result }
     {

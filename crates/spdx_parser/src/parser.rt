@@ -73,7 +73,8 @@ impl<'c, 't> Parser<'c, 't> {
             → IsParsed catalogue.now mode text.now nodes) }
         ensures err { IfErr result (IfRefused (λ error.
             IsRefused catalogue.now mode text.now error)) }
-        ensures spans { OnOk result ((nodes : List ExprNode) → map placed_node nodes ≡ self.new.nodes
+        ensures spans { OnOk result ((nodes : List ExprNode) →
+            map placed_node nodes ≡ self.new.nodes
             → All (IsPlace text.now) (requirement_spans nodes)) }
     {
         catalogue.is_well_formed();

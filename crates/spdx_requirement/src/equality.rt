@@ -43,7 +43,8 @@ pub fn are_same_additions(one: &Option<AdditionItem<'_>>, other: &Option<Additio
     ensures test { result ≡ same_additions (option_map addition_of one.now)
         (option_map addition_of other.now) }
     ensures same { IsTrue result
-        ↔ (option_map addition_key (option_map addition_of one.now) ≡ option_map addition_key (option_map addition_of other.now)) }
+        ↔ (option_map addition_key (option_map addition_of one.now)
+        ≡ option_map addition_key (option_map addition_of other.now)) }
 {
     one == other
 }

@@ -16,7 +16,10 @@ use spdx_parser::node::ExprNode;
 impl<'c> PartialEq for Expression<'c> {
     ghost eq = { λ a b. same_tree a.tree b.tree };
 
-    ghost laws = { record { symm = λ a b. same_tree_laws.symm a.tree b.tree; trans = λ a b c e f. same_tree_laws.trans a.tree b.tree c.tree e f } };
+    ghost laws = { record {
+      symm = λ a b. same_tree_laws.symm a.tree b.tree;
+      trans = λ a b c e f. same_tree_laws.trans a.tree b.tree c.tree e f;
+    } };
 
     fn eq(&self, other: &Self) -> bool
         ensures value { result ≡ same_tree self.now.tree other.now.tree }

@@ -75,7 +75,8 @@ impl<'a, 'c: 'a> Sufficiency for ExpressionJudge<'a, 'c> {
 
     ghost count = { λ judge. judged_count judge };
 
-    ghost suffices = { λ judge selection. suffices_for (judged_trees judge) (judged_members judge) selection };
+    ghost suffices = { λ judge selection.
+        suffices_for (judged_trees judge) (judged_members judge) selection };
 
     ghost asked = { λ judge. questions_asked judge };
 
@@ -87,7 +88,8 @@ impl<'a, 'c: 'a> Sufficiency for ExpressionJudge<'a, 'c> {
         self.of_nodes.judge(selection)
     }
 
-    ghost grows = { λ judge some more e h f. suffices_grows (judged_trees judge) (judged_members judge) some more h f };
+    ghost grows = { λ judge some more e h f.
+        suffices_grows (judged_trees judge) (judged_members judge) some more h f };
 }
 
 /// The nodes of each of the expressions.
