@@ -1,11 +1,12 @@
 -- The lines of two pieces, of which the first ends behind a newline, are those of the one and then those of the other.
 use Rattle.std.proofs.Common.{◌≡◌, ℕ, ◌+◌, nat_eq, Bool, true, false, cond, List, [], ◌∷◌, ◌++◌, inl, inr, length, length-append, refl, sym, ap, ◌∙◌, append_assoc, append-nil, arith}
 use Rattle.std.specs.Prelude.{count_by}
-use Rattle.std.proofs.lemmas.Grind.{common_steps, flat_map-append}
+use Rattle.std.proofs.lemmas.Grind.{common_steps}
 use Rattle.line_engine.specs.Rule.{Rule}
 use Rattle.line_engine.specs.Lines.{Cut, cut, before_cut, onto_first, last_line, lines_of}
-use Rattle.line_engine.specs.Output.{text_of, output_of}
+use Rattle.line_engine.specs.Output.{text_from, text_of, output_of}
 use Rattle.line_engine.specs.Pieces.{EndsLine, SplitsAtLines}
+use Rattle.line_engine.proofs.Answering.{text_of-append}
 use Rattle.line_engine.proofs.Cutting.{cut-newline}
 
 -- more lines before a cut
@@ -49,17 +50,28 @@ lines_of-behind a b h =
 count_by-append : {A : Type 0} (p : A → Bool) (xs ys : List A) → count_by p (xs ++ ys) ≡ count_by p xs + count_by p ys
 count_by-append p xs ys = grind (arith, common_steps)
 
-module _ (rule : Rule) (none : (lines : List (List ℕ)) → rule.closing lines ≡ []) where
+-- a rule whose answers don't look back: whatever lines stand before it, a line is answered as the first is
+abbrev pub AnswersAlone : Rule → Type 0
+AnswersAlone rule = (before : List (List ℕ)) (line : List ℕ) → rule.text before line ≡ rule.text [] line
+
+module _ (rule : Rule) (alone : AnswersAlone rule) (none : (lines : List (List ℕ)) → rule.closing lines ≡ []) where
+  from_first : (before lines : List (List ℕ)) → text_from rule before lines ≡ text_of rule lines
+  from_first before [] = refl
+  from_first before (line ∷ lines) =
+      ap (λ (text : List ℕ). text ++ text_from rule (before ++ line ∷ []) lines) (alone before line)
+      ∙ ap (λ (text : List ℕ). rule.text [] line ++ text) (from_first (before ++ line ∷ []) lines ∙ sym (from_first (line ∷ []) lines))
+
   output_of-plain : (bytes : List ℕ) → output_of rule bytes ≡ text_of rule (lines_of bytes)
   output_of-plain bytes = ap (λ (xs : List ℕ). text_of rule (lines_of bytes) ++ xs) (none (lines_of bytes)) ∙ append-nil (text_of rule (lines_of bytes))
 
-  -- a rule that has nothing stand behind all lines
+  -- such a rule that has nothing stand behind all lines
   pub splits : SplitsAtLines rule
   splits a b h =
       let e = lines_of-behind a b h in
       record {
         output =
-            output_of-plain (a ++ b) ∙ ap (text_of rule) e ∙ flat_map-append rule.text (lines_of a) (lines_of b)
+            output_of-plain (a ++ b) ∙ ap (text_of rule) e ∙ text_of-append rule (lines_of a) (lines_of b)
+            ∙ ap (λ (xs : List ℕ). text_of rule (lines_of a) ++ xs) (from_first (lines_of a) (lines_of b))
             ∙ ap (λ (xs : List ℕ). xs ++ text_of rule (lines_of b)) (sym (output_of-plain a)) ∙ ap (λ (xs : List ℕ). output_of rule a ++ xs) (sym (output_of-plain b));
         lines = ap length e ∙ length-append (lines_of a) (lines_of b);
         refused = ap (count_by rule.refuses) e ∙ count_by-append rule.refuses (lines_of a) (lines_of b);

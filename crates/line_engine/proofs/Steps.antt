@@ -1,19 +1,17 @@
 -- What one step does to how far a run has come.
-use Rattle.std.proofs.Common.{◌≡◌, ℕ, true, false, List, [], ◌∷◌, ◌++◌, Option, sym, ap, ◌∙◌, subst, arith, append_assoc, append-nil, take}
+use Rattle.std.proofs.Common.{◌≡◌, ℕ, ◌<◌, true, false, List, [], ◌∷◌, ◌++◌, Option, length, refl, sym, ap, ◌∙◌, subst, arith, append_assoc, append-nil, take}
 use Rattle.std.specs.Io.KnownBytes.{Appends, Consumes, Keeps, IsAtEnd}
-use Rattle.std.proofs.lemmas.Grind.{common_steps, flat_map-append}
+use Rattle.std.proofs.lemmas.Grind.{common_steps}
 use Rattle.line_engine.specs.declared.lines.Summary.{Summary}
 use Rattle.line_engine.specs.Rule.{Rule}
-use Rattle.line_engine.specs.Lines.{Cut, cut, lines_of, HasNoNewline}
+use Rattle.line_engine.specs.Lines.{Cut, cut, last_line, lines_of, HasNoNewline}
 use Rattle.line_engine.specs.Output.{text_of, summary_of, count_line}
 use Rattle.line_engine.specs.Device.{Devices}
 use Rattle.line_engine.specs.Progress.{AppendsBeginning, Progress, state, HasPut, HasPutAll, HasKept, HasEnded, HasRun, HasBegun}
 use Rattle.line_engine.proofs.Known.{Appends-then, Appends-Keeps, Consumes-then, AppendsBeginning-then, AppendsBeginning-more, AppendsBeginning-all}
+use Rattle.line_engine.proofs.Answering.{text_of-append, text_of-one}
 use Rattle.line_engine.proofs.Cutting.{cut-newline, cut-plain, cut-more}
 use Rattle.line_engine.proofs.Dividing.{cut_is}
-
-text_of-one : (rule : Rule) (lines : List (List ℕ)) (line : List ℕ) → text_of rule (lines ++ line ∷ []) ≡ text_of rule lines ++ rule.text line
-text_of-one rule lines line = flat_map-append rule.text lines (line ∷ []) ∙ ap (λ (xs : List ℕ). text_of rule lines ++ xs) (append-nil (rule.text line))
 
 summary_of-one : (rule : Rule) (lines : List (List ℕ)) (line : List ℕ) → summary_of rule (lines ++ line ∷ []) ≡ count_line (summary_of rule lines) (rule.refuses line)
 summary_of-one rule lines line = grind (arith, common_steps)
@@ -23,8 +21,8 @@ put_more : (rule : Rule) (lines : List (List ℕ)) (line written : List ℕ) (ol
     HasPutAll rule lines written old → HasPut rule line old new → HasPutAll rule (lines ++ line ∷ []) written new
 put_more rule lines line written old new d p = record {
   text =
-      ap (λ (xs : List ℕ). written ++ xs) p.text ∙ sym (append_assoc written old.answers (rule.text line))
-      ∙ ap (λ (xs : List ℕ). xs ++ rule.text line) d.text ∙ sym (text_of-one rule lines line);
+      ap (λ (xs : List ℕ). written ++ xs) (p.text lines d.answered) ∙ sym (append_assoc written old.answers (rule.text lines line))
+      ∙ ap (λ (xs : List ℕ). xs ++ rule.text lines line) d.text ∙ sym (text_of-one rule lines line);
   counted = p.counted ∙ ap (λ (t : Summary). count_line t (rule.refuses line)) d.counted ∙ sym (summary_of-one rule lines line);
   answered = p.answered lines d.answered;
 }
@@ -55,7 +53,7 @@ begun_more : (rule : Rule) (xs ys : List ℕ) (start now : Option (List ℕ)) �
 begun_more rule xs ys start now a =
     let (more, e) = cut-more xs ys in
     subst (λ (lines : List (List ℕ)). AppendsBeginning start now (text_of rule lines)) (sym e)
-    (rw (flat_map-append rule.text (cut xs).whole more) (AppendsBeginning-more start now _ _ a))
+    (rw (text_of-append rule (cut xs).whole more) (AppendsBeginning-more start now _ _ a))
 
 -- where the next newline stands in what is left of a piece
 pub done_parts : (done end behind rest piece : List ℕ) → rest ≡ end ++ 10 ∷ behind → done ++ rest ≡ piece → (done ++ end ++ 10 ∷ []) ++ behind ≡ piece
@@ -80,6 +78,20 @@ rest_step rule bytes done rest piece written kept now n d h =
     subst (λ (xs : List ℕ). HasKept rule (bytes ++ xs) written (kept ++ rest) now) d
     (subst (λ (xs : List ℕ). HasKept rule xs written (kept ++ rest) now) (append_assoc bytes done rest)
     (plain_step rule (bytes ++ done) rest written kept now n h))
+
+last_is : (rest : List ℕ) → 0 < length rest → last_line rest ≡ rest ∷ []
+last_is [] long = absurd (omega arith)
+last_is (b ∷ bs) long = refl
+
+-- what is kept is the last line
+pub last_step : (rule : Rule) (bytes written kept : List ℕ) (old new : Progress) → 0 < length kept →
+    HasKept rule bytes written kept old → HasPut rule kept old new → HasPutAll rule (lines_of bytes) written new
+last_step rule bytes written kept old new long h p =
+    let whole = (cut bytes).whole in
+    let q : HasPut rule (cut bytes).rest old new = subst (λ (line : List ℕ). HasPut rule line old new) h.rest p in
+    subst (λ (last : List (List ℕ)). HasPutAll rule (whole ++ last) written new)
+    (sym (last_is (cut bytes).rest (subst (λ (xs : List ℕ). 0 < length xs) h.rest long)))
+    (put_more rule whole (cut bytes).rest written old new h.put q)
 
 -- what stands behind all answers
 pub end_step : (rule rule' : Rule) (bytes written answers : List ℕ) (all : Progress) → rule' ≡ rule →

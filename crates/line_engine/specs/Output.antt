@@ -1,13 +1,17 @@
 -- The output for an input, and its counts.
-use Rattle.std.specs.Prelude.{ℕ, ◌-◌, ◌^◌, ◌+◌, min, if◌then◌else◌, Bool, true, false, List, ◌++◌, length, count_by}
-use Rattle.std.specs.List.{flat_map}
+use Rattle.std.specs.Prelude.{ℕ, ◌-◌, ◌^◌, ◌+◌, min, if◌then◌else◌, Bool, true, false, List, [], ◌∷◌, ◌++◌, length, count_by}
 use Rattle.line_engine.specs.declared.lines.Summary.{Summary}
 use Rattle.line_engine.specs.Rule.{Rule}
 use Rattle.line_engine.specs.Lines.{cut, lines_of}
 
--- what is written for lines
+-- what is written for lines that stand behind these
+abbrev pub text_from : Rule → List (List ℕ) → List (List ℕ) → List ℕ
+text_from rule before [] = []
+text_from rule before (line ∷ lines) = rule.text before line ++ text_from rule (before ++ line ∷ []) lines
+
+-- what is written for all lines
 abbrev pub text_of : Rule → List (List ℕ) → List ℕ
-text_of rule lines = flat_map rule.text lines
+text_of rule lines = text_from rule [] lines
 
 -- what is written for an input that has ended
 abbrev pub output_of : Rule → List ℕ → List ℕ

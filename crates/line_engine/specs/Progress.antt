@@ -25,7 +25,7 @@ state HasAnswered answers summary = record { HasAnswered = HasAnswered; answers 
 
 -- one more line is answered and counted
 pub record HasPut (rule : Rule) (line : List ℕ) (old new : Progress) : Type 0 where
-  pub text : new.answers ≡ old.answers ++ rule.text line
+  pub text : (lines : List (List ℕ)) → old.HasAnswered lines → new.answers ≡ old.answers ++ rule.text lines line
   pub counted : new.summary ≡ count_line old.summary (rule.refuses line)
   pub answered : (lines : List (List ℕ)) → old.HasAnswered lines → new.HasAnswered (lines ++ line ∷ [])
 

@@ -29,7 +29,7 @@ impl Beginnings {
 
 impl Verdicts for Beginnings {
     ghost rule = { λ _. record {
-      text = λ line. if length line == 0 then codes "refused\n" else codes "ok " ++ line ++ 10 ∷ [];
+      text = λ _ line. if length line == 0 then codes "refused\n" else codes "ok " ++ line ++ 10 ∷ [];
       refuses = λ line. length line == 0;
       closing = λ lines. codes "=" ++ flat_map (take 1) lines ++ 10 ∷ [];
     } };

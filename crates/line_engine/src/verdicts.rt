@@ -13,11 +13,11 @@ pub trait Verdicts {
     // These may be the lines that it has answered: a relation, since it need not remember them.
     ghost HasAnswered: { Self → List (List ℕ) → Type 0 };
 
-    /// Appends the answer to a line, and says whether the line is refused. The line has no newline in it; the answer
-    /// brings its own.
+    /// Appends the answer to a line behind those that it has answered, and says whether the line is refused. The line has
+    /// no newline in it; the answer brings its own.
     fn answer(&mut self, alloc: Global, line: &[u8], text: &mut Vec<u8>) -> Result<bool, AllocError>
-        ensures text { OnOk result (
-            text.new.items ≡ text.old.items ++ (rule self.old).text line.now) }
+        ensures text { OnOk result ((lines : List (List ℕ)) → HasAnswered self.old lines →
+            text.new.items ≡ text.old.items ++ (rule self.old).text lines line.now) }
         ensures refuses { IfOk result (λ refused. refused ≡ (rule self.old).refuses line.now) }
         ensures rule { rule self.new ≡ rule self.old }
         ensures answered { OnOk result ((lines : List (List ℕ)) →

@@ -9,6 +9,7 @@ use Rattle.spdx_lexer.specs.Text.{run_at, white}
 use Rattle.spdx_lexer.specs.Lexeme.{Found, first_of, rules, lexeme_of, lexeme}
 use Rattle.spdx_lexer.specs.Groups.{exact, referred, caseless, imprecise, unknown}
 use Rattle.spdx_lexer.proofs.Table.{rules_grouped}
+use Rattle.spdx_lexer.proofs.Said.{said_words}
 use Rattle.spdx_lexer.specs.Reading.{go_on, behind, items, reading, said, Spells}
 use Rattle.spdx_parser.specs.Tree.{Tree}
 use Rattle.spdx_parser.specs.Grammar.{Derives}
@@ -108,10 +109,6 @@ reads_loosely : (c : Rows) (mode : LineMode) (text : List ℕ) → Same (reading
 reads_loosely c Strict text = reads_same c text
 reads_loosely c Lax text = λ read e. e
 reads_loosely c Normal text = reads_same c text
-
-said_words : (read : List Placed) → map said (map Ok read) ≡ map {B = Result Word Fault} Ok (words read)
-said_words [] = refl
-said_words (p ∷ read) = ap (λ (xs : List (Result Word Fault)). Ok p.0 ∷ xs) (said_words read)
 
 -- the canonical text of an accepted line
 pub canonical_found : (c : Rows) (mode : LineMode) (text : List ℕ) (read : List Placed) (t : Tree) → reading c (parse_mode mode) 0 text ≡ map Ok read → Derives c (parse_mode mode) (words read) t → canonical_of c text ≡ Ok (canonical_text (words read))

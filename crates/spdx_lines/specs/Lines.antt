@@ -16,7 +16,7 @@ use Rattle.spdx_lines.specs.Verdict.{Verdict, verdict_text, choice_column, no_co
 -- each line gives the text of its verdict with its own choice, and nothing stands behind them all
 abbrev pub rule_by : (List ℕ → Verdict) → List Requirement → Rule
 rule_by verdict accepted = record {
-  text = λ line. verdict_text (choice_column accepted) (verdict line);
+  text = λ before line. verdict_text (choice_column accepted) (verdict line);
   refuses = λ line. counts_as_refused (verdict line);
   closing = λ lines. [];
 }
@@ -24,7 +24,7 @@ rule_by verdict accepted = record {
 -- each line gives the text of its verdict without a choice, and behind them all stands the one for all accepted ones
 abbrev pub rule_by_all : (List ℕ → Verdict) → List Requirement → Rule
 rule_by_all verdict accepted = record {
-  text = λ line. verdict_text no_column (verdict line);
+  text = λ before line. verdict_text no_column (verdict line);
   refuses = λ line. counts_as_refused (verdict line);
   closing = λ lines. all_text (choice_of (trees_by verdict lines) accepted);
 }

@@ -1,6 +1,6 @@
 // Answers to lines one by one.
 
-ghost use Rattle.std.specs.Prelude.{◌≡◌, ◌++◌, IfOk, OnOk};
+ghost use Rattle.std.specs.Prelude.{◌≡◌, [], ◌++◌, IfOk, OnOk};
 ghost use Rattle.spdx_lines.specs.Found.{rule_of};
 ghost use Rattle.spdx_lines.specs.Remembered.{AreAnswers};
 
@@ -53,7 +53,7 @@ fn put_answer<'c>(
     text: &mut Vec<u8>,
 ) -> Result<bool, AllocError>
     ensures text { OnOk result (text.new.items
-        ≡ text.old.items ++ (rule_of cat.now mode accepted.now).text line.now) }
+        ≡ text.old.items ++ (rule_of cat.now mode accepted.now).text [] line.now) }
     ensures refuses { IfOk result (λ refused.
         refused ≡ (rule_of cat.now mode accepted.now).refuses line.now) }
 {

@@ -1,6 +1,6 @@
 // Answers that were given lately, beside their lines.
 
-ghost use Rattle.std.specs.Prelude.{◌≡◌, IfOk, IfSome};
+ghost use Rattle.std.specs.Prelude.{◌≡◌, [], IfOk, IfSome};
 ghost use Rattle.line_engine.specs.Rule.{Rule};
 ghost use Rattle.spdx_lines.specs.Remembered.{IsAnswer, AreAnswers};
 
@@ -50,7 +50,7 @@ impl Slot {
 
     // Holds this line in place of another one; where memory is wanting, none.
     fn fill(&mut self, line: &[u8], answer: &[u8], is_refused: bool)
-        ensures { (rule : Rule) → answer.now ≡ rule.text line.now →
+        ensures { (rule : Rule) → answer.now ≡ rule.text [] line.now →
             is_refused ≡ rule.refuses line.now → IsAnswer rule self.new }
     {
         self.is_used = false;
@@ -102,7 +102,7 @@ impl Remembered {
     /// The slot of this line, if the line is remembered.
     pub(crate) fn find(&self, line: &[u8]) -> Option<&Slot>
         ensures { IfSome result (λ slot. (rule : Rule) → AreAnswers rule self.now.slots.items →
-            (slot.now.answer.items ≡ rule.text line.now)
+            (slot.now.answer.items ≡ rule.text [] line.now)
             × (slot.now.is_refused ≡ rule.refuses line.now)) }
     {
         if line.len() > LONGEST_LINE {
@@ -119,7 +119,7 @@ impl Remembered {
     /// Remembers the answer to a line, if neither is long and memory is there.
     pub(crate) fn keep(&mut self, alloc: Global, line: &[u8], answer: &[u8], is_refused: bool)
         ensures { (rule : Rule) → AreAnswers rule self.old.slots.items →
-            answer.now ≡ rule.text line.now → is_refused ≡ rule.refuses line.now →
+            answer.now ≡ rule.text [] line.now → is_refused ≡ rule.refuses line.now →
             AreAnswers rule self.new.slots.items }
     {
         if line.len() > LONGEST_LINE || answer.len() > LONGEST_ANSWER {

@@ -13,7 +13,7 @@ pub struct Tally<'a> {
 }
 
 impl<'a> Tally<'a> {
-    pub fn new(catalogue: &'a [u8]) -> Tally<'a> {
+    pub(crate) fn new(catalogue: &'a [u8]) -> Tally<'a> {
         Tally {
             catalogue,
             held: 0,
@@ -22,7 +22,7 @@ impl<'a> Tally<'a> {
     }
 
     /// Tries a row, and says what is to be printed of it.
-    pub fn take(&mut self, alloc: Global, row: &str) -> Result<String, AllocError> {
+    pub(crate) fn take(&mut self, alloc: Global, row: &str) -> Result<String, AllocError> {
         let row = written_out(alloc, row)?;
         let (given, wanted) = row
             .as_str()

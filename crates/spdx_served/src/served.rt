@@ -13,7 +13,12 @@ pub struct Served {
 }
 
 /// Serves these words, over the bytes of a catalogue and of an input.
-pub fn serve_over(alloc: Global, words: &[&str], catalogue: Option<&[u8]>, input: &[u8]) -> Served {
+pub(crate) fn serve_over(
+    alloc: Global,
+    words: &[&str],
+    catalogue: Option<&[u8]>,
+    input: &[u8],
+) -> Served {
     let mut input = Input::new(input);
     let mut output = Output::new(Vec::new(alloc));
     let mut faults = Output::new(Vec::new(alloc));
@@ -33,7 +38,7 @@ pub fn serve_over(alloc: Global, words: &[&str], catalogue: Option<&[u8]>, input
 }
 
 /// The words with commas between.
-pub fn words_of(alloc: Global, text: &str) -> Result<Vec<&str>, AllocError> {
+pub(crate) fn words_of(alloc: Global, text: &str) -> Result<Vec<&str>, AllocError> {
     let mut words = Vec::new(alloc);
     for word in text.split(',') {
         if !word.is_empty() {

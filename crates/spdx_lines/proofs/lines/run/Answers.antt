@@ -8,6 +8,6 @@ pub returns : goal.returns
 returns g c = record {
   verdict = verdict c.args.cat.now c.args.mode;
   verdicts = the_verdict c.args.cat.now c.args.mode;
-  splits = splits (rule_of c.args.cat.now c.args.mode c.args.accepted.now) (λ lines. refl);
+  splits = splits (rule_of c.args.cat.now c.args.mode c.args.accepted.now) (λ before line. refl) (λ lines. refl);
   runs = c.run_found.ensures;
 }

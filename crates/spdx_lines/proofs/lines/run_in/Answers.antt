@@ -19,6 +19,6 @@ returns g c =
     record {
       verdict = verdict cat mode;
       verdicts = the_verdict cat mode;
-      splits = splits (rule_of cat mode accepted) (λ lines. refl);
+      splits = splits (rule_of cat mode accepted) (λ before line. refl) (λ lines. refl);
       runs = subst (λ r. Runs r d c.run_in.result) rule c.run_in.ensures.runs;
     }

@@ -1,11 +1,11 @@
-use Rattle.std.proofs.Common.{rules, ◌≡◌, ◌∙◌, ap, List, ℕ, ◌++◌, drop, length}
+use Rattle.std.proofs.Common.{rules, ◌≡◌, ◌∙◌, ap, List, [], ℕ, ◌++◌, drop, length}
 use Rattle.std.proofs.Math.Seq.{drop-append_seam}
 use Rattle.std.proofs.lemmas.List.{take_rest}
 use Rattle.spdx_lines.specs.Found.{rule_of}
 use Rattle.spdx_lines.proofs.each_line.EachLineVerdicts.answer.Goals as goal
 
 pub returns-in-Some-clause-text : goal.returns-in-Some-clause-text
-returns-in-Some-clause-text c =
+returns-in-Some-clause-text c lines h =
     let each = c.args.self.now in
     let told = c.in-Some.ensures (rule_of each.cat.now each.mode each.accepted.now) each.known in
     c.in_ok-extend_from_slice.ensures.items ∙ ap (λ (xs : List ℕ). c.args.text.now.items ++ xs) (c.answer.ensures ∙ told.0)
@@ -21,7 +21,7 @@ invariant_of-self c =
     let each = c.args.self.now in
     let rule = rule_of each.cat.now each.mode each.accepted.now in
     let before = c.args.text.now.items in
-    let answer = rule.text c.args.line.now in
+    let answer = rule.text [] c.args.line.now in
     let start : c.len-start.result ≡ length before = search rules in
     record {
       known = c.keep.ensures rule each.known
