@@ -1,0 +1,5 @@
+mod Tokens
+mod Names
+mod JsonLaws
+mod SarifLaw
+mod OneLine

@@ -1,0 +1,102 @@
+-- A finding in each form.
+use Rattle.std.specs.Prelude.{◌≡◌, ℕ, max, List, [], ◌∷◌, ◌++◌, Bool, false, if◌then◌else◌, chars, codes, decimal, replicate}
+use Rattle.unicode_width.specs.Width.{str_width}
+use Rattle.finding_forms.specs.declared.escapes.Escape.TheVariants.{Shown, Data, Property}
+use Rattle.finding_forms.specs.declared.forms.Style.{Style}
+use Rattle.finding_forms.specs.declared.forms.Style.TheVariants.{Plain, Coloured}
+use Rattle.finding_forms.specs.declared.forms.Form.{Form}
+use Rattle.finding_forms.specs.declared.forms.Form.TheVariants.{Human, Short, Json, Github, Sarif}
+use Rattle.finding_forms.specs.Escapes.{escaped}
+use Rattle.finding_forms.specs.Finding.{Aid, Told, before_of, fault_of, fault_column}
+use Rattle.finding_forms.specs.Message.{helps, help_text, message_text, place_text}
+use Rattle.finding_forms.specs.Json.{HasNoNewline, json_line}
+use Rattle.finding_forms.specs.Sarif.{sarif_beginning, sarif_result, sarif_ending}
+
+-- ---- for people
+
+-- what begins one of a terminal's colours, and what ends each
+abbrev pub paint_begins : Style → List ℕ → List ℕ
+paint_begins Plain colour = []
+paint_begins Coloured colour = 27 ∷ colour
+
+abbrev pub paint_ends : Style → List ℕ
+paint_ends Plain = []
+paint_ends Coloured = 27 ∷ codes "[0m"
+
+abbrev pub painted : Style → List ℕ → List ℕ → List ℕ
+painted style colour text = paint_begins style colour ++ (text ++ paint_ends style)
+
+abbrev pub bold : List ℕ
+bold = codes "[1m"
+
+abbrev pub red : List ℕ
+red = codes "[1;31m"
+
+abbrev pub cyan : List ℕ
+cyan = codes "[1;36m"
+
+-- the place, and what is wrong
+abbrev pub reason_line : Style → Told → List ℕ
+reason_line style t =
+    painted style bold (place_text Shown t) ++ (codes ": " ++ (painted style red (codes "error") ++ (codes ": " ++ (escaped Shown t.reason ++ 10 ∷ []))))
+
+-- how many columns of a terminal a text takes as it is shown
+abbrev pub shown_width : List ℕ → ℕ
+shown_width text = str_width false (chars (escaped Shown text))
+
+-- carets under the fault, one at least; the expression above stands two columns in
+abbrev pub caret_line : Style → Told → List ℕ
+caret_line style t =
+    codes "  " ++ (replicate (shown_width (before_of t)) 32 ++ (painted style red (replicate (max 1 (shown_width (fault_of t))) 94) ++ 10 ∷ []))
+
+abbrev pub help_line : Style → Aid → List ℕ
+help_line style aid =
+    if helps aid then codes "  " ++ (painted style cyan (codes "help") ++ (codes ": " ++ (help_text Shown aid ++ 10 ∷ []))) else []
+
+abbrev pub human_text : Style → Told → List ℕ
+human_text style t =
+    reason_line style t ++ (codes "  " ++ (escaped Shown t.expression ++ (10 ∷ (caret_line style t ++ help_line style t.aid))))
+
+-- ---- a line each
+
+-- the text has one newline, at its end
+abbrev pub IsOneLine : List ℕ → Type 0
+IsOneLine text = (line : List ℕ) × (text ≡ line ++ 10 ∷ []) × HasNoNewline line
+
+abbrev pub short_text : Told → List ℕ
+short_text t = place_text Shown t ++ (codes ": " ++ (message_text Shown t ++ 10 ∷ []))
+
+-- the line and the column of an error of a workflow
+abbrev pub github_place : Told → List ℕ
+github_place t = codes ",line=" ++ (decimal t.line ++ (codes ",col=" ++ (decimal (fault_column t) ++ codes "::")))
+
+-- an error of a workflow
+abbrev pub github_text : Told → List ℕ
+github_text t =
+    codes "::error file=" ++ (escaped Property t.file ++ (github_place t ++ (message_text Data t ++ 10 ∷ [])))
+
+-- ---- any form
+
+-- what stands before all findings
+abbrev pub beginning : Form → List ℕ → List ℕ
+beginning (Human style) version = []
+beginning Short version = []
+beginning Json version = []
+beginning Github version = []
+beginning Sarif version = sarif_beginning version
+
+-- a finding, which may be the first
+abbrev pub finding_text : Form → Bool → Told → List ℕ
+finding_text (Human style) is_first t = human_text style t
+finding_text Short is_first t = short_text t
+finding_text Json is_first t = json_line t
+finding_text Github is_first t = github_text t
+finding_text Sarif is_first t = (if is_first then [] else 44 ∷ []) ++ sarif_result t
+
+-- what stands behind all findings
+abbrev pub ending : Form → List ℕ
+ending (Human style) = []
+ending Short = []
+ending Json = []
+ending Github = []
+ending Sarif = sarif_ending

@@ -1,0 +1,142 @@
+-- Findings as a log of SARIF 2.1.0.
+use Rattle.std.specs.Prelude.{◌≡◌, ℕ, ◌^◌, ◌<◌, List, [], ◌∷◌, ◌++◌, Bool, true, false, if◌then◌else◌, Some, ⊤, codes, decimal}
+use Rattle.json.specs.Json.{Json, number, string, array, object, document, Items, no_items, item, Members, no_members, member}
+use Rattle.json.specs.Token.{Token}
+use Rattle.json.specs.Print.{print}
+use Rattle.json.specs.Tree.{json_tokens}
+use Rattle.finding_forms.specs.declared.escapes.Escape.TheVariants.{Raw, Path, Rule}
+use Rattle.finding_forms.specs.Escapes.{escaped}
+use Rattle.finding_forms.specs.Finding.{Aid, nothing, write, names, Told, column_behind, fault_column, fault_of}
+use Rattle.finding_forms.specs.Message.{message_text}
+
+abbrev pub text_object : List ℕ → Json
+text_object text = object (member (codes "text") (string text) no_members)
+
+-- a part of a line, from its first column up to the column behind it
+abbrev pub region_members : ℕ → ℕ → List ℕ → Members → Members
+region_members line column text more =
+    member (codes "startLine") (number (decimal line))
+    (member (codes "startColumn") (number (decimal column))
+    (member (codes "endColumn") (number (decimal (column_behind column text))) more))
+
+-- that part, with its text
+abbrev pub region : ℕ → ℕ → List ℕ → Json
+region line column text =
+    object (region_members line column text (member (codes "snippet") (text_object text) no_members))
+
+abbrev pub artifact : List ℕ → Json
+artifact path = object (member (codes "uri") (string path) no_members)
+
+-- the fault, within the whole expression
+abbrev pub location : List ℕ → Told → Json
+location path t =
+    object (member (codes "physicalLocation") (object
+    (member (codes "artifactLocation") (artifact path)
+    (member (codes "region") (region t.line (fault_column t) (fault_of t))
+    (member (codes "contextRegion") (region t.line t.column t.expression) no_members)))) no_members)
+
+-- the mended text in the place of the expression
+abbrev pub replacement : Told → List ℕ → Json
+replacement t mended =
+    object
+    (member (codes "deletedRegion") (object (region_members t.line t.column t.expression no_members))
+    (member (codes "insertedContent") (text_object mended) no_members))
+
+abbrev pub fix : List ℕ → Told → List ℕ → Json
+fix path t mended =
+    object (member (codes "artifactChanges") (array (item (object
+    (member (codes "artifactLocation") (artifact path)
+    (member (codes "replacements") (array (item (replacement t mended) no_items)) no_members))) no_items)) no_members)
+
+abbrev pub fixes_of : List ℕ → Told → Aid → Members
+fixes_of path t nothing = no_members
+fixes_of path t (write mended) = member (codes "fixes") (array (item (fix path t mended) no_items)) no_members
+fixes_of path t (names listed) = no_members
+
+abbrev pub fix_members : List ℕ → Told → Members
+fix_members path t = fixes_of path t t.aid
+
+-- the reason with hyphens names the rule
+abbrev pub result_of : Told → Json
+result_of t =
+    let path = escaped Path t.file in
+    object
+    (member (codes "ruleId") (string (escaped Rule t.reason))
+    (member (codes "level") (string (codes "error"))
+    (member (codes "message") (text_object (message_text Raw t))
+    (member (codes "locations") (array (item (location path t) no_items)) (fix_members path t)))))
+
+abbrev pub sarif_result : Told → List ℕ
+sarif_result t = print (json_tokens (result_of t))
+
+-- ---- the tokens of parts, as they are written
+
+abbrev pub region_tokens : ℕ → ℕ → List ℕ → List Token
+region_tokens line column text =
+    Token.key (codes "startLine") ∷ Token.number (decimal line) ∷ Token.key (codes "startColumn") ∷ Token.number (decimal column) ∷
+    Token.key (codes "endColumn") ∷ Token.number (decimal (column_behind column text)) ∷ []
+
+abbrev pub tool_tokens : List ℕ → List Token
+tool_tokens version =
+    Token.key (codes "tool") ∷ Token.begin_object ∷ Token.key (codes "driver") ∷ Token.begin_object ∷
+    Token.key (codes "name") ∷ Token.string (codes "spdx") ∷ Token.key (codes "version") ∷ Token.string version ∷ Token.end_object ∷ Token.end_object ∷ []
+
+-- up to the first result; columns count characters
+abbrev pub beginning_tokens : List ℕ → List Token
+beginning_tokens version =
+    (Token.begin_object ∷ Token.key (codes "$schema") ∷ Token.string (codes "https://json.schemastore.org/sarif-2.1.0.json") ∷ Token.key (codes "version") ∷ Token.string (codes "2.1.0") ∷
+    Token.key (codes "runs") ∷ Token.begin_array ∷ Token.begin_object ∷ []) ++ (tool_tokens version ++
+    (Token.key (codes "columnKind") ∷ Token.string (codes "unicodeCodePoints") ∷ Token.key (codes "results") ∷ Token.begin_array ∷ []))
+
+abbrev pub sarif_beginning : List ℕ → List ℕ
+sarif_beginning version = print (beginning_tokens version)
+
+-- behind the last result
+abbrev pub sarif_closing : List ℕ
+sarif_closing = codes "]}]}"
+
+abbrev pub sarif_ending : List ℕ
+sarif_ending = sarif_closing ++ 10 ∷ []
+
+-- ---- the log as a whole
+
+-- the findings as results
+abbrev pub results_of : List Told → Items
+results_of [] = no_items
+results_of (t ∷ ts) = item (result_of t) (results_of ts)
+
+abbrev pub tool : List ℕ → Json
+tool version =
+    object (member (codes "driver") (object
+    (member (codes "name") (string (codes "spdx")) (member (codes "version") (string version) no_members))) no_members)
+
+-- the log of one run of a tool in this version, with these findings
+abbrev pub sarif_of : List ℕ → List Told → Json
+sarif_of version findings =
+    object
+    (member (codes "$schema") (string (codes "https://json.schemastore.org/sarif-2.1.0.json"))
+    (member (codes "version") (string (codes "2.1.0"))
+    (member (codes "runs") (array (item (object
+    (member (codes "tool") (tool version)
+    (member (codes "columnKind") (string (codes "unicodeCodePoints"))
+    (member (codes "results") (array (results_of findings)) no_members)))) no_items)) no_members)))
+
+-- the results, as they are put one behind the other
+abbrev pub results_text : Bool → List Told → List ℕ
+results_text is_first [] = []
+results_text is_first (t ∷ ts) = ((if is_first then [] else 44 ∷ []) ++ sarif_result t) ++ results_text false ts
+
+-- the numbers of a finding are those of 64 bits
+pub record IsNumbered (t : Told) : Type 0 where
+  pub line : t.line < 2 ^ 64
+  pub column : t.column < 2 ^ 64
+
+abbrev pub AreNumbered : List Told → Type 0
+AreNumbered [] = ⊤
+AreNumbered (t ∷ ts) = IsNumbered t × AreNumbered ts
+
+-- what is put for findings, but for the newline, reads back as their log
+abbrev pub LogReadsBack : Type 0
+LogReadsBack =
+    (version : List ℕ) (findings : List Told) → AreNumbered findings →
+    document (sarif_beginning version ++ (results_text true findings ++ sarif_closing)) ≡ Some (sarif_of version findings)

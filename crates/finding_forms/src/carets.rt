@@ -1,0 +1,157 @@
+// The form for people, with carets under the fault.
+
+ghost use Rattle.std.specs.Prelude.{◌≡◌, ◌<◌, ◌++◌, OnOk, OnErr, IfOk, replicate, string_bytes};
+ghost use Rattle.finding_forms.specs.Finding.{told, aid_of};
+ghost use Rattle.finding_forms.specs.Message.{place_text};
+ghost use Rattle.finding_forms.specs.Forms.{bold, caret_line, help_line, human_text, paint_begins, paint_ends, painted, reason_line, shown_width};
+
+use crate::escapes::{Escape, escaped_text, put_escaped};
+use crate::findings::{Finding, Help};
+use crate::forms::Style;
+use crate::messages::{put_help, put_place};
+use std::alloc::{AllocError, Global};
+use unicode_width::UnicodeWidthStr;
+
+/// Appends a finding as people read it: the place of the fault and the reason, the expression, carets under the fault
+/// by the columns of a terminal, and what helps.
+///
+/// # Errors
+///
+/// Memory was refused, and the text is as it was.
+pub fn put_human(
+    alloc: Global,
+    text: &mut Vec<u8>,
+    style: Style,
+    finding: &Finding<'_>,
+) -> Result<(), AllocError>
+    ensures ok { OnOk result (
+        text.new.items ≡ text.old.items ++ human_text style (told finding.now)) }
+    ensures err { OnErr result (text.new.items ≡ text.old.items) }
+{
+    let lines = human_lines(alloc, style, finding)?;
+    text.extend_from_slice(lines.as_bytes())
+}
+
+fn human_lines(alloc: Global, style: Style, finding: &Finding<'_>) -> Result<String, AllocError>
+    ensures { IfOk result (λ lines. string_bytes lines ≡ human_text style (told finding.now)) }
+{
+    let mut lines = String::new(alloc);
+    put_reason(&mut lines, style, finding)?;
+    lines.push_str("  ")?;
+    put_escaped(&mut lines, Escape::Shown, finding.expression)?;
+    lines.push('\n')?;
+    put_carets(alloc, &mut lines, style, finding)?;
+    put_help_line(&mut lines, style, &finding.help)?;
+    Ok(lines)
+}
+
+// The line of the place and the reason.
+fn put_reason(lines: &mut String, style: Style, finding: &Finding<'_>) -> Result<(), AllocError>
+    ensures { OnOk result (string_bytes lines.new ≡
+        string_bytes lines.old ++ reason_line style (told finding.now)) }
+{
+    put_bold_place(lines, style, finding)?;
+    lines.push_str(": ")?;
+    put_painted(lines, style, "[1;31m", "error")?;
+    lines.push_str(": ")?;
+    put_escaped(lines, Escape::Shown, finding.reason)?;
+    lines.push('\n')?;
+    Ok(())
+}
+
+fn put_bold_place(lines: &mut String, style: Style, finding: &Finding<'_>) -> Result<(), AllocError>
+    ensures { OnOk result (string_bytes lines.new ≡
+        string_bytes lines.old ++ painted style bold (place_text Escape.Shown (told finding.now))) }
+{
+    begin_paint(lines, style, "[1m")?;
+    put_place(lines, Escape::Shown, finding)?;
+    end_paint(lines, style)?;
+    Ok(())
+}
+
+// The line of the carets.
+fn put_carets(
+    alloc: Global,
+    lines: &mut String,
+    style: Style,
+    finding: &Finding<'_>,
+) -> Result<(), AllocError>
+    ensures { OnOk result (string_bytes lines.new ≡
+        string_bytes lines.old ++ caret_line style (told finding.now)) }
+{
+    let parts = finding.parts();
+    let before = shown_width(alloc, parts.before)?;
+    let fault = shown_width(alloc, parts.fault)?;
+    lines.push_str("  ")?;
+    put_copies(lines, ' ', before)?;
+    begin_paint(lines, style, "[1;31m")?;
+    put_copies(lines, '^', fault.max(1))?;
+    end_paint(lines, style)?;
+    lines.push('\n')
+}
+
+fn put_help_line(lines: &mut String, style: Style, help: &Help<'_>) -> Result<(), AllocError>
+    ensures { OnOk result (
+        string_bytes lines.new ≡ string_bytes lines.old ++ help_line style (aid_of help.now)) }
+{
+    if !help.helps() {
+        return Ok(());
+    }
+    lines.push_str("  ")?;
+    put_painted(lines, style, "[1;36m", "help")?;
+    lines.push_str(": ")?;
+    put_help(lines, Escape::Shown, help)?;
+    lines.push('\n')
+}
+
+// How many columns of a terminal the text takes as it is shown.
+fn shown_width(alloc: Global, text: &str) -> Result<usize, AllocError>
+    ensures { IfOk result (λ width. width ≡ shown_width text.now) }
+{
+    let shown = escaped_text(alloc, Escape::Shown, text)?;
+    Ok(shown.as_str().width())
+}
+
+fn put_copies(lines: &mut String, letter: char, count: usize) -> Result<(), AllocError>
+    requires { letter < 128 }
+    ensures { OnOk result (
+        string_bytes lines.new ≡ string_bytes lines.old ++ replicate count letter) }
+{
+    for _ in 0..count {
+        lines.push(letter)?;
+    }
+    Ok(())
+}
+
+fn put_painted(lines: &mut String, style: Style, colour: &str, text: &str) -> Result<(), AllocError>
+    ensures { OnOk result (string_bytes lines.new ≡
+        string_bytes lines.old ++ painted style colour.now text.now) }
+{
+    begin_paint(lines, style, colour)?;
+    lines.push_str(text)?;
+    end_paint(lines, style)?;
+    Ok(())
+}
+
+fn begin_paint(lines: &mut String, style: Style, colour: &str) -> Result<(), AllocError>
+    ensures { OnOk result (
+        string_bytes lines.new ≡ string_bytes lines.old ++ paint_begins style colour.now) }
+{
+    match style {
+        Style::Plain => Ok(()),
+        Style::Coloured => {
+            lines.push('\x1b')?;
+            lines.push_str(colour)
+        }
+    }
+}
+
+fn end_paint(lines: &mut String, style: Style) -> Result<(), AllocError>
+    ensures { OnOk result (
+        string_bytes lines.new ≡ string_bytes lines.old ++ paint_ends style) }
+{
+    match style {
+        Style::Plain => Ok(()),
+        Style::Coloured => lines.push_str("\x1b[0m"),
+    }
+}

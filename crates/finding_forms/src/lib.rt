@@ -1,0 +1,21 @@
+//! What is written of an expression that is refused: for people, in a line, as JSON, as an error of a GitHub workflow,
+//! and as a log of SARIF.
+#![tactic(auto)]
+
+mod carets;
+mod escapes;
+mod findings;
+mod forms;
+mod json_form;
+mod line_forms;
+mod messages;
+mod sarif_form;
+mod total_line;
+
+pub use carets::put_human;
+pub use findings::{Finding, Help, Place};
+pub use forms::{Form, Style, put_beginning, put_ending, put_finding};
+pub use json_form::put_json;
+pub use line_forms::{put_github, put_short};
+pub use sarif_form::{put_sarif_beginning, put_sarif_ending, put_sarif_result};
+pub use total_line::put_totals;

@@ -1,0 +1,76 @@
+// A line for each finding.
+
+ghost use Rattle.std.specs.Prelude.{◌≡◌, ◌++◌, OnOk, OnErr, IfOk, string_bytes};
+ghost use Rattle.finding_forms.specs.Finding.{told};
+ghost use Rattle.finding_forms.specs.Forms.{IsOneLine, short_text, github_place, github_text};
+
+use crate::escapes::{Escape, put_escaped};
+use crate::findings::Finding;
+use crate::messages::{put_message, put_place};
+use std::alloc::{AllocError, Global};
+
+/// Appends a finding as one line: `deps.txt:3:1: unknown term; did you mean `MIT`?`.
+///
+/// # Errors
+///
+/// Memory was refused, and the text is as it was.
+pub fn put_short(alloc: Global, text: &mut Vec<u8>, finding: &Finding<'_>) -> Result<(), AllocError>
+    ensures ok { OnOk result (text.new.items ≡ text.old.items ++ short_text (told finding.now)) }
+    ensures err { OnErr result (text.new.items ≡ text.old.items) }
+    ensures one_line { IsOneLine (short_text (told finding.now)) }
+{
+    let line = short_line(alloc, finding)?;
+    text.extend_from_slice(line.as_bytes())
+}
+
+fn short_line(alloc: Global, finding: &Finding<'_>) -> Result<String, AllocError>
+    ensures { IfOk result (λ line. string_bytes line ≡ short_text (told finding.now)) }
+{
+    let mut line = String::new(alloc);
+    put_place(&mut line, Escape::Shown, finding)?;
+    line.push_str(": ")?;
+    put_message(&mut line, Escape::Shown, finding)?;
+    line.push('\n')?;
+    Ok(line)
+}
+
+/// Appends a finding as an error of a GitHub workflow: `::error file=deps.txt,line=3,col=1::unknown term`.
+///
+/// # Errors
+///
+/// Memory was refused, and the text is as it was.
+pub fn put_github(
+    alloc: Global,
+    text: &mut Vec<u8>,
+    finding: &Finding<'_>,
+) -> Result<(), AllocError>
+    ensures ok { OnOk result (text.new.items ≡ text.old.items ++ github_text (told finding.now)) }
+    ensures err { OnErr result (text.new.items ≡ text.old.items) }
+    ensures one_line { IsOneLine (github_text (told finding.now)) }
+{
+    let line = github_line(alloc, finding)?;
+    text.extend_from_slice(line.as_bytes())
+}
+
+fn github_line(alloc: Global, finding: &Finding<'_>) -> Result<String, AllocError>
+    ensures { IfOk result (λ line. string_bytes line ≡ github_text (told finding.now)) }
+{
+    let mut line = String::new(alloc);
+    line.push_str("::error file=")?;
+    put_escaped(&mut line, Escape::Property, finding.place.file)?;
+    put_properties(&mut line, finding)?;
+    put_message(&mut line, Escape::Data, finding)?;
+    line.push('\n')?;
+    Ok(line)
+}
+
+fn put_properties(line: &mut String, finding: &Finding<'_>) -> Result<(), AllocError>
+    ensures { OnOk result (string_bytes line.new ≡
+        string_bytes line.old ++ github_place (told finding.now)) }
+{
+    let column = finding.column();
+    match write!(line, ",line={},col={column}::", finding.place.line) {
+        Ok(()) => Ok(()),
+        Err(_) => Err(AllocError),
+    }
+}

@@ -1,0 +1,127 @@
+// Rows, and the findings that they say.
+
+use finding_forms::{
+    Finding, Form, Help, Place, Style, put_beginning, put_ending, put_finding, put_totals,
+};
+use std::alloc::{AllocError, Global};
+
+/// The fields of a row, in its order, and the names that may be meant.
+#[derive(Drop)]
+pub struct Row {
+    fields: Vec<String>,
+    names: Vec<String>,
+}
+
+/// The rows of the text, but for empty lines and those that begin with `#`.
+pub fn rows_of(alloc: Global, text: &str) -> Result<Vec<Row>, AllocError> {
+    let mut rows = Vec::new(alloc);
+    for line in text.lines() {
+        if line.is_empty() || line.starts_with('#') {
+            continue;
+        }
+        let mut fields = Vec::new(alloc);
+        for field in line.split('|') {
+            fields.push(written_out(alloc, field)?)?;
+        }
+        let mut names = Vec::new(alloc);
+        for name in line.split('?').skip(1) {
+            names.push(written_out(alloc, name)?)?;
+        }
+        rows.push(Row { fields, names })?;
+    }
+    Ok(rows)
+}
+
+// The text that a field stands for.
+fn written_out(alloc: Global, field: &str) -> Result<String, AllocError> {
+    let mut text = String::new(alloc);
+    let mut pieces = field.split('\\');
+    text.push_str(pieces.next().unwrap_or(""))?;
+    for piece in pieces {
+        let mut letters = piece.chars();
+        let letter = match letters.next() {
+            Some('t') => '\t',
+            Some('n') => '\n',
+            Some('r') => '\r',
+            Some('e') => '\x1b',
+            Some('d') => '\u{202e}',
+            Some(_) | None => '\\',
+        };
+        text.push(letter)?;
+        text.push_str(letters.as_str())?;
+    }
+    Ok(text)
+}
+
+impl Row {
+    fn field(&self, at: usize) -> &str {
+        self.fields.get(at).map_or("", |field| field.as_str())
+    }
+
+    fn number(&self, at: usize) -> usize {
+        self.field(at).parse::<usize>().unwrap_or(0)
+    }
+}
+
+/// Appends the finding of the row in each form but SARIF.
+pub fn put_lines(alloc: Global, shown: &mut Vec<u8>, row: &Row) -> Result<(), AllocError> {
+    let names = names_of(alloc, row)?;
+    let finding = finding_of(row, names.as_slice());
+    let forms = [
+        Form::Human(Style::Plain),
+        Form::Human(Style::Coloured),
+        Form::Short,
+        Form::Json,
+        Form::Github,
+    ];
+    for form in forms {
+        put_finding(alloc, shown, form, true, &finding)?;
+    }
+    shown.push(b'\n')?;
+    Ok(())
+}
+
+/// Appends the findings of the rows as one log.
+pub fn put_log(alloc: Global, shown: &mut Vec<u8>, rows: &[Row]) -> Result<(), AllocError> {
+    put_beginning(alloc, shown, Form::Sarif, "0.1 \"rows\"")?;
+    for (at, row) in rows.iter().enumerate() {
+        let names = names_of(alloc, row)?;
+        let finding = finding_of(row, names.as_slice());
+        put_finding(alloc, shown, Form::Sarif, at == 0, &finding)?;
+    }
+    put_ending(shown, Form::Sarif)
+}
+
+/// Appends some lines of totals.
+pub fn put_sums(alloc: Global, shown: &mut Vec<u8>) -> Result<(), AllocError> {
+    for (expressions, files, refused) in [(7, 1, 2), (1, 2, 0), (0, 0, 0), (1, 1, 1)] {
+        put_totals(alloc, shown, expressions, files, refused)?;
+    }
+    put_totals(alloc, shown, u64::MAX, u64::MAX, u64::MAX)
+}
+
+fn names_of(alloc: Global, row: &Row) -> Result<Vec<&str>, AllocError> {
+    row.names.iter().map(|name| name.as_str()).collect(alloc)
+}
+
+// The finding that the row says.
+fn finding_of<'t>(row: &'t Row, names: &'t [&'t str]) -> Finding<'t> {
+    let told = row.field(7);
+    let help = match told.strip_prefix('=') {
+        Some(mended) => Help::Write(mended),
+        None if told.starts_with('?') => Help::Names(names),
+        None => Help::Nothing,
+    };
+    Finding {
+        place: Place {
+            file: row.field(0),
+            line: row.field(1).parse::<u64>().unwrap_or(0),
+            column: row.field(2).parse::<u64>().unwrap_or(0),
+        },
+        expression: row.field(3),
+        start: row.number(4),
+        end: row.number(5),
+        reason: row.field(6),
+        help,
+    }
+}
