@@ -1,0 +1,88 @@
+-- Where the expressions stand behind the tags of a file.
+use Rattle.std.specs.Prelude.{ℕ, ◌+◌, ◌-◌, ◌≤◌, Bool, ◌||◌, ◌==◌, nat_eq, List, [], ◌∷◌, ◌++◌, Option, None, Some, option_map, length, take, drop, codes, if◌then◌else◌}
+use Rattle.std.specs.List.{starts_with, prefix_len, suffix_len}
+use Rattle.std.specs.Option.{option_to_list}
+use Rattle.std.specs.Char.{is_ascii_whitespace}
+use Rattle.line_engine.specs.Lines.{lines_of}
+use Rattle.license_tags.specs.declared.Tag.{Tag}
+
+-- what stands before an expression
+unfoldable pub tag_text : List ℕ
+tag_text = codes "SPDX-License-Identifier:"
+
+-- how many bytes stand before the first tag in a line
+abbrev pub tag_place : List ℕ → Option ℕ
+tag_place [] = None
+tag_place (b ∷ bs) = if starts_with nat_eq (b ∷ bs) tag_text then Some 0 else option_map (λ n. 1 + n) (tag_place bs)
+
+-- quotation marks: `"`, `'` and a backquote
+abbrev pub is_quote : ℕ → Bool
+is_quote b = b == 34 || b == 39 || b == 96
+
+abbrev pub is_opening : ℕ → Bool
+is_opening b = is_ascii_whitespace b || is_quote b
+
+-- how many bytes stand before an expression: blanks, and behind the first of them quotes too; a quote at once closes
+abbrev pub opening_len : List ℕ → ℕ
+opening_len [] = 0
+opening_len (b ∷ bs) = if is_ascii_whitespace b then 1 + prefix_len is_opening bs else 0
+
+-- these bytes begin with what ends a text: a quote, a backslash (as of `\n`) or `<` (as of `</p>`)
+unfoldable pub ends_text : List ℕ → Bool
+ends_text bytes =
+    starts_with nat_eq bytes (codes "\"")
+    || starts_with nat_eq bytes (codes "'")
+    || starts_with nat_eq bytes (codes "`")
+    || starts_with nat_eq bytes (codes "\\")
+    || starts_with nat_eq bytes (codes "<")
+
+-- these bytes begin with what ends a comment: of C, ML, HTML, Haskell, Jinja, Lua or XML
+unfoldable pub ends_comment : List ℕ → Bool
+ends_comment bytes =
+    starts_with nat_eq bytes (codes "*/")
+    || starts_with nat_eq bytes (codes "*)")
+    || starts_with nat_eq bytes (codes "-->")
+    || starts_with nat_eq bytes (codes "-}")
+    || starts_with nat_eq bytes (codes "#}")
+    || starts_with nat_eq bytes (codes "]]")
+    || starts_with nat_eq bytes (codes "?>")
+
+-- these bytes begin with what no expression goes on with
+abbrev pub closes : List ℕ → Bool
+closes bytes = ends_text bytes || ends_comment bytes
+
+-- how many bytes stand before the first closing
+abbrev pub closing_place : List ℕ → ℕ
+closing_place [] = 0
+closing_place (b ∷ bs) = if closes (b ∷ bs) then 0 else 1 + closing_place bs
+
+-- how long they are without the blanks at their end
+abbrev pub trimmed_len : List ℕ → ℕ
+trimmed_len bytes = length bytes - suffix_len is_ascii_whitespace bytes
+
+-- how long the expression is that these bytes begin with: up to the first closing or the end, less blanks
+abbrev pub expression_len : List ℕ → ℕ
+expression_len bytes = trimmed_len (take (closing_place bytes) bytes)
+
+-- the tag at a place in a line with this number that begins at this offset
+abbrev pub tag_at : ℕ → ℕ → List ℕ → ℕ → Tag
+tag_at number offset line place =
+    let behind = place + length tag_text in
+    let start = behind + opening_len (drop behind line) in
+    record { line = number; start = offset + start; end = offset + (start + expression_len (drop start line)) }
+
+-- the tags of these lines, the first of which has this number and begins at this offset: in each line the first one
+abbrev pub tags_from : ℕ → ℕ → List (List ℕ) → List Tag
+tags_from number offset [] = []
+tags_from number offset (line ∷ lines) =
+    option_to_list (option_map (tag_at number offset line) (tag_place line))
+    ++ tags_from (number + 1) (offset + (length line + 1)) lines
+
+-- the tags of a file
+abbrev pub tags_of : List ℕ → List Tag
+tags_of bytes = tags_from 1 0 (lines_of bytes)
+
+-- the expressions lie between these offsets, in order and apart from one another
+abbrev pub AreInOrder : ℕ → List Tag → ℕ → Type 0
+AreInOrder low [] high = low ≤ high
+AreInOrder low (tag ∷ tags) high = (low ≤ tag.start) × (tag.start ≤ tag.end) × AreInOrder tag.end tags high
