@@ -1,0 +1,4 @@
+pub mod Spelled
+pub mod Asked
+pub mod Good
+pub mod Breaks

@@ -1,0 +1,5 @@
+pub mod Words
+pub mod Rules
+pub mod Hints
+pub mod Borrowed
+pub mod Phrase
