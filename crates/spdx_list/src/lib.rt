@@ -1,0 +1,16 @@
+//! A catalogue made of SPDX's own two files, and a catalogue written as JSON.
+#![tactic(auto)]
+
+pub mod error;
+pub mod extras;
+mod item;
+mod json;
+mod names;
+mod order;
+pub mod tables;
+pub mod text;
+
+pub use crate::error::{File, ListFault, Member, Table};
+pub use crate::extras::{Extras, Instead};
+pub use crate::tables::{catalogue_of, tables_of};
+pub use crate::text::{list_text, text_of};
