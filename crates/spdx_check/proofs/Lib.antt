@@ -1,0 +1,3 @@
+pub mod Fixes
+pub mod Findings
+pub mod Writing

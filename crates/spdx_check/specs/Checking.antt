@@ -1,0 +1,95 @@
+-- What is written of the expressions of a file.
+use Rattle.std.specs.Prelude.{◌≡◌, ℕ, ◌+◌, ◌-◌, ◌==◌, Bool, ◌&&◌, not, List, [], ◌++◌, length, take, slice_index, Option, None, Some, is_some, Result, if◌then◌else◌}
+use Rattle.std.specs.Char.{is_ascii_whitespace}
+use Rattle.std.specs.List.{list_all, list_any}
+use Rattle.std.specs.Result.{result_map_both}
+use Rattle.line_engine.specs.declared.lines.RunFault.{RunFault}
+use Rattle.line_engine.specs.declared.lines.Summary.{Summary}
+use Rattle.line_engine.specs.Device.{Devices}
+use Rattle.line_engine.specs.Output.{capped}
+use Rattle.line_engine.specs.Rule.{Rule}
+use Rattle.line_engine.specs.Runs.{Runs}
+use Rattle.finding_forms.specs.declared.findings.Place.{Place}
+use Rattle.finding_forms.specs.declared.forms.Form.{Form}
+use Rattle.finding_forms.specs.Finding.{Told}
+use Rattle.finding_forms.specs.Forms.{finding_text}
+use Rattle.spdx_check.specs.declared.check.Check.{Check}
+use Rattle.spdx_check.specs.declared.lines.Checked.{Checked}
+use Rattle.spdx_check.specs.Finding.{Wrong, IsTheFinding}
+
+-- ---- one expression
+
+-- where an expression stands: the file, the line, and the column where it begins
+pub record Spot : Type 0 where
+  pub file : List ℕ
+  pub line : ℕ
+  pub column : ℕ
+
+abbrev pub spot_of : Place → Spot
+spot_of place = record { file = place.file.now; line = place.line; column = place.column }
+
+-- what is wrong with the expression there
+abbrev pub told_at : Spot → Wrong → Told
+told_at spot wrong = record {
+  file = spot.file;
+  line = spot.line;
+  column = spot.column;
+  expression = wrong.shown;
+  start = wrong.place.from;
+  end = wrong.place.to;
+  reason = wrong.reason;
+  aid = wrong.aid;
+}
+
+-- nothing is written where nothing is wrong
+abbrev pub found_text : Form → Bool → Spot → Option Wrong → List ℕ
+found_text form is_first spot None = []
+found_text form is_first spot (Some wrong) = finding_text form is_first (told_at spot wrong)
+
+-- the finding of the bytes is written behind what was written, and they are refused if they have one
+pub record ChecksOne (check : Check) (is_first : Bool) (spot : Spot) (bytes old new : List ℕ) (is_refused : Bool) : Type 0 where
+  pub found : Option Wrong
+  pub is : IsTheFinding check.catalogue.now check.mode bytes found
+  pub written : new ≡ old ++ found_text check.form is_first spot found
+  pub refuses : is_refused ≡ is_some found
+
+-- ---- line by line
+
+-- the expression of a line, which is without a carriage return at its end
+abbrev pub expression_of : List ℕ → List ℕ
+expression_of line =
+    let last = length line - 1 in if slice_index line last == 13 then take last line else line
+
+-- it is nothing but ASCII white space
+abbrev pub is_blank : List ℕ → Bool
+is_blank expression = list_all is_ascii_whitespace expression
+
+-- the finding of a line's expression, if it has one; a blank line has none
+abbrev pub finding_in_line : (List ℕ → Option Wrong) → List ℕ → Option Wrong
+finding_in_line finding line = if is_blank (expression_of line) then None else finding (expression_of line)
+
+-- the expression of the line behind these lines, the first being line 1; the numbers end with those of 64 bits
+abbrev pub spot_behind : List ℕ → List (List ℕ) → Spot
+spot_behind file before = record { file = file; line = capped (length before + 1); column = 1 }
+
+-- whether one of these lines has a finding
+abbrev pub have_finding : (List ℕ → Option Wrong) → List (List ℕ) → Bool
+have_finding finding lines = list_any (λ line. is_some (finding_in_line finding line)) lines
+
+-- each line gives its finding, if it has one; nothing stands behind them all
+abbrev pub rule_by : (List ℕ → Option Wrong) → Form → Bool → List ℕ → Rule
+rule_by finding form is_first file = record {
+  text = λ before line. found_text form (is_first && not (have_finding finding before)) (spot_behind file before) (finding_in_line finding line);
+  refuses = λ line. is_some (finding_in_line finding line);
+  closing = λ lines. [];
+}
+
+-- the lines and the refused ones
+abbrev pub summary_in : Result Checked RunFault → Result Summary RunFault
+summary_in result = result_map_both (λ (c : Checked). c.summary) (λ (fault : RunFault). fault) result
+
+-- the run writes the finding of each line that has one, and counts the lines
+pub record ChecksLines (check : Check) (is_first : Bool) (file : List ℕ) (d : Devices) (result : Result Checked RunFault) : Type 0 where
+  pub finding : List ℕ → Option Wrong
+  pub findings : (bytes : List ℕ) → IsTheFinding check.catalogue.now check.mode bytes (finding bytes)
+  pub runs : Runs (rule_by finding check.form is_first file) d (summary_in result)

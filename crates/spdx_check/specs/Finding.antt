@@ -1,0 +1,53 @@
+-- What is found in the bytes of an expression.
+use Rattle.std.specs.Prelude.{◌≡◌, ℕ, Bool, true, false, List, Option, None, Some, codes, IsUtf8, if◌then◌else◌}
+use Rattle.std.specs.Str.Lossy.{utf8_valid_len, utf8_lossy}
+use Rattle.spdx_requirement.specs.Rows.{Rows}
+use Rattle.spdx_lexer.specs.declared.token.ParseMode.{ParseMode}
+use Rattle.spdx_lexer.specs.Words.{Fault, UnknownLicense, UnknownTerm, InvalidCharacters, DeprecatedLicenseId, Span, span}
+use Rattle.spdx_lexer.specs.Faults.{fault_text}
+use Rattle.spdx_parser.specs.Faults.{IsFaultOf}
+use Rattle.spdx_fix.specs.Fix.{Reads, IsFixOf}
+use Rattle.spdx_hints.specs.Hints.{hints_of}
+use Rattle.spdx_hints.specs.Phrase.{phrase_of}
+use Rattle.finding_forms.specs.Finding.{Aid, nothing, write, names}
+
+-- what is wrong: the text that is shown, where the fault stands in it, why it is one, and what helps
+pub record Wrong : Type 0 where
+  pub shown : List ℕ
+  pub place : Span
+  pub reason : List ℕ
+  pub aid : Aid
+
+-- the words at the fault name no licence that may stand there; at other faults the names are known, and others don't help
+abbrev pub wants_name : Fault → Bool
+wants_name UnknownTerm = true
+wants_name UnknownLicense = true
+wants_name InvalidCharacters = true
+wants_name DeprecatedLicenseId = true
+wants_name fault = false
+
+-- the fix, where there is one; else the licences that the phrase at the fault may mean, where a name is wanted
+abbrev pub aid_by : Rows → List ℕ → Fault → Span → Option (List ℕ) → Aid
+aid_by c text fault s (Some fix) = write fix
+aid_by c text fault s None = if wants_name fault then names (hints_of c (phrase_of text s.from)) else nothing
+
+-- a text with a fault, which may have a fix
+abbrev pub wrong_in : Rows → List ℕ → Fault → Span → Option (List ℕ) → Wrong
+wrong_in c text fault s fix = record { shown = text; place = s; reason = fault_text fault; aid = aid_by c text fault s fix }
+
+-- of bytes that are no text U+FFFD is shown for each invalid sequence, and the first one, of three bytes, is the fault
+abbrev pub no_text : List ℕ → Wrong
+no_text bytes =
+    let valid = utf8_valid_len bytes in
+    record { shown = utf8_lossy bytes; place = span valid 3; reason = codes "not UTF-8"; aid = nothing }
+
+-- nothing is wrong with a text that a reader in the mode accepts; else its fault is, or that the bytes are no text
+pub data IsFinding (c : Rows) (m : ParseMode) (bytes : List ℕ) : Option Wrong → Type 0 where
+  is_accepted : IsUtf8 bytes → Reads c m bytes → IsFinding c m bytes None
+  is_refused : (fault : Fault) (s : Span) (fix : Option (List ℕ)) → IsUtf8 bytes → IsFaultOf c m bytes fault s → IsFixOf c bytes fix → IsFinding c m bytes (Some (wrong_in c bytes fault s fix))
+  is_no_text : ¬ (IsUtf8 bytes) → IsFinding c m bytes (Some (no_text bytes))
+
+-- this is the finding, and there is no other
+pub record IsTheFinding (c : Rows) (m : ParseMode) (bytes : List ℕ) (found : Option Wrong) : Type 0 where
+  pub given : IsFinding c m bytes found
+  pub only : (other : Option Wrong) → IsFinding c m bytes other → other ≡ found

@@ -1,0 +1,10 @@
+//! What is wrong with the licence expressions of a file: one by one, where another finds them, or line by line.
+#![tactic(auto)]
+
+mod check;
+mod lines;
+mod refusals;
+mod remembered;
+
+pub use crate::check::{Check, check_one};
+pub use crate::lines::{Checked, check_lines, expression_of};

@@ -1,0 +1,170 @@
+// The lines of a file.
+
+ghost use Rattle.std.specs.Prelude.{◌≡◌, ◌++◌, IfOk, OnOk, is_some, length};
+ghost use Rattle.line_engine.specs.Device.{devices};
+ghost use Rattle.line_engine.specs.Output.{capped};
+ghost use Rattle.spdx_check.specs.Checking.{ChecksLines, expression_of, found_text, have_finding, is_blank, spot_of};
+ghost use Rattle.spdx_check.specs.Found.{finding_of, rule_of};
+ghost use Rattle.spdx_check.specs.Refusals.{AreKnown};
+
+use crate::check::{Check, put_found};
+use crate::refusals::refusal_of;
+use crate::remembered::Remembered;
+use finding_forms::Place;
+use line_engine::device::{Sink, Source};
+use line_engine::lines::{RunFault, Summary, run};
+use line_engine::verdicts::Verdicts;
+use std::alloc::{AllocError, Global};
+
+/// The expression of a line: the line without a carriage return at its end, as the lines of some systems have it.
+pub fn expression_of(line: &[u8]) -> &[u8]
+    ensures { result.now ≡ expression_of line.now }
+{
+    match line.split_last() {
+        Some((b'\r', front)) => front,
+        _ => line,
+    }
+}
+
+// Whether it is nothing but ASCII white space.
+fn is_blank(expression: &[u8]) -> bool
+    ensures { result ≡ is_blank expression.now }
+{
+    expression.iter().all(|byte| byte.is_ascii_whitespace())
+}
+
+/// What was counted in a file.
+#[derive(Clone, Copy)]
+pub struct Checked {
+    /// The lines, and those that were refused.
+    pub summary: Summary,
+    /// How many of the lines are blank. No clause speaks of it. A count at `u64::MAX` stays there.
+    pub blanks: u64,
+}
+
+// A file whose lines are checked one after the other.
+#[derive(Drop)]
+struct File<'f, 'c> {
+    check: &'f Check<'c>,
+    name: &'f str,
+    is_first: bool,
+    // How many lines are checked, how many of them are blank, and whether one was refused.
+    lines: u64,
+    blanks: u64,
+    has_finding: bool,
+    remembered: Remembered<'c>,
+    ghost known: { AreKnown check.now remembered.slots.items },
+}
+
+// Appends what is found of an expression that stands there, and says whether anything is. One that came lately is looked
+// up among those that are remembered.
+fn put_line<'c>(
+    alloc: Global,
+    check: &Check<'c>,
+    remembered: &mut Remembered<'c>,
+    is_first: bool,
+    place: Place<'_>,
+    expression: &[u8],
+    text: &mut Vec<u8>,
+) -> Result<bool, AllocError>
+    ensures text { AreKnown check.now remembered.old.slots.items →
+        OnOk result (text.new.items ≡ text.old.items ++
+        found_text check.now.form is_first (spot_of place.entry)
+        (finding_of check.now.catalogue.now check.now.mode expression.now)) }
+    ensures refuses { AreKnown check.now remembered.old.slots.items →
+        IfOk result (λ is_refused. is_refused ≡
+        is_some (finding_of check.now.catalogue.now check.now.mode expression.now)) }
+    ensures known { AreKnown check.now remembered.old.slots.items →
+        AreKnown check.now remembered.new.slots.items }
+{
+    if let Some(found) = remembered.find(expression) {
+        return put_found(alloc, check.form, is_first, place, found, text);
+    }
+    let found = refusal_of(alloc, check, expression)?;
+    let is_refused = put_found(alloc, check.form, is_first, place, &found, text)?;
+    remembered.keep(alloc, expression, found);
+    Ok(is_refused)
+}
+
+impl Verdicts for File<'_, '_> {
+    ghost rule = { λ file. rule_of file.check.now file.is_first file.name.now };
+
+    ghost HasAnswered = { λ file lines. (file.lines ≡ capped (length lines))
+        × (file.has_finding ≡
+        have_finding (finding_of file.check.now.catalogue.now file.check.now.mode) lines) };
+
+    fn answer(
+        &mut self,
+        alloc: Global,
+        line: &[u8],
+        text: &mut Vec<u8>,
+    ) -> Result<bool, AllocError> {
+        let number = self.lines.saturating_add(1);
+        let expression = expression_of(line);
+        if is_blank(expression) {
+            self.lines = number;
+            self.blanks = self.blanks.saturating_add(1);
+            return Ok(false);
+        }
+        let place = Place {
+            file: self.name,
+            line: number,
+            column: 1,
+        };
+        let is_first = self.is_first && !self.has_finding;
+        let is_refused = put_line(
+            alloc,
+            self.check,
+            &mut self.remembered,
+            is_first,
+            place,
+            expression,
+            text,
+        )?;
+        self.lines = number;
+        self.has_finding = self.has_finding || is_refused;
+        Ok(is_refused)
+    }
+
+    fn close(&mut self, _alloc: Global, _text: &mut Vec<u8>) -> Result<(), AllocError> {
+        Ok(())
+    }
+}
+
+/// Writes the finding of each line of the input that is refused, and counts the lines and the refused ones: `check_one`
+/// of each line's expression, which begins in the first column. A newline is not part of its line, and a carriage return
+/// at its end is not part of its expression; a last line without a newline is a line if it is not empty. A blank line,
+/// whose expression is nothing but ASCII white space, is counted and has no finding. `file` names the input; `is_first`
+/// says that no finding was written before.
+///
+/// The input is read by pieces of 65,536 bytes, and the findings of the lines that end in a piece are written together
+/// before the input is read on; the output is flushed once, at the end. `Read` comes exactly where the input has failed,
+/// and `Write` only where the output has. After a fault, also one of memory, what was written is a beginning of the
+/// findings of the lines that were read whole; after `Read` it is all of them.
+pub fn check_lines<I: Source, O: Sink>(
+    alloc: Global,
+    check: &Check<'_>,
+    is_first: bool,
+    file: &str,
+    input: &mut I,
+    output: &mut O,
+) -> Result<Checked, RunFault>
+    ensures { ChecksLines check.now is_first file.now
+        (devices (I.told input.old) (I.told input.new) (O.told output.old) (O.told output.new))
+        result }
+{
+    let mut lines = File {
+        check,
+        name: file,
+        is_first,
+        lines: 0,
+        blanks: 0,
+        has_finding: false,
+        remembered: Remembered::new(alloc),
+    };
+    let summary = run(alloc, &mut lines, input, output)?;
+    Ok(Checked {
+        summary,
+        blanks: lines.blanks,
+    })
+}

@@ -1,0 +1,169 @@
+// What is wrong with an expression.
+
+ghost use Rattle.std.specs.Prelude.{◌≡◌, IfOk, MatchOption, None, option_map};
+ghost use Rattle.std.specs.Str.Lossy.{utf8_valid_len};
+ghost use Rattle.spdx_lexer.specs.Code.{span_of};
+ghost use Rattle.spdx_lexer.specs.Faults.{fault_of};
+ghost use Rattle.spdx_parser.specs.Meaning.{IsRefused};
+ghost use Rattle.spdx_fix.specs.Fix.{Reads};
+ghost use Rattle.finding_forms.specs.Finding.{aid_of};
+ghost use Rattle.spdx_check.specs.Finding.{aid_by, wants_name, wrong_in, no_text};
+ghost use Rattle.spdx_check.specs.Found.{finding_of, fix_of};
+ghost use Rattle.spdx_check.specs.Refusals.{aid_in, wrong_of};
+
+use crate::check::Check;
+use finding_forms::Help;
+use spdx_catalogue::{Catalogue, Failure};
+use spdx_fix::fix;
+use spdx_hints::{hints, phrase};
+use spdx_lexer::error::{ParseError, Reason};
+use spdx_parser::parse_nodes;
+use std::alloc::{AllocError, Global};
+
+/// What helps: the fix, or names that the catalogue lends.
+#[derive(Drop)]
+pub(crate) enum Remedy<'c> {
+    Nothing,
+    Write(String),
+    Names(Vec<&'c str>),
+}
+
+/// What is wrong, in texts of its own.
+#[derive(Drop)]
+pub(crate) struct Refusal<'c> {
+    pub(crate) shown: String,
+    pub(crate) start: usize,
+    pub(crate) end: usize,
+    pub(crate) reason: String,
+    remedy: Remedy<'c>,
+}
+
+impl Refusal<'_> {
+    /// What helps, as it is told.
+    pub(crate) fn help(&self) -> Help<'_>
+        ensures { aid_of result ≡ aid_in self.now.remedy }
+    {
+        match &self.remedy {
+            Remedy::Nothing => Help::Nothing,
+            Remedy::Write(mended) => Help::Write(mended.as_str()),
+            Remedy::Names(names) => Help::Names(names.as_slice()),
+        }
+    }
+}
+
+/// What is wrong with the bytes of an expression, if anything is.
+pub(crate) fn refusal_of<'c>(
+    alloc: Global,
+    check: &Check<'c>,
+    bytes: &[u8],
+) -> Result<Option<Refusal<'c>>, AllocError>
+    ensures { IfOk result (λ found. option_map wrong_of found ≡
+        finding_of check.now.catalogue.now check.now.mode bytes.now) }
+{
+    let written = match str::from_utf8(bytes) {
+        Ok(written) => written,
+        Err(error) => return Ok(Some(no_text(alloc, bytes, error.valid_up_to())?)),
+    };
+    match fault_in(alloc, check, written)? {
+        None => Ok(None),
+        Some(error) => Ok(Some(refused(alloc, check.catalogue, &error)?)),
+    }
+}
+
+// Why the text is refused, if it is.
+fn fault_in<'t>(
+    alloc: Global,
+    check: &Check<'_>,
+    written: &'t str,
+) -> Result<Option<ParseError<'t>>, AllocError>
+    ensures { IfOk result (λ error. MatchOption error
+        (Reads check.now.catalogue.now check.now.mode written.now)
+        (IsRefused check.now.catalogue.now check.now.mode written.now)) }
+{
+    match parse_nodes(alloc, check.catalogue, written, check.mode) {
+        Ok(_) => Ok(None),
+        Err(Failure::Refused(error)) => Ok(Some(error)),
+        Err(Failure::Memory(error)) => Err(error),
+    }
+}
+
+// Of bytes that are no text behind so many of them.
+fn no_text<'c>(alloc: Global, bytes: &[u8], valid: usize) -> Result<Refusal<'c>, AllocError>
+    requires { valid ≡ utf8_valid_len bytes.now }
+    ensures { IfOk result (λ refusal. wrong_of refusal ≡ no_text bytes.now) }
+{
+    Ok(Refusal {
+        shown: String::from_utf8_lossy(alloc, bytes)?,
+        start: valid,
+        end: valid + '\u{fffd}'.len_utf8(),
+        reason: String::from_str(alloc, "not UTF-8")?,
+        remedy: Remedy::Nothing,
+    })
+}
+
+// Of a text that is refused.
+fn refused<'c>(
+    alloc: Global,
+    catalogue: &'c Catalogue,
+    error: &ParseError<'_>,
+) -> Result<Refusal<'c>, AllocError>
+    ensures { IfOk result (λ refusal. wrong_of refusal ≡
+        wrong_in catalogue.entry.now error.now.original.now
+        (fault_of error.now.reason) (span_of error.now.span)
+        (fix_of catalogue.entry.now error.now.original.now)) }
+{
+    let reason = error.reason;
+    Ok(Refusal {
+        shown: String::from_str(alloc, error.original)?,
+        start: error.span.start,
+        end: error.span.end,
+        reason: format!(in alloc; "{reason}")?,
+        remedy: remedy_of(alloc, catalogue, error)?,
+    })
+}
+
+// What helps: the fix, where there is one, else names.
+fn remedy_of<'c>(
+    alloc: Global,
+    catalogue: &'c Catalogue,
+    error: &ParseError<'_>,
+) -> Result<Remedy<'c>, AllocError>
+    ensures { IfOk result (λ remedy. aid_in remedy ≡
+        aid_by catalogue.entry.now error.now.original.now
+        (fault_of error.now.reason) (span_of error.now.span)
+        (fix_of catalogue.entry.now error.now.original.now)) }
+{
+    match fix(alloc, catalogue, error.original)? {
+        Some(mended) => Ok(Remedy::Write(mended)),
+        None => names_for(alloc, catalogue, error),
+    }
+}
+
+// What helps where there is no fix: the names that the phrase at the fault may mean, if a name is wanted.
+fn names_for<'c>(
+    alloc: Global,
+    catalogue: &'c Catalogue,
+    error: &ParseError<'_>,
+) -> Result<Remedy<'c>, AllocError>
+    ensures { IfOk result (λ remedy. aid_in remedy ≡
+        aid_by catalogue.entry.now error.now.original.now
+        (fault_of error.now.reason) (span_of error.now.span) None) }
+{
+    if !wants_name(error.reason) {
+        return Ok(Remedy::Nothing);
+    }
+    let phrase = phrase(error.original.as_bytes(), error.span.start);
+    Ok(Remedy::Names(hints(alloc, catalogue, phrase)?))
+}
+
+fn wants_name(reason: Reason) -> bool
+    ensures { result ≡ wants_name (fault_of reason) }
+{
+    match reason {
+        Reason::UnknownTerm
+        | Reason::UnknownLicense
+        | Reason::InvalidCharacters
+        | Reason::DeprecatedLicenseId => true,
+        _ => false,
+    }
+}

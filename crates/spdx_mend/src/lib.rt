@@ -1,0 +1,21 @@
+//! A text whose licence expressions are replaced by their fixes, and nothing else.
+#![tactic(auto)]
+
+mod mending;
+
+pub use crate::mending::fix_all;
+
+/// Where an expression stands in a text: from `start` up to `end`, in bytes.
+#[derive(Clone, Copy, PartialEq, Eq, Debug)]
+pub struct Span {
+    pub start: usize,
+    pub end: usize,
+}
+
+/// A mended text, where its expressions stand, and how many of them were replaced.
+#[derive(Drop, Debug)]
+pub struct Mended {
+    pub bytes: Vec<u8>,
+    pub spans: Vec<Span>,
+    pub count: usize,
+}
