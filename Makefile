@@ -1,13 +1,14 @@
-# make run: the first verdicts, over the real list. make build: the proved program. make install: puts it in place.
+# make run: the first verdicts, over the real list. make build: the proved programs. make install: puts them in place.
 # make speed CRATE=FOLDER: processor time against the published Rust crate, whose sources are in FOLDER; CORPUS=FILE has
 # expressions with their weights.
-# make test: the whole gate, of which make quotes, theorem, growths and program are parts: what README.md and
-# docs/THEOREM.md quote is what the files hold; each growth of memory refused to each call; the built program in hostile
-# surroundings.
+# make test: the whole gate, of which make quotes, theorem, known, growths, program and commands are parts: what README.md
+# and docs/THEOREM.md quote is what the files hold; the list inside is that of data/; each growth of memory refused to
+# each call; the built line program in hostile surroundings; the built program spdx as its users run it.
 PREFIX ?= /usr/local
-PROGRAM := crates/spdx_lines_main/out/spdx_lines_main
+LINES := crates/spdx_lines_main/out/spdx_lines_main
+SPDX := crates/spdx_main/out/spdx_main
 
-.PHONY: run build install quotes theorem growths program speed test
+.PHONY: run build install quotes theorem known growths program commands speed test
 
 run:
 	@tools/run
@@ -28,16 +29,27 @@ theorem:
 growths:
 	@tools/growths
 
-program: $(PROGRAM)
-	@tools/program $(PROGRAM)
+program: $(LINES)
+	@tools/program $(LINES)
 
-$(PROGRAM):
-	@tools/build
+commands: $(SPDX)
+	@tools/commands $(SPDX)
+
+# Whether the list inside the program is what data/ has; tools/known writes it.
+known:
+	@tools/known --check
+
+$(LINES):
+	@tools/build spdx_lines_main
+
+$(SPDX):
+	@tools/build spdx_main
 
 # It measures, and is no part of the gate.
 speed:
 	@tools/speed "$(CRATE)" "$(CORPUS)"
 
-# The program is run as rt ci has built it.
+# The programs are run as rt ci has built them.
 test:
-	@tools/gate tools/quotes "tools/theorem --check" tools/growths "tools/program $(PROGRAM)"
+	@tools/gate tools/quotes "tools/theorem --check" "tools/known --check" tools/growths \
+		"tools/program $(LINES)" "tools/commands $(SPDX)"

@@ -1,0 +1,33 @@
+//! Checks and mends SPDX licence expressions: the program over the process's own arguments and outputs.
+#![tactic(auto)]
+
+use spdx_program::{Screen, run};
+use spdx_words::{Request, read};
+use std::env;
+use std::io::{self, IsTerminal};
+use std::process::ExitCode;
+
+const VERSION: &str = "0.1.0 (SPDX license list 3.18)";
+
+fn main(rt: HostRuntime) -> anyhow::Result<ExitCode> {
+    let alloc = rt.alloc();
+    let words: Vec<String> = match env::args(&rt) {
+        Ok(words) => words.collect(alloc)?,
+        Err(error) => {
+            eprintln!(rt; "spdx: an argument can't be read: {error}")?;
+            return Ok(ExitCode::from(2));
+        }
+    };
+    let request: Request<'_> = match read(alloc, VERSION, words.as_slice()) {
+        Ok(request) => request,
+        Err(error) => {
+            error.print(&rt)?;
+            return Ok(ExitCode::from(error.exit_code() as u8));
+        }
+    };
+    let screen = Screen {
+        colours: rt.stdout().is_terminal() && env::var(&rt, "NO_COLOR").is_err(),
+        progress: rt.stderr().is_terminal(),
+    };
+    Ok(ExitCode::from(run(&rt, &request, screen, io::writer(&rt), rt.stderr())))
+}

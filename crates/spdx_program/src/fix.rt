@@ -1,0 +1,166 @@
+// The command `fix`.
+
+use crate::console::Console;
+use crate::list;
+use crate::replace::replace;
+use crate::system::{System, bytes_of, input_bytes, is_binary, paths_or_input};
+use crate::trouble::Trouble;
+use crate::walk::Walk;
+use license_tags::tags;
+use line_diff::put_diff;
+use line_engine::lines::write_all;
+use spdx::{Catalogue, Expression, Failure};
+use spdx_mend::{Mended, Span, fix_all};
+use spdx_words::FixRequest;
+use std::alloc::{AllocError, Global};
+use std::io::Write;
+
+// What is mended by what, and where that goes.
+#[derive(Clone, Copy)]
+struct Job<'r> {
+    catalogue: &'r Catalogue,
+    is_tree: bool,
+    is_written: bool,
+}
+
+/// Mends what the request names, and answers the status: 1 where some expression is refused and has no mended text.
+pub(crate) fn fix<R: System, O: Write + Drop, F: Write + Drop>(
+    rt: &R,
+    request: &FixRequest<'_>,
+    console: &mut Console<O, F>,
+) -> Result<u8, Trouble> {
+    let catalogue = list::catalogue(rt, request.list)?;
+    let job = Job {
+        catalogue: &catalogue,
+        is_tree: request.headers,
+        is_written: request.write,
+    };
+    let mut status = 0;
+    for path in paths_or_input(&request.paths) {
+        let found = if job.is_tree && *path != "-" {
+            fix_tree(rt, &job, *path, console)
+        } else {
+            fix_file(rt, &job, *path, console)
+        };
+        match found {
+            Ok(other) => status = status.max(other),
+            Err(trouble) if trouble.is_passed_over() => status = console.tell(rt.alloc(), &trouble),
+            Err(trouble) => return Err(trouble),
+        }
+    }
+    Ok(status)
+}
+
+// Mends the tags of a file, or of the files below a folder.
+fn fix_tree<R: System, O: Write + Drop, F: Write + Drop>(
+    rt: &R,
+    job: &Job<'_>,
+    path: &str,
+    console: &mut Console<O, F>,
+) -> Result<u8, Trouble> {
+    let alloc = rt.alloc();
+    let mut walk = match Walk::new(rt, path) {
+        Ok(walk) => walk,
+        Err(error) => return Err(Trouble::unreadable(alloc, path, error)),
+    };
+    let mut status = 0;
+    for count in 0..u64::MAX {
+        console.show_progress(alloc, count)?;
+        let found = match walk.next_file(rt) {
+            Ok(Some(file)) => fix_file(rt, job, file.as_str(), console),
+            Ok(None) => break,
+            Err(error) => Err(Trouble::unreadable(alloc, path, error)),
+        };
+        match found {
+            Ok(other) => status = status.max(other),
+            Err(trouble) if trouble.is_passed_over() => status = console.tell(alloc, &trouble),
+            Err(trouble) => return Err(trouble),
+        }
+    }
+    console.end_progress();
+    Ok(status)
+}
+
+// Mends a file, or standard input.
+fn fix_file<R: System, O: Write + Drop, F: Write + Drop>(
+    rt: &R,
+    job: &Job<'_>,
+    path: &str,
+    console: &mut Console<O, F>,
+) -> Result<u8, Trouble> {
+    let alloc = rt.alloc();
+    let is_input = path == "-";
+    let bytes = if is_input {
+        input_bytes(rt)?
+    } else {
+        bytes_of(rt, path)?
+    };
+    if job.is_tree && is_binary(&bytes) {
+        return Ok(0);
+    }
+    let spans = if job.is_tree {
+        tag_spans(alloc, &bytes)?
+    } else {
+        line_spans(alloc, &bytes)?
+    };
+    let Some(mended) = fix_all(alloc, job.catalogue, &bytes, &spans)? else {
+        return Ok(0);
+    };
+    if mended.count > 0 && job.is_written && !is_input {
+        if let Err(error) = replace(rt, path, &mended.bytes) {
+            return Err(Trouble::unwritable(alloc, path, error));
+        }
+    } else if job.is_written && is_input {
+        write_all(&mut console.output, &mended.bytes)?;
+    } else if mended.count > 0 {
+        let mut text = Vec::new(alloc);
+        put_diff(alloc, &mut text, path, &bytes, &mended.bytes)?;
+        write_all(&mut console.output, &text)?;
+    }
+    Ok(u8::from(is_refused(alloc, job.catalogue, &mended)?))
+}
+
+// Where the tags of a file have their expressions.
+fn tag_spans(alloc: Global, bytes: &[u8]) -> Result<Vec<Span>, AllocError> {
+    let mut spans = Vec::new(alloc);
+    for tag in tags(alloc, bytes)? {
+        spans.push(Span {
+            start: tag.start,
+            end: tag.end,
+        })?;
+    }
+    Ok(spans)
+}
+
+// Where the lines stand that are not blank, without their ends.
+fn line_spans(alloc: Global, bytes: &[u8]) -> Result<Vec<Span>, AllocError> {
+    let mut spans = Vec::new(alloc);
+    let mut start: usize = 0;
+    for line in bytes.split(|byte| *byte == b'\n') {
+        let text = line.strip_suffix(b"\r").unwrap_or(line);
+        if !text.trim_ascii().is_empty() {
+            spans.push(Span {
+                start,
+                end: start.saturating_add(text.len()),
+            })?;
+        }
+        start = start.saturating_add(line.len()).saturating_add(1);
+    }
+    Ok(spans)
+}
+
+// Whether some expression is still refused.
+fn is_refused(alloc: Global, catalogue: &Catalogue, mended: &Mended) -> Result<bool, AllocError> {
+    for span in &mended.spans {
+        let bytes = mended.bytes.get(span.start..span.end).unwrap_or(&[]);
+        match str::from_utf8(bytes) {
+            Ok(text) => match Expression::parse(alloc, catalogue, text) {
+                Ok(_) => {}
+                Err(Failure::Refused(_)) => return Ok(true),
+                Err(Failure::Memory(error)) => return Err(error),
+            },
+            Err(_) => return Ok(true),
+        }
+    }
+    Ok(false)
+}

@@ -1,0 +1,39 @@
+// What is asked for, done.
+
+use crate::check::check;
+use crate::console::{Console, Hushed, Screen};
+use crate::fix::fix;
+use crate::make::make;
+use crate::show::show;
+use crate::system::System;
+use line_engine::stream::Output;
+use spdx_words::Request;
+use std::io::Write;
+
+/// Does what the request asks for, and answers the program's status: 0 where nothing was refused, 1 where something was,
+/// 2 where the list or a file can't be used, 3 where a read, a write or memory failed. What was asked goes to `output`;
+/// each trouble is a line of `faults`, and a file that can't be read keeps no other from being read.
+pub fn run<R: System, O: Write + Drop, F: Write + Drop>(
+    rt: &R,
+    request: &Request<'_>,
+    screen: Screen,
+    output: O,
+    faults: F,
+) -> u8 {
+    let is_quiet = matches!(request, Request::Check(request) if request.quiet);
+    let mut console = Console {
+        output: Output::new(Hushed::new(output, is_quiet)),
+        faults: Output::new(faults),
+        screen,
+    };
+    let end = match request {
+        Request::Check(request) => check(rt, request, &mut console),
+        Request::Fix(request) => fix(rt, request, &mut console),
+        Request::Show(request) => show(rt, request, &mut console),
+        Request::Make(request) => make(rt, request, &mut console),
+    };
+    match end {
+        Ok(status) => status,
+        Err(trouble) => console.tell(rt.alloc(), &trouble),
+    }
+}

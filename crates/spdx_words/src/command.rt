@@ -1,0 +1,142 @@
+// The command line that is understood.
+
+use clap::{Arg, ArgAction, Command};
+use std::alloc::{AllocError, Global};
+
+const CHECK_EXAMPLE: &str = "Example:
+  printf 'MIT\\nGPL-2.0+ OR Apache2\\n' | spdx check
+
+Status: 0 nothing refused, 1 something refused, 2 wrong words, list or file, 3 a read, a write or memory failed.";
+
+const FIX_EXAMPLE: &str = "Example:
+  spdx fix --write licenses.txt
+
+Status: 0 nothing is left to mend, 1 some expression has no mended text, 2 wrong words, list or file, 3 a read, a write
+or memory failed.";
+
+const LIST_EXAMPLE: &str = "Examples:
+  spdx list show MIT GPL-2.0
+  spdx list make licenses.json exceptions.json --extras extras.json > list.json";
+
+const EXAMPLES: &str = "Examples:
+  spdx check licenses.txt            what is wrong in a list with an expression a line
+  spdx check --headers src           the SPDX-License-Identifier tags of a source tree
+  spdx fix licenses.txt              a diff of what can be mended; --write mends the file
+  spdx list show Apache-2.0          what the list says of a name";
+
+/// The command `spdx`. `version` is what `--version` prints.
+pub(crate) fn command<'a>(alloc: Global, version: &'a str) -> Result<Command<'a>, AllocError> {
+    Command::new(alloc, "spdx")
+        .bin_name("spdx")?
+        .about("Checks and mends SPDX license expressions")
+        .version(version)
+        .subcommand_required(true)
+        .arg_required_else_help(true)
+        .after_help(EXAMPLES)
+        .subcommand(check(alloc)?)?
+        .subcommand(fix(alloc)?)?
+        .subcommand(list(alloc)?)
+}
+
+fn check<'a>(alloc: Global) -> Result<Command<'a>, AllocError> {
+    let form = Arg::new(alloc, "format")
+        .long("format")
+        .value_name("FORM")
+        .value_parser(["human", "short", "json", "github", "sarif"].as_slice())
+        .default_value("human")
+        .help("How findings are written");
+    Command::new(alloc, "check")
+        .about("Tells which expressions are refused, where, and what to write")
+        .after_help(CHECK_EXAMPLE)
+        .arg(form)?
+        .arg(flag(alloc, "strict", "Reads as SPDX has it; this is the default").conflicts_with(
+            "lax",
+        )?)?
+        .arg(flag(
+            alloc,
+            "lax",
+            "Reads names in any case, imprecise names and `/` for OR too",
+        ))?
+        .arg(headers(alloc))?
+        .arg(list_file(alloc))?
+        .arg(flag(alloc, "quiet", "Writes nothing; the status tells").short('q'))?
+        .arg(flag(
+            alloc,
+            "no-summary",
+            "Leaves out the last line with the totals",
+        ))?
+        .arg(paths(alloc))
+}
+
+fn fix<'a>(alloc: Global) -> Result<Command<'a>, AllocError> {
+    Command::new(alloc, "fix")
+        .about("Shows what the refused expressions should be, or writes it")
+        .after_help(FIX_EXAMPLE)
+        .arg(flag(alloc, "write", "Mends the files in place"))?
+        .arg(headers(alloc))?
+        .arg(list_file(alloc))?
+        .arg(paths(alloc))
+}
+
+fn list<'a>(alloc: Global) -> Result<Command<'a>, AllocError> {
+    let names = Arg::new(alloc, "NAME")
+        .action(ArgAction::Append)
+        .num_args(0..)
+        .help("License and exception names; all of them where there is none");
+    let show = Command::new(alloc, "show")
+        .about("Shows what the list says of names")
+        .arg(list_file(alloc))?
+        .arg(names)?;
+    let extras = Arg::new(alloc, "extras")
+        .long("extras")
+        .value_name("FILE")
+        .help("Copyleft names, imprecise names and heirs of old names");
+    let make = Command::new(alloc, "make")
+        .about("Writes a list from SPDX's own two files")
+        .arg(file(alloc, "LICENSES", "SPDX's licenses.json"))?
+        .arg(file(alloc, "EXCEPTIONS", "SPDX's exceptions.json"))?
+        .arg(extras)?;
+    Command::new(alloc, "list")
+        .about("Shows or makes the list of licenses")
+        .subcommand_required(true)
+        .arg_required_else_help(true)
+        .after_help(LIST_EXAMPLE)
+        .subcommand(show)?
+        .subcommand(make)
+}
+
+fn flag<'a>(alloc: Global, name: &'a str, help: &'a str) -> Arg<'a> {
+    Arg::new(alloc, name)
+        .long(name)
+        .action(ArgAction::SetTrue)
+        .help(help)
+}
+
+fn headers<'a>(alloc: Global) -> Arg<'a> {
+    flag(
+        alloc,
+        "headers",
+        "Takes the SPDX-License-Identifier tags of the files and folders",
+    )
+}
+
+fn list_file<'a>(alloc: Global) -> Arg<'a> {
+    Arg::new(alloc, "list")
+        .long("list")
+        .value_name("FILE|DIR")
+        .help("The list to read by: a file of this program, or a folder with SPDX's own two")
+}
+
+fn paths<'a>(alloc: Global) -> Arg<'a> {
+    Arg::new(alloc, "PATH")
+        .action(ArgAction::Append)
+        .num_args(0..)
+        .help("Files with an expression a line; `-` or none is standard input")
+}
+
+fn file<'a>(alloc: Global, name: &'a str, help: &'a str) -> Arg<'a> {
+    Arg::new(alloc, name)
+        .required(true)
+        .action(ArgAction::Set)
+        .help(help)
+}

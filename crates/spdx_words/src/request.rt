@@ -1,0 +1,65 @@
+// What a command line asks for.
+
+/// What the program is to do.
+#[derive(Drop)]
+pub enum Request<'w> {
+    /// `check`.
+    Check(CheckRequest<'w>),
+    /// `fix`.
+    Fix(FixRequest<'w>),
+    /// `list show`.
+    Show(ShowRequest<'w>),
+    /// `list make`.
+    Make(MakeRequest<'w>),
+}
+
+/// How findings are written.
+#[derive(Clone, Copy, PartialEq, Eq, Debug)]
+pub enum Form {
+    Human,
+    Short,
+    Json,
+    Github,
+    Sarif,
+}
+
+/// Which expressions are checked, and how it is told. No paths are standard input, as is the path `-`.
+#[derive(Drop)]
+pub struct CheckRequest<'w> {
+    /// The list's file or folder; the list inside the program where there is none.
+    pub list: Option<&'w str>,
+    pub form: Form,
+    pub is_lax: bool,
+    /// Whether the paths are source trees, whose license tags are checked.
+    pub headers: bool,
+    /// Whether nothing is written, and the status alone tells.
+    pub quiet: bool,
+    /// Whether the last line has the totals.
+    pub summary: bool,
+    pub paths: Vec<&'w str>,
+}
+
+/// Which expressions are mended, and whether in place.
+#[derive(Drop)]
+pub struct FixRequest<'w> {
+    pub list: Option<&'w str>,
+    /// Whether the files are written; else a diff is.
+    pub write: bool,
+    pub headers: bool,
+    pub paths: Vec<&'w str>,
+}
+
+/// Which names of the list are shown; all of them where there is none.
+#[derive(Drop)]
+pub struct ShowRequest<'w> {
+    pub list: Option<&'w str>,
+    pub names: Vec<&'w str>,
+}
+
+/// The files that a list is made from.
+#[derive(Drop)]
+pub struct MakeRequest<'w> {
+    pub licenses: &'w str,
+    pub exceptions: &'w str,
+    pub extras: Option<&'w str>,
+}

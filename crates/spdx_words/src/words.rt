@@ -1,0 +1,104 @@
+// Words to requests.
+
+use crate::command::command;
+use crate::request::{CheckRequest, FixRequest, Form, MakeRequest, Request, ShowRequest};
+use clap::error::ErrorKind;
+use clap::{ArgMatches, Command, Error};
+use std::alloc::{AllocError, Global};
+
+/// What the words ask for; the first is the program's name. `version` is what `--version` tells.
+///
+/// # Errors
+///
+/// The words are not understood, or ask for help or the version, or memory was refused. The error prints what is to be
+/// told, and has the status.
+pub fn read<'w>(
+    alloc: Global,
+    version: &'w str,
+    words: &'w [String],
+) -> Result<Request<'w>, Error> {
+    let matches = command(alloc, version)?.try_get_matches_from(words)?;
+    match matches.subcommand() {
+        Some(("check", matches)) => Ok(Request::Check(check_request(alloc, matches)?)),
+        Some(("fix", matches)) => Ok(Request::Fix(fix_request(alloc, matches)?)),
+        Some(("list", matches)) => list_request(alloc, matches),
+        _ => Err(no_command(alloc)),
+    }
+}
+
+// Every command line that is understood has a command, so nobody sees this.
+fn no_command(alloc: Global) -> Error {
+    match Command::new(alloc, "spdx").error(ErrorKind::MissingSubcommand, "a command is missing") {
+        Ok(error) => error,
+        Err(error) => Error::from(error),
+    }
+}
+
+fn check_request<'w>(
+    alloc: Global,
+    matches: &ArgMatches<'w>,
+) -> Result<CheckRequest<'w>, AllocError> {
+    Ok(CheckRequest {
+        list: matches.get_str("list"),
+        form: form_of(matches.get_str("format")),
+        is_lax: matches.get_flag("lax"),
+        headers: matches.get_flag("headers"),
+        quiet: matches.get_flag("quiet"),
+        summary: !matches.get_flag("no-summary"),
+        paths: texts(alloc, matches, "PATH")?,
+    })
+}
+
+fn form_of(name: Option<&str>) -> Form {
+    match name {
+        Some("short") => Form::Short,
+        Some("json") => Form::Json,
+        Some("github") => Form::Github,
+        Some("sarif") => Form::Sarif,
+        _ => Form::Human,
+    }
+}
+
+fn fix_request<'w>(alloc: Global, matches: &ArgMatches<'w>) -> Result<FixRequest<'w>, AllocError> {
+    Ok(FixRequest {
+        list: matches.get_str("list"),
+        write: matches.get_flag("write"),
+        headers: matches.get_flag("headers"),
+        paths: texts(alloc, matches, "PATH")?,
+    })
+}
+
+fn list_request<'w>(alloc: Global, matches: &ArgMatches<'w>) -> Result<Request<'w>, Error> {
+    match matches.subcommand() {
+        Some(("make", matches)) => match make_request(matches) {
+            Some(request) => Ok(Request::Make(request)),
+            None => Err(no_command(alloc)),
+        },
+        Some((_, matches)) => Ok(Request::Show(ShowRequest {
+            list: matches.get_str("list"),
+            names: texts(alloc, matches, "NAME")?,
+        })),
+        None => Err(no_command(alloc)),
+    }
+}
+
+// Both files are required, so there is one.
+fn make_request<'w>(matches: &ArgMatches<'w>) -> Option<MakeRequest<'w>> {
+    Some(MakeRequest {
+        licenses: matches.get_str("LICENSES")?,
+        exceptions: matches.get_str("EXCEPTIONS")?,
+        extras: matches.get_str("extras"),
+    })
+}
+
+fn texts<'w>(
+    alloc: Global,
+    matches: &ArgMatches<'w>,
+    name: &str,
+) -> Result<Vec<&'w str>, AllocError> {
+    let mut texts = Vec::new(alloc);
+    for text in matches.get_strs(name).unwrap_or(&[]) {
+        texts.push(*text)?;
+    }
+    Ok(texts)
+}
