@@ -1,0 +1,12 @@
+pub mod Rows
+pub mod Texts
+pub mod Values
+pub mod Members
+pub mod Places
+pub mod Items
+pub mod Packages
+pub mod Readings
+pub mod Lines
+pub mod Pointer
+pub mod Sources
+pub mod Several
