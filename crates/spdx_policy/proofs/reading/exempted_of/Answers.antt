@@ -1,0 +1,19 @@
+use Rattle.std.proofs.Common.{◌≡◌, Err, rules, ◌<◌, length, arith}
+use Rattle.spdx_policy.proofs.Blamed.{blamed, exempted_blame}
+use Rattle.spdx_policy.proofs.Eaches.{each_more}
+use Rattle.spdx_policy.specs.Meant.{IsExempted}
+use Rattle.spdx_policy.specs.Drawn.{exception_row}
+use Rattle.spdx_policy.specs.Shown.{scope_row}
+use Rattle.spdx_policy.proofs.reading.exempted_of.Goals as goal
+
+pub loop-index-preserved : goal.loop-index-preserved
+loop-index-preserved c =
+    let lt : c.loop-index.index < length c.args.exceptions.now = omega arith in
+    each_more IsExempted exception_row scope_row c.args.exceptions.now c.loop-index.index c.index-exceptions-index.result c.loop-index.scopes.items c.push.new.self.items c.in_ok-exempted_in.field-0
+    lt c.index-exceptions-index.is c.in_ok-push.ensures.items c.loop-index.invariant c.in_ok-exempted_in.ensures.ok
+
+pub returns-in_err-exempted_in-clause-err : goal.returns-in_err-exempted_in-clause-err
+returns-in_err-exempted_in-clause-err c =
+    let lt : c.loop-index.index < length c.args.exceptions.now = omega arith in
+    let same : c.from_residual.result ≡ Err c.in_err-exempted_in.field-0.0 = search rules in
+    blamed _ _ c.from_residual.result c.in_err-exempted_in.field-0.0 same c.in_err-exempted_in.ensures.err (exempted_blame c.args.exceptions.now c.loop-index.index c.index-exceptions-index.result lt c.index-exceptions-index.is)

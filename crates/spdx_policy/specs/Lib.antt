@@ -1,0 +1,13 @@
+pub mod Scopes
+pub mod Shown
+pub mod ScopesModel
+pub mod Rules
+pub mod Named
+pub mod PolicyModel
+pub mod Decisions
+pub mod Shape
+pub mod Drafts
+pub mod Drawn
+pub mod Meant
+pub mod Blame
+pub mod Refused

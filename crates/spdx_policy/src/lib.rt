@@ -1,0 +1,19 @@
+//! A policy of licences, read from TOML, and what it says of a requirement.
+#![tactic(auto)]
+
+pub mod decision;
+mod draft;
+pub mod error;
+mod escaped;
+pub mod fault;
+mod from_toml;
+mod named;
+pub mod policy;
+mod reading;
+mod scopes;
+mod shape;
+
+pub use crate::decision::{Decision, Entry, Flag};
+pub use crate::error::{Key, Kind, Place, Section, ShapeFault};
+pub use crate::fault::{PolicyError, PolicyFault, Unreadable};
+pub use crate::policy::Policy;
