@@ -1,0 +1,4 @@
+pub mod Verdicts
+pub mod Judging
+pub mod Reports
+pub mod Benches

@@ -1,0 +1,242 @@
+//! What a policy says of one text.
+
+ghost use Rattle.std.specs.Prelude.{◌≡◌, [], IfOk, map};
+ghost use Rattle.std.specs.List.{list_any};
+ghost use Rattle.spdx_parser.specs.Tree.{leaves, node_of};
+ghost use Rattle.spdx_evaluation.specs.Postfix.{IsPostfix, tree_in};
+ghost use Rattle.spdx_evaluation.specs.Truth.{holds};
+ghost use Rattle.spdx_policy.specs.Decisions.{decision_of};
+ghost use Rattle.spdx_gate.specs.Judging as spec;
+ghost use Rattle.spdx_gate.specs.Reports as reports;
+ghost use Rattle.spdx_gate.specs.Judging.{mode_of, allowed_in, IsOutcome};
+
+use crate::package::Verdict;
+use spdx_catalogue::{Catalogue, Failure};
+use spdx_lexer::error::Reason;
+use spdx_lexer::token::ParseMode;
+use spdx_parser::node::{ExprNode, NodeList};
+use spdx_parser::parse_nodes;
+use spdx_policy::{Decision, Entry, Policy};
+use spdx_why::{Mark, Remedy, advice, is_accepted, least_allowed, missing};
+use std::alloc::{AllocError, Global};
+use std::ops::Range;
+
+/// Why a text is no expression, and the bytes that the reason speaks of.
+#[derive(Clone, Debug, Drop)]
+pub struct Fault {
+    pub reason: Reason,
+    pub span: Range<usize>,
+}
+
+/// What a policy says of an expression.
+#[derive(Drop)]
+pub struct Judged<'c> {
+    /// The nodes of its tree, in postfix order.
+    pub nodes: NodeList<'c>,
+    /// Of each requirement, in the order of the text, what the policy says of it.
+    pub decisions: Vec<Decision>,
+    /// The numbers of the requirements that a refusal hangs on.
+    pub missing: Vec<usize>,
+    /// What would make it pass.
+    pub remedy: Remedy,
+    /// The least choice among what is allowed.
+    pub choice: Remedy,
+    /// Whether it passes.
+    pub verdict: Verdict,
+}
+
+/// What comes out of a text.
+#[derive(Drop)]
+pub enum Outcome<'c> {
+    Judged(Judged<'c>),
+    Unreadable(Fault),
+}
+
+/// A text under some exceptions, and what came out of it.
+#[derive(Drop)]
+pub struct Judgement<'c> {
+    pub text: String,
+    /// The exceptions that held, ascending.
+    pub exceptions: Vec<usize>,
+    pub outcome: Outcome<'c>,
+}
+
+impl Judgement<'_> {
+    ghost use Rattle.std.specs.Prelude.{◌≡◌, true};
+    ghost use Rattle.spdx_gate.specs.Reports as reports;
+    ghost use Rattle.spdx_gate.specs.Reports.{outcome_verdict, IsOf};
+
+    /// Whether it is of this text under these exceptions.
+    pub fn is_of(&self, exceptions: &[usize], text: &str) -> bool
+        ensures { result ≡ true → IsOf exceptions.now text.now self.now }
+    {
+        self.text.as_str() == text && *self.exceptions.as_slice() == *exceptions
+    }
+
+    /// The verdict of a package with this text and these exceptions.
+    pub fn verdict(&self) -> Verdict
+        ensures { result ≡ outcome_verdict self.now.outcome }
+    {
+        match &self.outcome {
+            Outcome::Judged(judged) => judged.verdict,
+            Outcome::Unreadable(_) => Verdict::Unreadable,
+        }
+    }
+
+    /// Whether the entry decided one of its requirements.
+    pub fn is_decided_by(&self, entry: Entry) -> bool
+        ensures { result ≡ reports.decided_in entry self.now.outcome }
+    {
+        match &self.outcome {
+            Outcome::Judged(judged) => is_among(entry, judged.decisions.as_slice()),
+            Outcome::Unreadable(_) => false,
+        }
+    }
+}
+
+// Whether the entry is the one that decided among these.
+fn is_among(entry: Entry, decisions: &[Decision]) -> bool
+    ensures { result ≡ list_any (reports.is_by entry) decisions.now }
+{
+    decisions.iter().any(|d| is_by(entry, *d))
+}
+
+// Whether the entry is the one that decided.
+fn is_by(entry: Entry, decision: Decision) -> bool
+    ensures { result ≡ reports.is_by entry decision }
+{
+    match decision {
+        Decision::Allowed(other) | Decision::Denied(other) => is_same(entry, other),
+        Decision::Open => false,
+    }
+}
+
+// Whether two entries are one.
+fn is_same(one: Entry, other: Entry) -> bool
+    ensures { result ≡ reports.same_entry one other }
+{
+    match (one, other) {
+        (Entry::Allow(i), Entry::Allow(j)) => i == j,
+        (Entry::AllowIf(i), Entry::AllowIf(j)) => i == j,
+        (Entry::Deny(i), Entry::Deny(j)) => i == j,
+        (Entry::DenyIf(i), Entry::DenyIf(j)) => i == j,
+        (Entry::Exception(s, i), Entry::Exception(t, j)) => s == t && i == j,
+        _ => false,
+    }
+}
+
+/// What the policy says of a text, of a package under these exceptions. The text is read strictly or
+/// lax, as the policy says.
+pub fn judge_text<'c>(
+    alloc: Global,
+    catalogue: &'c Catalogue,
+    policy: &Policy<'_>,
+    exceptions: &[usize],
+    text: &str,
+) -> Result<Outcome<'c>, AllocError>
+    ensures { IfOk result (λ outcome.
+        IsOutcome catalogue.now policy.now exceptions.now text.now outcome) }
+{
+    match parse_nodes(alloc, catalogue, text, mode(policy)) {
+        Ok(nodes) => Ok(Outcome::Judged(judge_nodes(alloc, policy, exceptions, nodes)?)),
+        Err(Failure::Refused(error)) => Ok(Outcome::Unreadable(Fault {
+            reason: error.reason,
+            span: error.span,
+        })),
+        Err(Failure::Memory(error)) => Err(error),
+    }
+}
+
+// How the policy has texts read.
+fn mode(policy: &Policy<'_>) -> ParseMode
+    ensures { result ≡ mode_of policy.now }
+{
+    if policy.is_lax() {
+        ParseMode::LAX
+    } else {
+        ParseMode::STRICT
+    }
+}
+
+// What the policy says of an expression under these exceptions.
+fn judge_nodes<'c>(
+    alloc: Global,
+    policy: &Policy<'_>,
+    exceptions: &[usize],
+    nodes: NodeList<'c>,
+) -> Result<Judged<'c>, AllocError>
+    requires { IsPostfix (map node_of nodes.items) }
+    ensures nodes { IfOk result (λ judged. judged.nodes.items ≡ nodes.entry.items) }
+    ensures judged { IfOk result (λ judged.
+        spec.IsDecided policy.now exceptions.now (tree_in nodes.entry.items) judged) }
+{
+    let decisions = decisions_of(alloc, policy, exceptions, nodes.as_slice())?;
+    let marks = marks_of(alloc, decisions.as_slice())?;
+    let missing = missing(alloc, nodes.as_slice(), marks.as_slice())?;
+    let remedy = advice(alloc, nodes.as_slice(), marks.as_slice())?;
+    let choice = least_allowed(alloc, nodes.as_slice(), marks.as_slice())?;
+    let with_exceptions = is_passing(alloc, policy, exceptions, nodes.as_slice())?;
+    let without = is_passing(alloc, policy, &[], nodes.as_slice())?;
+    Ok(Judged {
+        nodes,
+        decisions,
+        missing,
+        remedy,
+        choice,
+        verdict: Verdict::of(with_exceptions, without),
+    })
+}
+
+// Whether the expression passes under these exceptions.
+fn is_passing(
+    alloc: Global,
+    policy: &Policy<'_>,
+    exceptions: &[usize],
+    nodes: &[ExprNode<'_>],
+) -> Result<bool, AllocError>
+    requires { IsPostfix (map node_of nodes.now) }
+    ensures { IfOk result (λ b.
+        b ≡ holds (allowed_in policy.now exceptions.now) (tree_in nodes.now)) }
+{
+    let decisions = decisions_of(alloc, policy, exceptions, nodes)?;
+    let marks = marks_of(alloc, decisions.as_slice())?;
+    is_accepted(alloc, nodes, marks.as_slice())
+}
+
+// What the policy says of each requirement, from left to right.
+fn decisions_of(
+    alloc: Global,
+    policy: &Policy<'_>,
+    exceptions: &[usize],
+    nodes: &[ExprNode<'_>],
+) -> Result<Vec<Decision>, AllocError>
+    requires { IsPostfix (map node_of nodes.now) }
+    ensures { IfOk result (λ decisions. decisions.items ≡
+        map (decision_of policy.now exceptions.now) (leaves (tree_in nodes.now))) }
+{
+    let mut decisions = Vec::new(alloc);
+    for node in nodes {
+        if let ExprNode::Req(requirement) = node {
+            decisions.push(policy.decide(exceptions, &requirement.req))?;
+        }
+    }
+    Ok(decisions)
+}
+
+// The marks of decisions.
+fn marks_of(alloc: Global, decisions: &[Decision]) -> Result<Vec<Mark>, AllocError>
+    ensures { IfOk result (λ marks. marks.items ≡ map spec.mark_of decisions.now) }
+{
+    decisions.iter().map(|d| mark_of(*d)).collect(alloc)
+}
+
+// The mark of a decision.
+fn mark_of(decision: Decision) -> Mark
+    ensures { result ≡ spec.mark_of decision }
+{
+    match decision {
+        Decision::Allowed(_) => Mark::Allowed,
+        Decision::Denied(_) => Mark::Denied,
+        Decision::Open => Mark::Open,
+    }
+}

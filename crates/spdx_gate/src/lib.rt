@@ -1,0 +1,13 @@
+//! Packages under a policy: which pass, and why one doesn't.
+#![tactic(auto)]
+
+mod bench;
+mod judgement;
+mod package;
+mod report;
+mod totals;
+
+pub use crate::judgement::{Fault, Judged, Judgement, Outcome, judge_text};
+pub use crate::package::{Package, Verdict};
+pub use crate::report::{Report, Row, judge};
+pub use crate::totals::Totals;

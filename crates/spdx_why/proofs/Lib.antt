@@ -1,0 +1,4 @@
+pub mod Numbering
+pub mod Listing
+pub mod Hanging
+pub mod Chosen

@@ -1,0 +1,53 @@
+use Rattle.std.proofs.Common.{rules, arith, sym, ◌∙◌, ap, ◌≡◌, ◌<◌, ℕ, Bool, ◌∷◌, length}
+use Rattle.spdx_parser.specs.declared.node.Operator.TheVariants.{And, Or}
+use Rattle.spdx_parser.specs.declared.node.ExprNode.TheVariants.{Op}
+use Rattle.spdx_evaluation.specs.Postfix.{tree_in}
+use Rattle.spdx_minimize.proofs.Asking.{begins, leaf_there, reads_requirement, reads_operator, finishes}
+use Rattle.spdx_why.proofs.Chosen.{length-with_chosen}
+use Rattle.spdx_why.proofs.judge.is_true.Goals as goal
+use Rattle.spdx_why.proofs.judge.is_true.Goals.{in-Req, in-Op-And, in-Op-Or}
+
+pub loop-node-init : goal.loop-node-init
+loop-node-init c =
+    let each = length-with_chosen c.args.accepted.now c.args.firsts.now c.args.selection.now c.requires.firsts_each in
+    record {
+      so_far = begins _ _ _ (tree_in c.args.nodes.now) c.requires.tree (each ∙ c.requires.each) c.clear.ensures.items (omega (arith, c.requires.room, c.clear.ensures.room));
+      place = omega arith;
+      room = c.clear.ensures.room;
+    }
+
+pub is_met-requires-clause-within : goal.is_met-requires-clause-within
+is_met-requires-clause-within c =
+    let there = leaf_there _ _ _ _ _ _ _ c.loop-node.invariant.so_far c.loop-node-test.true (sym c.node-item.is ∙ c.in-Req.is) in
+    omega (arith, there, length-with_chosen c.args.accepted.now c.args.firsts.now c.args.selection.now c.requires.firsts_each)
+
+pub loop-node-preserved : goal.loop-node-preserved
+loop-node-preserved c = elim c.match-node.branch [
+  | in-Req w ↦
+      let node = sym c.node-item.is ∙ w.in-Req.is in
+      rw (w.number-is, w.truths-is) record {
+        so_far = reads_requirement _ _ _ _ _ _ _ _ c.loop-node.invariant.so_far c.loop-node-test.true node
+            (w.push.ensures.items ∙ ap (λ (b : Bool). b ∷ c.loop-node.truths.items) w.is_met.ensures) w.push.ensures.room;
+        place = omega (arith, c.loop-node.invariant.place);
+        room = w.push.ensures.room ∙ c.loop-node.invariant.room;
+      }
+  | in-Op-And w ↦
+      let node : c.node-item.result ≡ Op And = search rules in
+      rw (w.number-is, w.truths-is) record {
+        so_far = reads_operator _ _ _ _ _ _ And _ c.loop-node.invariant.so_far c.loop-node-test.true (sym c.node-item.is ∙ node) w.both.ensures.items w.both.ensures.room;
+        place = omega (arith, c.loop-node.invariant.place);
+        room = w.both.ensures.room ∙ c.loop-node.invariant.room;
+      }
+  | in-Op-Or w ↦
+      let node : c.node-item.result ≡ Op Or = search rules in
+      rw (w.number-is, w.truths-is) record {
+        so_far = reads_operator _ _ _ _ _ _ Or _ c.loop-node.invariant.so_far c.loop-node-test.true (sym c.node-item.is ∙ node) w.either.ensures.items w.either.ensures.room;
+        place = omega (arith, c.loop-node.invariant.place);
+        room = w.either.ensures.room ∙ c.loop-node.invariant.room;
+      }
+]
+
+pub returns-clause-answer : goal.returns-clause-answer
+returns-clause-answer c =
+    let each = length-with_chosen c.args.accepted.now c.args.firsts.now c.args.selection.now c.requires.firsts_each in
+    finishes _ _ _ _ _ _ _ (tree_in c.args.nodes.now) c.loop-node.invariant.so_far (search rules) c.take.ensures.items c.requires.tree (each ∙ c.requires.each)

@@ -1,0 +1,5 @@
+pub mod Marks
+pub mod Missing
+pub mod Least
+pub mod GrowthLaws
+pub mod JudgeModel

@@ -1,0 +1,16 @@
+//! Why an expression is refused, over its nodes and a mark for each of its requirements: which of them the refusal hangs
+//! on, and the fewest that would make it pass.
+//!
+//! A requirement is named by its number: how many stand before it in the text.
+#![tactic(auto)]
+
+mod choice;
+mod firsts;
+mod judge;
+mod marks;
+mod parts;
+mod reasons;
+
+pub use crate::choice::{Remedy, advice, least, least_allowed};
+pub use crate::marks::Mark;
+pub use crate::reasons::{is_accepted, missing};
