@@ -1,0 +1,4 @@
+mod Tokens
+mod JsonLaws
+mod PageLaws
+mod SarifLaw

@@ -1,0 +1,11 @@
+use Rattle.std.proofs.Common.{◌≤◌, length, arith}
+use Rattle.gate_forms.proofs.Tokens.{begun, written, leaf_tokens_all}
+use Rattle.gate_forms.proofs.json_form.put_leaf_texts.Goals as goal
+
+pub returns-clause-tokens : goal.returns-clause-tokens
+returns-clause-tokens c =
+    let w1 = written (begun c.args.writer.now.tokens) _ _ c.in_ok-begin_array.ensures.ok in
+    let w2 = written w1 _ _ c.loop-leaf.invariant.1 in
+    let w3 = written w2 _ _ c.in_ok-end_array.ensures.ok in
+    let all : length c.args.leaves.now ≤ c.loop-leaf.leaf-index = omega arith in
+    rw (← leaf_tokens_all c.args.leaves.now c.loop-leaf.leaf-index all) w3.is

@@ -1,0 +1,8 @@
+use Rattle.std.proofs.Common.{◌≡◌, ◌++◌, take, flat_map}
+use Rattle.html_text.specs.Text.{page_text}
+use Rattle.gate_forms.specs.Page.{in_refused}
+use Rattle.gate_forms.proofs.page.put_refused_items.Given as goal
+
+abbrev pub invariant-loop-report : goal.invariant-loop-report
+invariant-loop-report l =
+    l.page.items ≡ l.initial.page.items ++ flat_map (λ r. in_refused page_text r r.verdict) (take l.report-index l.reports)

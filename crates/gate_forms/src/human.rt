@@ -1,0 +1,220 @@
+// The form for people.
+
+ghost use Rattle.std.specs.Prelude.{◌≡◌, ◌++◌, OnOk, OnErr, IfOk, flat_map, string_bytes, take};
+ghost use Rattle.finding_forms.specs.Forms.{bold, painted};
+ghost use Rattle.gate_forms.specs.Report.{package_text};
+ghost use Rattle.gate_forms.specs.Human.{advice_line, expression_line, fault_line, head_line, human_text, leaf_line, leaf_lines, more_line, package_line, reasons_text, refused_lines};
+
+use crate::escapes::{Escape, put_escaped};
+use crate::messages::{put_advice, put_decided, put_package, put_verdict};
+use crate::paint::{begin_paint, end_paint, put_carets, put_painted};
+use crate::reports::{Leaf, Report, Why};
+use finding_forms::Style;
+use std::alloc::{AllocError, Global};
+
+/// Appends a refused package as people read it: the package and the verdict, the expression, carets under each part that
+/// is missing by the columns of a terminal, and what would help. Carets stand under twenty parts at most, for each line of
+/// them is as long as the expression; of further ones the number is told. Of a package that passes nothing is said.
+///
+/// # Errors
+///
+/// Memory was refused, and the text is as it was.
+pub fn put_human(
+    alloc: Global,
+    text: &mut Vec<u8>,
+    style: Style,
+    report: &Report<'_>,
+) -> Result<(), AllocError>
+    ensures ok { OnOk result (text.new.items ≡ text.old.items ++ human_text style report.now) }
+    ensures err { OnErr result (text.new.items ≡ text.old.items) }
+{
+    if !report.verdict.is_refused() {
+        return Ok(());
+    }
+    let lines = refused_lines(alloc, style, report)?;
+    text.extend_from_slice(lines.as_bytes())
+}
+
+fn refused_lines(alloc: Global, style: Style, report: &Report<'_>) -> Result<String, AllocError>
+    ensures { IfOk result (λ lines. string_bytes lines ≡ refused_lines style report.now) }
+{
+    let mut lines = String::new(alloc);
+    put_head(&mut lines, style, report)?;
+    put_reasons(alloc, &mut lines, style, report)?;
+    Ok(lines)
+}
+
+fn put_head(lines: &mut String, style: Style, report: &Report<'_>) -> Result<(), AllocError>
+    ensures { OnOk result (
+        string_bytes lines.new ≡ string_bytes lines.old ++ head_line style report.now) }
+{
+    put_painted(lines, style, "[1;31m", "error")?;
+    lines.push_str(": ")?;
+    put_package_line(lines, style, report)?;
+    Ok(())
+}
+
+/// Appends the package and the verdict, as a line.
+pub(crate) fn put_package_line(
+    lines: &mut String,
+    style: Style,
+    report: &Report<'_>,
+) -> Result<(), AllocError>
+    ensures { OnOk result (
+        string_bytes lines.new ≡ string_bytes lines.old ++ package_line style report.now) }
+{
+    put_bold_package(lines, style, report)?;
+    lines.push_str(": ")?;
+    put_verdict(lines, Escape::Shown, report)?;
+    lines.push('\n')?;
+    Ok(())
+}
+
+fn put_bold_package(lines: &mut String, style: Style, report: &Report<'_>) -> Result<(), AllocError>
+    ensures { OnOk result (string_bytes lines.new ≡
+        string_bytes lines.old ++ painted style bold (package_text Escape.Shown report.now)) }
+{
+    begin_paint(lines, style, "[1m")?;
+    put_package(lines, Escape::Shown, report)?;
+    end_paint(lines, style)?;
+    Ok(())
+}
+
+fn put_reasons(
+    alloc: Global,
+    lines: &mut String,
+    style: Style,
+    report: &Report<'_>,
+) -> Result<(), AllocError>
+    ensures { OnOk result (
+        string_bytes lines.new ≡ string_bytes lines.old ++ reasons_text style report.now) }
+{
+    put_expression(lines, report.expression)?;
+    match report.why {
+        Why::Nothing => Ok(()),
+        Why::Fault { reason, start, end } => {
+            put_fault(alloc, lines, style, report.expression, reason, start, end)?;
+            Ok(())
+        }
+        Why::Missing { leaves, advice } => {
+            put_missing(alloc, lines, style, report.expression, leaves)?;
+            put_advice_line(lines, advice)?;
+            Ok(())
+        }
+    }
+}
+
+/// Appends the expression as a line, where there is one.
+pub(crate) fn put_expression(lines: &mut String, expression: &str) -> Result<(), AllocError>
+    ensures { OnOk result (
+        string_bytes lines.new ≡ string_bytes lines.old ++ expression_line expression.now) }
+{
+    if expression.is_empty() {
+        return Ok(());
+    }
+    lines.push_str("  ")?;
+    put_escaped(lines, Escape::Shown, expression)?;
+    lines.push('\n')?;
+    Ok(())
+}
+
+/// Appends carets under the fault, and its reason.
+pub(crate) fn put_fault(
+    alloc: Global,
+    lines: &mut String,
+    style: Style,
+    expression: &str,
+    reason: &str,
+    start: usize,
+    end: usize,
+) -> Result<(), AllocError>
+    ensures { OnOk result (string_bytes lines.new ≡
+        string_bytes lines.old ++ fault_line style expression.now reason.now start end) }
+{
+    put_carets(alloc, lines, style, expression, start, end)?;
+    put_escaped(lines, Escape::Shown, reason)?;
+    lines.push('\n')?;
+    Ok(())
+}
+
+// The requirements under which carets are put.
+fn first_of<'s, 'r>(leaves: &'s [Leaf<'r>]) -> &'s [Leaf<'r>]
+    ensures { result.now ≡ take 20 leaves.now }
+{
+    if leaves.len() <= 20 {
+        leaves
+    } else {
+        &leaves[..20]
+    }
+}
+
+fn put_missing(
+    alloc: Global,
+    lines: &mut String,
+    style: Style,
+    expression: &str,
+    leaves: &[Leaf<'_>],
+) -> Result<(), AllocError>
+    ensures { OnOk result (string_bytes lines.new ≡
+        string_bytes lines.old ++ leaf_lines style expression.now leaves.now) }
+{
+    put_leaf_lines(alloc, lines, style, expression, first_of(leaves))?;
+    put_more_line(lines, leaves.len())?;
+    Ok(())
+}
+
+fn put_leaf_lines(
+    alloc: Global,
+    lines: &mut String,
+    style: Style,
+    expression: &str,
+    leaves: &[Leaf<'_>],
+) -> Result<(), AllocError>
+    ensures { OnOk result (string_bytes lines.new ≡
+        string_bytes lines.old ++ flat_map (leaf_line style expression.now) leaves.now) }
+{
+    for leaf in leaves {
+        put_leaf_line(alloc, lines, style, expression, leaf)?;
+    }
+    Ok(())
+}
+
+fn put_leaf_line(
+    alloc: Global,
+    lines: &mut String,
+    style: Style,
+    expression: &str,
+    leaf: &Leaf<'_>,
+) -> Result<(), AllocError>
+    ensures { OnOk result (string_bytes lines.new ≡
+        string_bytes lines.old ++ leaf_line style expression.now leaf.now) }
+{
+    put_carets(alloc, lines, style, expression, leaf.start, leaf.end)?;
+    put_decided(lines, Escape::Shown, leaf)?;
+    lines.push('\n')?;
+    Ok(())
+}
+
+// How many more there are than twenty.
+fn put_more_line(lines: &mut String, count: usize) -> Result<(), AllocError>
+    ensures { OnOk result (string_bytes lines.new ≡ string_bytes lines.old ++ more_line count) }
+{
+    if count <= 20 {
+        return Ok(());
+    }
+    match write!(lines, "  and {} more\n", count - 20) {
+        Ok(()) => Ok(()),
+        Err(_) => Err(AllocError),
+    }
+}
+
+/// Appends what would help, as a line.
+pub(crate) fn put_advice_line(lines: &mut String, advice: Option<&[&str]>) -> Result<(), AllocError>
+    ensures { OnOk result (
+        string_bytes lines.new ≡ string_bytes lines.old ++ advice_line advice.entry) }
+{
+    lines.push_str("  ")?;
+    put_advice(lines, Escape::Shown, advice)?;
+    lines.push('\n')?;
+    Ok(())
+}

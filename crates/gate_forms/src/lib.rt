@@ -1,0 +1,26 @@
+//! What is written of a gate's verdicts on packages: for people, in a line, as JSON, as an error of a GitHub workflow, as a
+//! log of SARIF, and as a page of HTML. It knows nothing of licences.
+#![tactic(auto)]
+
+mod escapes;
+mod human;
+mod json_form;
+mod lines;
+mod messages;
+mod page;
+mod paint;
+mod pieces;
+mod reports;
+mod sarif_form;
+mod top;
+mod totals;
+mod tree;
+
+pub use human::put_human;
+pub use json_form::put_json;
+pub use lines::{put_github, put_short};
+pub use page::put_page;
+pub use reports::{Leaf, Mark, Node, Part, Report, Totals, Verdict, Why};
+pub use sarif_form::{put_sarif_beginning, put_sarif_ending, put_sarif_result};
+pub use totals::{put_totals, put_unused};
+pub use tree::put_explained;

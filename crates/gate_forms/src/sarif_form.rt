@@ -1,0 +1,144 @@
+// A log of SARIF 2.1.0: a result for each package that is refused.
+
+ghost use Rattle.std.specs.Prelude.{◌≡◌, ◌++◌, ◌∷◌, [], OnOk, OnErr, IfOk, if◌then◌else◌};
+ghost use Rattle.json.specs.Tree.{json_tokens};
+ghost use Rattle.finding_forms.specs.Sarif.{artifact, text_object, sarif_beginning, sarif_ending};
+ghost use Rattle.gate_forms.specs.Report.{message_text};
+ghost use Rattle.gate_forms.specs.Sarif.{LogReadsBack, location, result_of, sarif_result, sarif_text};
+
+use crate::escapes::{Escape, escaped_text};
+use crate::messages::put_message;
+use crate::reports::Report;
+use json::Writer;
+use std::alloc::{AllocError, Global};
+
+/// Appends what stands before all results. The version is that of the program.
+///
+/// # Errors
+///
+/// Memory was refused, and the text is as it was.
+pub fn put_sarif_beginning(
+    alloc: Global,
+    text: &mut Vec<u8>,
+    version: &str,
+) -> Result<(), AllocError>
+    ensures ok { OnOk result (text.new.items ≡ text.old.items ++ sarif_beginning version.now) }
+    ensures err { OnErr result (text.new.items ≡ text.old.items) }
+{
+    finding_forms::put_sarif_beginning(alloc, text, version)
+}
+
+/// Appends a refused package as a result, behind a comma where it isn't the first. Of a package that passes nothing is
+/// said.
+///
+/// # Errors
+///
+/// Memory was refused, and the text is as it was.
+pub fn put_sarif_result(
+    alloc: Global,
+    text: &mut Vec<u8>,
+    is_first: bool,
+    report: &Report<'_>,
+) -> Result<(), AllocError>
+    ensures ok { OnOk result (
+        text.new.items ≡ text.old.items ++ sarif_text is_first report.now) }
+    ensures err { OnErr result (text.new.items ≡ text.old.items) }
+{
+    if !report.verdict.is_refused() {
+        return Ok(());
+    }
+    let result = result_text(alloc, is_first, report)?;
+    text.extend_from_slice(result.as_slice())
+}
+
+/// Appends what stands behind all results. A log of any refused packages reads back as their results.
+///
+/// # Errors
+///
+/// Memory was refused, and the text is as it was.
+pub fn put_sarif_ending(text: &mut Vec<u8>) -> Result<(), AllocError>
+    ensures ok { OnOk result (text.new.items ≡ text.old.items ++ sarif_ending) }
+    ensures err { OnErr result (text.new.items ≡ text.old.items) }
+    ensures reads_back { LogReadsBack }
+{
+    finding_forms::put_sarif_ending(text)
+}
+
+fn result_text(alloc: Global, is_first: bool, report: &Report<'_>) -> Result<Vec<u8>, AllocError>
+    ensures { IfOk result (λ text. text.items
+        ≡ (if is_first then [] else 44 ∷ []) ++ sarif_result report.now) }
+{
+    let mut text = Vec::new(alloc);
+    if !is_first {
+        text.push(b',')?;
+    }
+    let mut writer = Writer::new(text);
+    put_result(alloc, &mut writer, report)?;
+    Ok(writer.into_inner())
+}
+
+fn put_result(alloc: Global, writer: &mut Writer, report: &Report<'_>) -> Result<(), AllocError>
+    ensures tokens { OnOk result (
+        writer.new.tokens ≡ writer.old.tokens ++ json_tokens (result_of report.now)) }
+    ensures before { OnOk result (writer.new.before ≡ writer.old.before) }
+{
+    writer.begin_object()?;
+    writer.key("ruleId")?;
+    writer.string(report.verdict.word())?;
+    writer.key("level")?;
+    writer.string("error")?;
+    writer.key("message")?;
+    put_message_object(alloc, writer, report)?;
+    writer.key("locations")?;
+    writer.begin_array()?;
+    put_location(alloc, writer, report)?;
+    writer.end_array()?;
+    writer.end_object()?;
+    Ok(())
+}
+
+fn put_message_object(
+    alloc: Global,
+    writer: &mut Writer,
+    report: &Report<'_>,
+) -> Result<(), AllocError>
+    ensures tokens { OnOk result (writer.new.tokens ≡
+        writer.old.tokens ++ json_tokens (text_object (message_text Escape.Raw report.now))) }
+    ensures before { OnOk result (writer.new.before ≡ writer.old.before) }
+{
+    let mut message = String::new(alloc);
+    put_message(&mut message, Escape::Raw, report)?;
+    writer.begin_object()?;
+    writer.key("text")?;
+    writer.string(message.as_str())?;
+    writer.end_object()?;
+    Ok(())
+}
+
+fn put_location(alloc: Global, writer: &mut Writer, report: &Report<'_>) -> Result<(), AllocError>
+    ensures tokens { OnOk result (
+        writer.new.tokens ≡ writer.old.tokens ++ json_tokens (location report.now)) }
+    ensures before { OnOk result (writer.new.before ≡ writer.old.before) }
+{
+    let path = escaped_text(alloc, Escape::Path, report.file)?;
+    writer.begin_object()?;
+    writer.key("physicalLocation")?;
+    writer.begin_object()?;
+    writer.key("artifactLocation")?;
+    put_artifact(writer, path.as_str())?;
+    writer.end_object()?;
+    writer.end_object()?;
+    Ok(())
+}
+
+fn put_artifact(writer: &mut Writer, path: &str) -> Result<(), AllocError>
+    ensures tokens { OnOk result (
+        writer.new.tokens ≡ writer.old.tokens ++ json_tokens (artifact path.now)) }
+    ensures before { OnOk result (writer.new.before ≡ writer.old.before) }
+{
+    writer.begin_object()?;
+    writer.key("uri")?;
+    writer.string(path)?;
+    writer.end_object()?;
+    Ok(())
+}
