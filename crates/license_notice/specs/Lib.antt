@@ -1,0 +1,5 @@
+pub mod Rows
+pub mod Wanted
+pub mod Notices
+pub mod Stands
+pub mod Grouping

@@ -1,0 +1,58 @@
+//! The page that names each package under its licences, with each licence's text once: as plain text, as Markdown, and as
+//! one file of HTML.
+#![tactic(auto)]
+
+ghost use Rattle.std.specs.Prelude.{◌≡◌, ◌++◌, OnOk, OnErr, IfOk, IfErr};
+ghost use Rattle.notice_forms.specs.Told.{told};
+ghost use Rattle.notice_forms.specs.Pages.{page_in, IsRefusal};
+
+mod errors;
+mod html;
+mod lines;
+mod markdown;
+mod pages;
+mod plain;
+mod style;
+
+pub use crate::errors::PageError;
+use crate::html::put_html;
+use crate::markdown::put_markdown;
+pub use crate::pages::{Form, LicenseText, Page};
+use crate::plain::put_plain;
+use std::alloc::Global;
+
+/// Appends the page in a form, in time linear in its names and texts.
+///
+/// Each text stands byte for byte in plain text and in Markdown. In HTML it is escaped, and what a browser shows is the
+/// text but for characters that are not seen, which are U+FFFD, and for ends of lines, which are newlines.
+///
+/// # Errors
+///
+/// Memory was refused, or the form is HTML and a text is no UTF-8. The page is then as it was.
+pub fn put_page<'t>(
+    alloc: Global,
+    page: &mut Vec<u8>,
+    form: Form,
+    shown: &Page<'_, 't>,
+) -> Result<(), PageError<'t>>
+    ensures ok { OnOk result (page.new.items ≡ page.old.items ++ page_in form (told shown.now)) }
+    ensures err { OnErr result (page.new.items ≡ page.old.items) }
+    ensures refused { IfErr result (IsRefusal form (told shown.now)) }
+{
+    let whole = page_of(alloc, form, shown)?;
+    page.extend_from_slice(&whole)?;
+    Ok(())
+}
+
+fn page_of<'t>(alloc: Global, form: Form, shown: &Page<'_, 't>) -> Result<Vec<u8>, PageError<'t>>
+    ensures ok { IfOk result (λ whole. whole.items ≡ page_in form (told shown.now)) }
+    ensures refused { IfErr result (IsRefusal form (told shown.now)) }
+{
+    let mut whole = Vec::new(alloc);
+    match form {
+        Form::Text => put_plain(alloc, &mut whole, shown)?,
+        Form::Markdown => put_markdown(alloc, &mut whole, shown)?,
+        Form::Html => put_html(alloc, &mut whole, shown)?,
+    }
+    Ok(whole)
+}

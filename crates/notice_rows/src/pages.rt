@@ -1,0 +1,130 @@
+// Packages with their choices, and their pages.
+
+use crate::texts::text_of;
+use license_notice::{Package, Requirement, notice_of};
+use notice_forms::{Form, LicenseText, Page, put_page};
+use std::alloc::{AllocError, Global};
+
+/// Appends the page of the packages in each form.
+pub fn put_pages(alloc: Global, page: &mut Vec<u8>) -> Result<(), AllocError> {
+    let wants = [
+        "Apache-2.0",
+        "LLVM-exception",
+        "ISC",
+        "MIT",
+        "Unicode-3.0",
+        "LicenseRef-\"x\"<b>",
+    ];
+    let choices = [
+        Requirement {
+            name: "Apache-2.0",
+            texts: &wants[..1],
+        },
+        Requirement {
+            name: "ISC",
+            texts: &wants[2..3],
+        },
+        Requirement {
+            name: "MIT",
+            texts: &wants[3..4],
+        },
+        Requirement {
+            name: "Unicode-3.0",
+            texts: &wants[4..5],
+        },
+        Requirement {
+            name: "Apache-2.0 WITH LLVM-exception",
+            texts: &wants[..2],
+        },
+        Requirement {
+            name: "LicenseRef-\"x\"<b>",
+            texts: &wants[5..],
+        },
+    ];
+    let packages = [
+        Package {
+            name: "serde",
+            version: "1.0.228",
+            choice: &choices[..1],
+        },
+        Package {
+            name: "llvm-sys",
+            version: "191.0.0",
+            choice: &choices[4..5],
+        },
+        Package {
+            name: "unicode-ident",
+            version: "1.0.22",
+            choice: &choices[3..4],
+        },
+        Package {
+            name: "windows-sys",
+            version: "0.9.0",
+            choice: &choices[2..3],
+        },
+        Package {
+            name: "windows-sys",
+            version: "0.61.2",
+            choice: &choices[2..3],
+        },
+        Package {
+            name: "ring",
+            version: "0.17.14",
+            choice: &choices[..2],
+        },
+        Package {
+            name: "ring",
+            version: "0.17.14",
+            choice: &choices[1..3],
+        },
+        Package {
+            name: "<script>alert(1)</script>",
+            version: "\"1\"",
+            choice: &choices[2..3],
+        },
+        Package {
+            name: "a\n## b `c` ``d``",
+            version: "1\x1b[31m\u{202e}",
+            choice: &choices[2..3],
+        },
+        Package {
+            name: "漢字-パッケージ",
+            version: "1.0.0-α.1+build.7",
+            choice: &choices[2..3],
+        },
+        Package {
+            name: "",
+            version: "0",
+            choice: &choices[5..],
+        },
+    ];
+    for form in [Form::Text, Form::Markdown, Form::Html] {
+        put_shown(alloc, page, form, &packages)?;
+    }
+    Ok(())
+}
+
+fn put_shown(
+    alloc: Global,
+    page: &mut Vec<u8>,
+    form: Form,
+    packages: &[Package<'_, '_>],
+) -> Result<(), AllocError> {
+    let notice = notice_of(alloc, packages)?;
+    let mut texts = Vec::new(alloc);
+    for name in notice.texts.as_slice() {
+        texts.push(LicenseText {
+            name,
+            bytes: text_of(name).unwrap_or("").as_bytes(),
+        })?;
+    }
+    let shown = Page {
+        title: "Third-party licences",
+        groups: notice.groups.as_slice(),
+        texts: texts.as_slice(),
+    };
+    match put_page(alloc, page, form, &shown) {
+        Ok(()) => Ok(()),
+        Err(_) => Err(AllocError),
+    }
+}

@@ -1,0 +1,13 @@
+//! What each package of an attribution page is used under: the least choice of its expression alone, or one choice for
+//! all of them; and which texts a requirement of a choice wants.
+#![tactic(auto)]
+
+mod choices;
+mod joint;
+mod texts;
+mod unmet;
+
+pub use crate::choices::own_choices;
+pub use crate::joint::joint_choices;
+pub use crate::texts::{RequirementTexts, texts_of};
+pub use crate::unmet::Unmet;
