@@ -29,7 +29,10 @@ use std::alloc::{AllocError, Global};
 /// # Errors
 ///
 /// Memory was refused.
-pub fn notice_of<'t>(alloc: Global, packages: &[Package<'_, 't>]) -> Result<Notice<'t>, AllocError>
+pub fn notice_of<'t>(
+    alloc: Global,
+    packages: &[Package<'_, '_, 't>],
+) -> Result<Notice<'t>, AllocError>
     // A row is on the page exactly if it is of some package's choice.
     ensures chosen { IfOk result (λ n. (r : Row) →
         Contains (all_rows (bands_of n.groups.items)) r ↔ Contains (chosen_rows packages.now) r) }

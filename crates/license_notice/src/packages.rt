@@ -11,10 +11,10 @@ pub struct Requirement<'r, 't> {
 
 /// A package, and the requirements under which it is taken.
 #[derive(Clone, Copy, Debug)]
-pub struct Package<'r, 't> {
+pub struct Package<'c, 'r, 't> {
     pub name: &'t str,
     pub version: &'t str,
-    pub choice: &'r [Requirement<'r, 't>],
+    pub choice: &'c [Requirement<'r, 't>],
 }
 
 /// A package as a notice names it.

@@ -11,7 +11,7 @@ use std::alloc::{AllocError, Global};
 /// The names of the texts that are wanted, in order, each once.
 pub(crate) fn texts<'t>(
     alloc: Global,
-    packages: &[Package<'_, 't>],
+    packages: &[Package<'_, '_, 't>],
 ) -> Result<Vec<&'t str>, AllocError>
     ensures ascend { IfOk result (λ v. IsStrictlySortedBy text_cmp (map (λ t. t.now) v.items)) }
     ensures keeps { IfOk result (λ v. (t : List ℕ) →
@@ -25,7 +25,7 @@ pub(crate) fn texts<'t>(
     Ok(texts)
 }
 
-fn wanted<'t>(alloc: Global, packages: &[Package<'_, 't>]) -> Result<Vec<&'t str>, AllocError>
+fn wanted<'t>(alloc: Global, packages: &[Package<'_, '_, 't>]) -> Result<Vec<&'t str>, AllocError>
     ensures { IfOk result (λ v. map (λ t. t.now) v.items ≡ wanted_texts packages.now) }
 {
     let mut texts = Vec::new(alloc);

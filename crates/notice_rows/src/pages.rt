@@ -108,7 +108,7 @@ fn put_shown(
     alloc: Global,
     page: &mut Vec<u8>,
     form: Form,
-    packages: &[Package<'_, '_>],
+    packages: &[Package<'_, '_, '_>],
 ) -> Result<(), AllocError> {
     let notice = notice_of(alloc, packages)?;
     let mut texts = Vec::new(alloc);
