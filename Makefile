@@ -1,4 +1,5 @@
 # make run: the first verdicts, over the real list. make build: the proved programs. make install: puts them in place.
+# make install_library: the library for C, C++ and Python; make samples: its samples; make library_speed: measures it.
 # make speed CRATE=FOLDER: processor time against the published Rust crate, whose sources are in FOLDER; CORPUS=FILE has
 # expressions with their weights.
 # make test: the whole gate, of which make quotes, theorem, known, growths, program and commands are parts: what README.md
@@ -8,7 +9,7 @@ PREFIX ?= /usr/local
 LINES := crates/spdx_lines_main/out/spdx_lines_main
 SPDX := crates/spdx_main/out/spdx_main
 
-.PHONY: run build install quotes theorem known growths program commands speed test
+.PHONY: run build install install_library quotes theorem known growths program commands samples speed library_speed test
 
 run:
 	@tools/run
@@ -18,6 +19,10 @@ build:
 
 install:
 	@tools/install "$(DESTDIR)$(PREFIX)"
+
+# The library for C, C++ and Python.
+install_library:
+	@DESTDIR="$(DESTDIR)" tools/install_library "$(PREFIX)"
 
 quotes:
 	@tools/quotes
@@ -35,6 +40,11 @@ program: $(LINES)
 commands: $(SPDX)
 	@tools/commands $(SPDX)
 
+# The samples in C, C++ and Python, over the library, which is proved and built first where it isn't: minutes, so it is no
+# part of the gate.
+samples:
+	@tools/samples
+
 # Whether the list inside the program is what data/ has; tools/known writes it.
 known:
 	@tools/known --check
@@ -48,6 +58,9 @@ $(SPDX):
 # It measures, and is no part of the gate.
 speed:
 	@tools/speed "$(CRATE)" "$(CORPUS)"
+
+library_speed:
+	@tools/library_speed
 
 # The programs are run as rt ci has built them.
 test:

@@ -1,0 +1,98 @@
+/* SPDX licence expressions: read, refused with exact spans, mended, evaluated.
+ *
+ * Texts are UTF-8 bytes with a length; none needs a zero byte at its end, and none that is written has one. Every
+ * place is a number of bytes from 0. A call keeps no pointer and has no state: any number of threads may call at
+ * once. What it allocates, by malloc, it frees before it returns. See docs/C.md.
+ */
+#ifndef SPDX_H
+#define SPDX_H
+
+#include <stddef.h>
+#include <stdint.h>
+
+#ifdef __cplusplus
+extern "C" {
+#endif
+
+/* How texts are read: by the standard, or with what people write beside it. */
+enum {
+    SPDX_STRICT = 0,
+    SPDX_LAX = 1,
+    SPDX_NORMAL = 2 /* of spdx_lines alone: strictly, and the normal text in place of the canonical one */
+};
+
+/* What a call says in `status`. Only at SPDX_OK was anything written. */
+enum {
+    SPDX_OK = 0,
+    SPDX_REFUSED = 1,           /* the text is no expression: `start`, `end`, `reason` */
+    SPDX_NOT_TEXT = 2,          /* the text is not UTF-8 */
+    SPDX_LICENSEE = 3,          /* licensee `number` is refused: `start`, `end` in its line, `reason` */
+    SPDX_LICENSEE_NOT_TEXT = 4, /* licensee `number` is not UTF-8 */
+    SPDX_UNMET = 5,             /* the licensees don't make the expression true */
+    SPDX_TOO_MANY = 6,          /* `number` licensees are useful, more than 1,024 */
+    SPDX_NO_FIX = 7,            /* the text has no fix, or needs none */
+    SPDX_SHORT = 8,             /* the buffer is too short: it needs `length` bytes */
+    SPDX_ARGUMENT = 9,          /* a null pointer, an impossible length, or a number that means nothing */
+    SPDX_LIST = 10,             /* the bytes are no list of licences */
+    SPDX_MEMORY = 11            /* memory was refused */
+};
+
+/* What a call answers. A field that the status does not speak of is 0. */
+typedef struct {
+    uint32_t status;
+    uint32_t reason;  /* from 1 to 12: spdx_reason */
+    size_t start;     /* the first byte of the fault */
+    size_t end;       /* the byte behind the fault */
+    size_t number;    /* a licensee, counted from 0, or how many */
+    size_t length;    /* the bytes of the text, at SPDX_OK and SPDX_SHORT */
+    uint64_t lines;   /* of spdx_lines: how many lines there were */
+    uint64_t refused; /* and how many of them were refused */
+} spdx_report;
+
+/* Bytes of the caller. A null pointer with length 0 is an empty text. */
+typedef struct {
+    const void *bytes;
+    size_t length;
+} spdx_text;
+
+/* A buffer of the caller, apart from the texts. A text goes to its front, whole or not at all; what stands behind
+ * the text stays. With length 0 the call tells how long the text is. */
+typedef struct {
+    void *bytes;
+    size_t length;
+} spdx_buffer;
+
+/* `list`, of every call: the list of licences, as JSON in the form of `spdx list make` (share/spdx/spdx.json). It is read
+ * again in each call, which takes a millisecond or two; for many texts, spdx_lines reads it once. */
+
+/* Whether the text is an expression. */
+spdx_report spdx_check(spdx_text list, uint32_t mode, spdx_text text);
+
+/* Its canonical text: listed names, operators in capitals, `-only` and `-or-later` for GNU licences. */
+spdx_report spdx_canonical(spdx_text list, uint32_t mode, spdx_text text, spdx_buffer out);
+
+/* What to write in place of a text that SPDX_STRICT refuses and SPDX_LAX reads. */
+spdx_report spdx_fix(spdx_text list, spdx_text text, spdx_buffer out);
+
+/* The one text of its tree, with as few parentheses as it allows. */
+spdx_report spdx_normal(spdx_text list, uint32_t mode, spdx_text text, spdx_buffer out);
+
+/* SPDX_OK where those who hold these licences, one on each line, may use what comes under the expression; SPDX_UNMET
+ * where not. */
+spdx_report spdx_evaluate(spdx_text list, uint32_t mode, spdx_text text, spdx_text licensees);
+
+/* The requirements of the least choice among the licensees that makes the expression true, each with a newline. */
+spdx_report spdx_choose(spdx_text list, uint32_t mode, spdx_text text, spdx_text licensees, spdx_buffer out);
+
+/* A line for each line of the input, as `spdx_lines` writes them: `accepted`, its canonical (or normal) text and the
+ * least choice, with tabs between; or `refused START..END FAULT`; or `bad-utf8`. */
+spdx_report spdx_lines(spdx_text list, uint32_t mode, spdx_text licensees, spdx_text input, spdx_buffer out);
+
+/* What a reason says, apart from the words that were expected. */
+spdx_report spdx_reason(uint32_t reason, spdx_buffer out);
+
+#ifdef __cplusplus
+}
+#endif
+
+#endif

@@ -1,0 +1,6 @@
+pub mod Buffer
+pub mod Reasons
+pub mod Licensees
+pub mod Faults
+pub mod Questions
+pub mod Answers

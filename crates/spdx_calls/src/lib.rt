@@ -1,0 +1,16 @@
+//! The calls of `spdx` over bytes: texts come as slices and go into a buffer of the caller, whole or not at all.
+//!
+//! They are what callers in other languages have; `spdx_c` hands them on. No call keeps anything.
+#![tactic(auto)]
+
+pub mod buffer;
+pub mod fault;
+mod licensees;
+pub mod questions;
+mod reading;
+pub mod texts;
+
+pub use crate::buffer::Put;
+pub use crate::fault::{CallFault, Refusal, reason_text};
+pub use crate::questions::{check, choose, evaluate};
+pub use crate::texts::{Answered, canonical, fix, lines, normal};

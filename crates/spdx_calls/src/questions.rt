@@ -1,0 +1,111 @@
+//! Whether a text is an expression, whether licensees meet it, and which of them it takes.
+
+ghost use Rattle.std.specs.Prelude.{◌≡◌, ◌++◌, [], OnOk, OnErr, IfOk, IfErr, map};
+ghost use Rattle.spdx_calls.specs.Faults.{IsTextFault};
+ghost use Rattle.spdx_calls.specs.Questions.{IsQuestionFault, IsChoiceFault};
+ghost use Rattle.spdx_calls.specs.Answers.{Reads, IsTruth, PutsChoice, lines_text};
+ghost use Rattle.spdx_requirement.specs.Items.{requirement_of};
+ghost use Rattle.spdx_requirement.specs.Texts.{requirement_text};
+
+use crate::buffer::{Put, put_text};
+use crate::fault::CallFault;
+use crate::licensees::{is_accepted, read_licensees};
+use crate::reading::read;
+use spdx::{Catalogue, Failure, LicenseReq, MinimizeError, ParseMode};
+use std::alloc::{AllocError, Global};
+use std::io::Write;
+
+/// Whether the text is an expression in this mode. Linear in the text, besides the look-up of each name.
+///
+/// # Errors
+///
+/// `NotText`, `Refused` with the first fault, or `Memory`.
+pub fn check(alloc: Global, cat: &Catalogue, mode: ParseMode, text: &[u8]) -> Result<(), CallFault>
+    ensures ok { OnOk result (Reads cat.now mode text.now) }
+    ensures err { IfErr result (IsTextFault cat.now mode text.now) }
+{
+    read(alloc, cat, mode, text)?;
+    Ok(())
+}
+
+/// Whether those who hold these licences, one on each line, may use what comes under the expression: its truth where a
+/// requirement is met exactly if some licensee satisfies it.
+///
+/// # Errors
+///
+/// Those of `check`; else the first licensee that is refused.
+pub fn evaluate(
+    alloc: Global,
+    cat: &Catalogue,
+    mode: ParseMode,
+    text: &[u8],
+    licensees: &[u8],
+) -> Result<bool, CallFault>
+    ensures ok { IfOk result (IsTruth cat.now mode text.now licensees.now) }
+    ensures err { IfErr result (IsQuestionFault cat.now mode text.now licensees.now) }
+{
+    let expression = read(alloc, cat, mode, text)?;
+    let accepted = read_licensees(alloc, cat, licensees)?;
+    let mut policy = |req: &LicenseReq<'_>| is_accepted(&accepted, req);
+    match expression.evaluate(alloc, &mut policy) {
+        Ok(truth) => Ok(truth),
+        Err(_) => Err(CallFault::Memory),
+    }
+}
+
+/// Puts the requirements of the least choice among the licensees that makes the expression true, each with a newline
+/// behind it, into the buffer.
+///
+/// # Errors
+///
+/// Those of `evaluate`; else `TooMany` or `Unmet`. Nothing is written then.
+pub fn choose(
+    alloc: Global,
+    cat: &Catalogue,
+    mode: ParseMode,
+    text: &[u8],
+    licensees: &[u8],
+    out: &mut [u8],
+) -> Result<Put, CallFault>
+    ensures ok { IfOk result (
+        PutsChoice cat.now mode text.now licensees.now out.old out.new) }
+    ensures err { IfErr result (IsChoiceFault cat.now mode text.now licensees.now) }
+    ensures unwritten { OnErr result (out.new ≡ out.old) }
+{
+    let expression = read(alloc, cat, mode, text)?;
+    let accepted = read_licensees(alloc, cat, licensees)?;
+    match expression.minimized_requirements(alloc, &accepted) {
+        Ok(chosen) => {
+            let lines = requirement_lines(alloc, &chosen)?;
+            Ok(put_text(&lines, out))
+        }
+        Err(Failure::Refused(MinimizeError::RequirementsUnmet)) => Err(CallFault::Unmet),
+        Err(Failure::Refused(MinimizeError::TooManyRequirements(count))) => {
+            Err(CallFault::TooMany(count))
+        }
+        Err(Failure::Memory(_)) => Err(CallFault::Memory),
+    }
+}
+
+// The requirements, each with a newline behind it.
+fn requirement_lines(alloc: Global, requirements: &[LicenseReq<'_>]) -> Result<Vec<u8>, AllocError>
+    ensures { IfOk result (λ text.
+        text.items ≡ lines_text (map requirement_of requirements.now)) }
+{
+    let mut text = Vec::new(alloc);
+    for requirement in requirements {
+        put_requirement(&mut text, requirement)?;
+        text.push(b'\n')?;
+    }
+    Ok(text)
+}
+
+fn put_requirement(text: &mut Vec<u8>, requirement: &LicenseReq<'_>) -> Result<(), AllocError>
+    ensures { OnOk result (
+        text.new.items ≡ text.old.items ++ requirement_text (requirement_of requirement.now)) }
+{
+    match write!(text, "{requirement}") {
+        Ok(()) => Ok(()),
+        Err(_) => Err(AllocError),
+    }
+}

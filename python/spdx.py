@@ -1,0 +1,204 @@
+"""SPDX licence expressions, by the proved library libspdx.
+
+    licences = spdx.Licences.read("/usr/local/share/spdx/spdx.json")
+    licences.check("MIT OR Apache-2.0")                     # None, or spdx.Refused
+    licences.fix("mit/apache-2.0")                          # "MIT OR Apache-2.0"
+    licences.evaluate("MIT OR Zlib", ["Zlib"])              # True
+    licences.lines(["MIT", "Apache2"], ["MIT"])             # a verdict for each, in one call
+
+Texts are str or bytes; places are in bytes of UTF-8. Nothing is shared between calls, so threads may call at once, and
+Python's lock is free meanwhile. Every call reads the list again, a millisecond or two; `lines` reads it once for all.
+"""
+
+from __future__ import annotations
+
+import ctypes
+import ctypes.util
+import os
+from typing import Iterable, NamedTuple, Optional, Union
+
+STRICT, LAX, NORMAL = 0, 1, 2
+
+Text = Union[str, bytes]
+
+
+class SpdxError(Exception):
+    """A call had no answer."""
+
+
+class Refused(SpdxError):
+    """A text or a licensee is refused: `start` and `end` are in bytes, `reason` is a number, `message` its text."""
+
+    def __init__(self, start: int, end: int, reason: int, message: str, licensee: Optional[int] = None):
+        who = "" if licensee is None else f"licensee {licensee}: "
+        super().__init__(f"{who}{start}..{end}: {message}")
+        self.start, self.end, self.reason, self.message, self.licensee = start, end, reason, message, licensee
+
+
+class Unmet(SpdxError):
+    """The licensees don't make the expression true."""
+
+
+class Lines(NamedTuple):
+    """The answers to lines, as spdx_lines writes them, and their counts."""
+
+    verdicts: list[str]
+    lines: int
+    refused: int
+
+
+class _Report(ctypes.Structure):
+    _fields_ = [
+        ("status", ctypes.c_uint32),
+        ("reason", ctypes.c_uint32),
+        ("start", ctypes.c_size_t),
+        ("end", ctypes.c_size_t),
+        ("number", ctypes.c_size_t),
+        ("length", ctypes.c_size_t),
+        ("lines", ctypes.c_uint64),
+        ("refused", ctypes.c_uint64),
+    ]
+
+
+class _Bytes(ctypes.Structure):
+    """A text or a buffer. The first field keeps what it points to alive."""
+
+    _fields_ = [("bytes", ctypes.c_char_p), ("length", ctypes.c_size_t)]
+
+
+class _Buffer(ctypes.Structure):
+    _fields_ = [("bytes", ctypes.c_void_p), ("length", ctypes.c_size_t)]
+
+
+_OK, _REFUSED, _NOT_TEXT, _LICENSEE, _LICENSEE_NOT_TEXT, _UNMET = range(6)
+_TOO_MANY, _NO_FIX, _SHORT, _ARGUMENT, _LIST, _MEMORY = range(6, 12)
+
+
+def _library() -> ctypes.CDLL:
+    path = os.environ.get("SPDX_LIBRARY") or ctypes.util.find_library("spdx") or "libspdx.so"
+    library = ctypes.CDLL(path)
+    texts = {"check": 1, "canonical": 1, "fix": 1, "normal": 1, "evaluate": 2, "choose": 2, "lines": 2}
+    for name, count in texts.items():
+        call = getattr(library, f"spdx_{name}")
+        mode = [] if name == "fix" else [ctypes.c_uint32]
+        out = [] if name in ("check", "evaluate") else [_Buffer]
+        call.restype, call.argtypes = _Report, [_Bytes, *mode, *[_Bytes] * count, *out]
+    library.spdx_reason.restype, library.spdx_reason.argtypes = _Report, [ctypes.c_uint32, _Buffer]
+    return library
+
+
+_LIBRARY = _library()
+
+
+def _encoded(text: Text) -> bytes:
+    return text.encode("utf-8", "surrogatepass") if isinstance(text, str) else bytes(text)
+
+
+def _bytes(text: bytes) -> _Bytes:
+    return _Bytes(text, len(text))
+
+
+def _joined(lines: Iterable[Text]) -> bytes:
+    parts = [_encoded(line) for line in lines]
+    if any(b"\n" in part for part in parts):
+        raise ValueError("a newline in a line")
+    return b"".join(part + b"\n" for part in parts)
+
+
+def _written(call, *given, guess: int = 256) -> tuple[_Report, bytes]:
+    """What the call writes: once more where the buffer was too short."""
+    while True:
+        buffer = ctypes.create_string_buffer(max(guess, 1))
+        report = call(*given, _Buffer(ctypes.addressof(buffer), guess))
+        if report.status != _SHORT:
+            return report, buffer.raw[: report.length]
+        guess = report.length
+
+
+def reason(number: int) -> str:
+    """What a reason says, apart from the words that were expected."""
+    report, text = _written(_LIBRARY.spdx_reason, number)
+    _raise(report)
+    return text.decode()
+
+
+def _raise(report: _Report) -> None:
+    status = report.status
+    if status == _OK:
+        return
+    if status in (_REFUSED, _LICENSEE):
+        licensee = report.number if status == _LICENSEE else None
+        raise Refused(report.start, report.end, report.reason, reason(report.reason), licensee)
+    if status == _UNMET:
+        raise Unmet("the licensees don't make the expression true")
+    if status == _MEMORY:
+        raise MemoryError
+    said = {
+        _NOT_TEXT: "the text is not UTF-8",
+        _LICENSEE_NOT_TEXT: f"licensee {report.number} is not UTF-8",
+        _TOO_MANY: f"{report.number} licensees are useful, more than 1,024",
+        _LIST: "the bytes are no list of licences",
+        _ARGUMENT: "a number that means nothing",
+    }
+    raise SpdxError(said.get(status, f"status {status}"))
+
+
+class Licences:
+    """A list of licences, in the JSON of `spdx list make`."""
+
+    def __init__(self, json: bytes):
+        self._json = bytes(json)
+        self._list = _bytes(self._json)
+
+    @classmethod
+    def read(cls, path: Union[str, os.PathLike]) -> "Licences":
+        """The list of a file."""
+        with open(path, "rb") as file:
+            return cls(file.read())
+
+    def check(self, text: Text, mode: int = STRICT) -> None:
+        """Raises `Refused` where the text is no expression."""
+        _raise(_LIBRARY.spdx_check(self._list, mode, _bytes(_encoded(text))))
+
+    def canonical(self, text: Text, mode: int = STRICT) -> str:
+        """The canonical text of an expression."""
+        return self._text(_LIBRARY.spdx_canonical, mode, _bytes(_encoded(text)))
+
+    def normal(self, text: Text, mode: int = STRICT) -> str:
+        """The one text of its tree."""
+        return self._text(_LIBRARY.spdx_normal, mode, _bytes(_encoded(text)))
+
+    def fix(self, text: Text) -> Optional[str]:
+        """What to write in place of a text that is refused, where there is a fix."""
+        report, fix = _written(_LIBRARY.spdx_fix, self._list, _bytes(_encoded(text)))
+        if report.status == _NO_FIX:
+            return None
+        _raise(report)
+        return fix.decode()
+
+    def evaluate(self, text: Text, licensees: Iterable[Text], mode: int = STRICT) -> bool:
+        """Whether those who hold these licences may use what comes under the expression."""
+        report = _LIBRARY.spdx_evaluate(self._list, mode, _bytes(_encoded(text)), _bytes(_joined(licensees)))
+        if report.status == _UNMET:
+            return False
+        _raise(report)
+        return True
+
+    def choose(self, text: Text, licensees: Iterable[Text], mode: int = STRICT) -> list[str]:
+        """The requirements of the least choice among the licensees; `Unmet` where there is none."""
+        chosen = self._text(_LIBRARY.spdx_choose, mode, _bytes(_encoded(text)), _bytes(_joined(licensees)))
+        return chosen.split("\n")[:-1]
+
+    def lines(self, texts: Iterable[Text], licensees: Iterable[Text] = (), mode: int = STRICT) -> Lines:
+        """The verdict on each text, by one call."""
+        given = _bytes(_joined(texts))
+        report, out = _written(
+            _LIBRARY.spdx_lines, self._list, mode, _bytes(_joined(licensees)), given, guess=4 * given.length + 256
+        )
+        _raise(report)
+        return Lines(out.decode().split("\n")[:-1], report.lines, report.refused)
+
+    def _text(self, call, *given) -> str:
+        report, text = _written(call, self._list, *given)
+        _raise(report)
+        return text.decode()

@@ -1,0 +1,183 @@
+/* sample LIST CORPUS STRICT LAX NORMAL EACH: the verdicts of the corpus's lines, in one call by mode, against stored
+ * ones; of the first EACH lines each by calls of their own; short buffers, wrong arguments, and threads. Prints what
+ * differs, and 'N passed, M failed'. */
+#include <pthread.h>
+#include <spdx.h>
+#include <stdio.h>
+#include <stdlib.h>
+#include <string.h>
+
+static const char held[] = "MIT\nApache-2.0\nBSD-3-Clause\n";
+static int passed, failed;
+
+static void expect(int holds, const char *what) {
+    if (holds) {
+        passed++;
+    } else {
+        failed++;
+        printf("differs: %s\n", what);
+    }
+}
+
+static spdx_text text_of(const char *s) { return (spdx_text){s, strlen(s)}; }
+static spdx_text held_text(void) { return text_of(held); }
+
+static spdx_text file(const char *path) {
+    FILE *f = fopen(path, "rb");
+    if (!f || fseek(f, 0, SEEK_END)) exit(2);
+    long size = ftell(f);
+    char *bytes = malloc(size ? size : 1);
+    rewind(f);
+    if (!bytes || size < 0 || fread(bytes, 1, size, f) != (size_t)size) exit(2);
+    fclose(f);
+    return (spdx_text){bytes, size};
+}
+
+static int same(const char *bytes, size_t length, spdx_text wanted) {
+    return length == wanted.length && !memcmp(bytes, wanted.bytes, length);
+}
+
+/* The next line, cut off the front. */
+static spdx_text line_of(spdx_text *rest) {
+    const char *start = rest->bytes, *end = rest->length ? memchr(start, '\n', rest->length) : NULL;
+    spdx_text line = {start, end ? (size_t)(end - start) : rest->length};
+    size_t gone = line.length + (end ? 1 : 0);
+    rest->bytes = start + gone;
+    rest->length -= gone;
+    return line;
+}
+
+/* All lines by one call: first the length is asked, then a buffer one byte short is tried. */
+static void whole(spdx_text list, uint32_t mode, spdx_text corpus, spdx_text wanted, const char *name) {
+    spdx_report told = spdx_lines(list, mode, held_text(), corpus, (spdx_buffer){NULL, 0});
+    expect(told.status == SPDX_SHORT && told.length == wanted.length, name);
+    char *out = malloc(told.length + 1);
+    if (!out) exit(2);
+    memset(out, '#', told.length + 1);
+    spdx_report brief = spdx_lines(list, mode, held_text(), corpus, (spdx_buffer){out, told.length - 1});
+    expect(brief.status == SPDX_SHORT && brief.length == told.length && out[0] == '#', "a short buffer");
+    spdx_report full = spdx_lines(list, mode, held_text(), corpus, (spdx_buffer){out, told.length + 1});
+    expect(full.status == SPDX_OK && same(out, full.length, wanted), name);
+    expect(out[told.length] == '#', "what stands behind");
+    free(out);
+}
+
+/* The verdict on one line, put together of calls of its own. */
+static size_t verdict(spdx_text list, uint32_t mode, spdx_text line, char *out, size_t room) {
+    spdx_report report = spdx_check(list, mode, line);
+    if (report.status == SPDX_NOT_TEXT) return snprintf(out, room, "bad-utf8");
+    if (report.status == SPDX_REFUSED) {
+        char why[128];
+        spdx_report reason = spdx_reason(report.reason, (spdx_buffer){why, sizeof why});
+        if (report.reason == 7) return snprintf(out, room, "refused %zu..%zu expected", report.start, report.end);
+        return snprintf(out, room, "refused %zu..%zu %.*s", report.start, report.end, (int)reason.length, why);
+    }
+    char text[512], chosen[512];
+    spdx_buffer to = {text, sizeof text};
+    spdx_report put = spdx_canonical(list, mode, line, to);
+    spdx_report choice = spdx_choose(list, mode, line, held_text(), (spdx_buffer){chosen, sizeof chosen});
+    size_t at = snprintf(out, room, "accepted\t%.*s\t", (int)put.length, text);
+    if (choice.status == SPDX_UNMET) return at + snprintf(out + at, room - at, "unmet");
+    for (size_t i = 0; i + 1 < choice.length; i++) {
+        const char *next = chosen[i] == '\n' ? ", " : (char[]){chosen[i], 0};
+        at += snprintf(out + at, room - at, "%s", next);
+    }
+    return at;
+}
+
+static void each(spdx_text list, uint32_t mode, spdx_text corpus, spdx_text wanted, int count) {
+    char out[2048];
+    while (corpus.length && count--) {
+        spdx_text line = line_of(&corpus), is = line_of(&wanted);
+        size_t length = verdict(list, mode, line, out, sizeof out);
+        /* The words that were expected stand in the line alone. */
+        if (length > 8 && !memcmp(out + length - 8, "expected", 8)) is.length = length;
+        expect(same(out, length, is), out);
+    }
+}
+
+static void puts_text(spdx_report report, const char *out, const char *wanted, const char *what) {
+    expect(report.status == SPDX_OK && same(out, report.length, text_of(wanted)), what);
+}
+
+static void singles(spdx_text list) {
+    char out[256];
+    spdx_buffer to = {out, sizeof out};
+    puts_text(spdx_fix(list, text_of("mit/apache-2.0"), to), out, "MIT OR Apache-2.0", "a fix");
+    expect(spdx_fix(list, text_of("MIT"), to).status == SPDX_NO_FIX, "no fix");
+    puts_text(spdx_normal(list, SPDX_STRICT, text_of("((MIT) AND (Zlib))"), to), out, "MIT AND Zlib", "a normal text");
+    puts_text(spdx_canonical(list, SPDX_LAX, text_of("gpl-2.0+"), to), out, "GPL-2.0-or-later", "a canonical text");
+    spdx_text two = text_of("Zlib OR MIT AND Apache-2.0"), both = text_of("MIT\nApache-2.0");
+    puts_text(spdx_choose(list, SPDX_STRICT, two, both, to), out, "MIT\nApache-2.0\n", "a choice");
+    puts_text(spdx_reason(9, to), out, "unknown term", "a reason");
+    expect(spdx_evaluate(list, SPDX_STRICT, text_of("MIT OR Zlib"), text_of("0BSD\nZlib")).status == SPDX_OK, "met");
+    expect(spdx_evaluate(list, SPDX_STRICT, text_of("MIT AND Zlib"), text_of("Zlib")).status == SPDX_UNMET, "unmet");
+    spdx_report who = spdx_evaluate(list, SPDX_STRICT, text_of("MIT"), text_of("MIT\n  Nope\n"));
+    expect(who.status == SPDX_LICENSEE && who.number == 1 && who.start == 2 && who.end == 6, "a licensee");
+    who = spdx_evaluate(list, SPDX_STRICT, text_of("MIT"), (spdx_text){"MIT\n\xff", 5});
+    expect(who.status == SPDX_LICENSEE_NOT_TEXT && who.number == 1, "a licensee that is no text");
+    expect(spdx_check(list, SPDX_STRICT, (spdx_text){"\xff", 1}).status == SPDX_NOT_TEXT, "no text");
+    spdx_report empty = spdx_check(list, SPDX_STRICT, (spdx_text){NULL, 0});
+    expect(empty.status == SPDX_REFUSED && empty.reason == 6, "an empty text");
+}
+
+static void wrong(spdx_text list) {
+    char out[64] = "MIT";
+    spdx_buffer to = {out, sizeof out};
+    expect(spdx_check(list, 7, text_of("MIT")).status == SPDX_ARGUMENT, "a mode");
+    expect(spdx_check(list, SPDX_NORMAL, text_of("MIT")).status == SPDX_ARGUMENT, "a mode of lines");
+    expect(spdx_check((spdx_text){NULL, 9}, 0, text_of("MIT")).status == SPDX_ARGUMENT, "a null list");
+    expect(spdx_check(list, 0, (spdx_text){NULL, 9}).status == SPDX_ARGUMENT, "a null text");
+    expect(spdx_check(list, 0, (spdx_text){"MIT", SIZE_MAX}).status == SPDX_ARGUMENT, "a length");
+    expect(spdx_fix(list, text_of("mit"), (spdx_buffer){NULL, 9}).status == SPDX_ARGUMENT, "a null buffer");
+    expect(spdx_canonical(list, 0, (spdx_text){out, 3}, to).status == SPDX_ARGUMENT, "a buffer over its text");
+    expect(spdx_check(text_of("{}"), 0, text_of("MIT")).status == SPDX_LIST, "no list");
+    expect(spdx_reason(0, to).status == SPDX_ARGUMENT && spdx_reason(13, to).status == SPDX_ARGUMENT, "a reason");
+}
+
+typedef struct {
+    spdx_text list, corpus, wanted;
+    int holds;
+} job;
+
+static void *in_thread(void *given) {
+    job *j = given;
+    char *out = malloc(j->wanted.length);
+    if (!out) return NULL;
+    spdx_report r = spdx_lines(j->list, SPDX_STRICT, held_text(), j->corpus, (spdx_buffer){out, j->wanted.length});
+    j->holds = r.status == SPDX_OK && same(out, r.length, j->wanted);
+    free(out);
+    return NULL;
+}
+
+static void threads(spdx_text list, spdx_text corpus, spdx_text wanted) {
+    pthread_t ids[4];
+    job jobs[4];
+    for (int i = 0; i < 4; i++) {
+        jobs[i] = (job){list, corpus, wanted, 0};
+        if (pthread_create(&ids[i], NULL, in_thread, &jobs[i])) exit(2);
+    }
+    for (int i = 0; i < 4; i++) {
+        pthread_join(ids[i], NULL);
+        expect(jobs[i].holds, "a thread");
+    }
+}
+
+int main(int count, char **words) {
+    if (count != 7) return 2;
+    spdx_text list = file(words[1]), corpus = file(words[2]), wanted[3];
+    for (uint32_t mode = 0; mode < 3; mode++) {
+        wanted[mode] = file(words[3 + mode]);
+        whole(list, mode, corpus, wanted[mode], words[3 + mode]);
+    }
+    each(list, SPDX_STRICT, corpus, wanted[SPDX_STRICT], atoi(words[6]));
+    each(list, SPDX_LAX, corpus, wanted[SPDX_LAX], atoi(words[6]));
+    singles(list);
+    wrong(list);
+    threads(list, corpus, wanted[0]);
+    for (int i = 0; i < 3; i++) free((void *)wanted[i].bytes);
+    free((void *)list.bytes);
+    free((void *)corpus.bytes);
+    printf("%d passed, %d failed\n", passed, failed);
+    return failed != 0;
+}

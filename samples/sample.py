@@ -1,0 +1,81 @@
+"""sample.py LIST CORPUS STRICT LAX NORMAL EACH: the verdicts of the corpus's lines against stored ones, in one call by
+mode, and of the first EACH lines each by calls of its own. Prints what differs, and 'N passed, M failed'."""
+
+import sys
+from concurrent.futures import ThreadPoolExecutor
+
+import spdx
+
+HELD = ["MIT", "Apache-2.0", "BSD-3-Clause"]
+
+
+def verdict(licences, text, mode):
+    """The line of spdx_lines, put together of calls of its own; of a refused text up to its fault."""
+    try:
+        licences.check(text, mode)
+    except spdx.Refused as refused:
+        said = f"refused {refused.start}..{refused.end} "
+        return said if refused.reason == 7 else said + refused.message
+    canonical = licences.canonical(text, mode)
+    try:
+        choice = ", ".join(licences.choose(text, HELD, mode))
+    except spdx.Unmet:
+        choice = "unmet"
+    return f"accepted\t{canonical}\t{choice}"
+
+
+def refused_by(call, *given):
+    try:
+        call(*given)
+    except spdx.Refused as refused:
+        return refused.start, refused.end, refused.reason, refused.licensee
+    return None
+
+
+def main(list_path, corpus_path, *wanted_paths):
+    *wanted_paths, each = wanted_paths
+    licences = spdx.Licences.read(list_path)
+    with open(corpus_path, encoding="utf-8", newline="\n") as file:
+        corpus = file.read().split("\n")[:-1]
+    results = []
+
+    def expect(holds, what):
+        results.append(bool(holds))
+        if not holds:
+            print("differs:", what)
+
+    for mode, path in enumerate(wanted_paths):
+        with open(path, encoding="utf-8", newline="\n") as file:
+            wanted = file.read().split("\n")[:-1]
+        answer = licences.lines(corpus, HELD, mode)
+        expect(answer.verdicts == wanted, path)
+        expect(answer.lines == len(corpus), "the count of lines")
+        expect(answer.refused == sum(line.startswith("refused") for line in wanted), "the refused lines")
+        if mode == spdx.NORMAL:
+            continue
+        for text, line in zip(corpus[: int(each)], wanted):
+            said = verdict(licences, text, mode)
+            expect(line.startswith(said) if said.endswith(" ") else line == said, said)
+    expect(licences.fix("mit/apache-2.0") == "MIT OR Apache-2.0", "a fix")
+    expect(licences.fix("MIT") is None, "no fix")
+    expect(licences.normal("((MIT) AND (Zlib))") == "MIT AND Zlib", "a normal text")
+    expect(licences.evaluate("MIT OR Zlib", ["0BSD", "Zlib"]), "met")
+    expect(not licences.evaluate("MIT AND Zlib", ["Zlib"]), "unmet")
+    expect(refused_by(licences.evaluate, "MIT", ["MIT", "Nope"]) == (0, 4, 9, 1), "a licensee")
+    expect(refused_by(licences.check, "") == (0, 0, 6, None), "an empty text")
+    expect(refused_by(licences.check, "MIT\0") is not None, "a zero byte")
+    for wrong in ((licences, b"\xff", 0), (licences, "MIT", 7), (spdx.Licences(b"{}"), "MIT", 0)):
+        try:
+            wrong[0].check(wrong[1], wrong[2])
+            expect(False, "a wrong argument")
+        except spdx.SpdxError as error:
+            expect(not isinstance(error, spdx.Refused), "a wrong argument")
+    with ThreadPoolExecutor(4) as pool:
+        answers = list(pool.map(lambda _: licences.lines(corpus, HELD).refused, range(4)))
+    expect(len(set(answers)) == 1, "threads")
+    print(f"{sum(results)} passed, {len(results) - sum(results)} failed")
+    return not all(results)
+
+
+if __name__ == "__main__":
+    sys.exit(main(*sys.argv[1:]))
