@@ -1,5 +1,5 @@
 -- What is written of the expressions of a file.
-use Rattle.std.specs.Prelude.{◌≡◌, ℕ, ◌+◌, ◌-◌, ◌==◌, Bool, ◌&&◌, not, List, [], ◌++◌, length, take, slice_index, Option, None, Some, is_some, Result, if◌then◌else◌}
+use Rattle.std.specs.Prelude.{◌≡◌, ℕ, ◌+◌, ◌-◌, ◌==◌, Bool, ◌&&◌, not, List, [], ◌++◌, length, map, take, slice_index, Option, None, Some, is_some, Result, if◌then◌else◌}
 use Rattle.std.specs.Char.{is_ascii_whitespace}
 use Rattle.std.specs.List.{list_all, list_any}
 use Rattle.std.specs.Result.{result_map_both}
@@ -9,6 +9,8 @@ use Rattle.line_engine.specs.Device.{Devices}
 use Rattle.line_engine.specs.Output.{capped}
 use Rattle.line_engine.specs.Rule.{Rule}
 use Rattle.line_engine.specs.Runs.{Runs}
+use Rattle.spdx_list.specs.Files.{InsteadRow}
+use Rattle.spdx_list.specs.Shown.{instead_of}
 use Rattle.finding_forms.specs.declared.findings.Place.{Place}
 use Rattle.finding_forms.specs.declared.forms.Form.{Form}
 use Rattle.finding_forms.specs.Finding.{Told}
@@ -16,6 +18,10 @@ use Rattle.finding_forms.specs.Forms.{finding_text}
 use Rattle.spdx_check.specs.declared.check.Check.{Check}
 use Rattle.spdx_check.specs.declared.lines.Checked.{Checked}
 use Rattle.spdx_check.specs.Finding.{Wrong, IsTheFinding}
+
+-- what is said to be written in place of names
+abbrev pub heirs_in : Check → List InsteadRow
+heirs_in check = map instead_of check.heirs.now
 
 -- ---- one expression
 
@@ -49,7 +55,7 @@ found_text form is_first spot (Some wrong) = finding_text form is_first (told_at
 -- the finding of the bytes is written behind what was written, and they are refused if they have one
 pub record ChecksOne (check : Check) (is_first : Bool) (spot : Spot) (bytes old new : List ℕ) (is_refused : Bool) : Type 0 where
   pub found : Option Wrong
-  pub is : IsTheFinding check.catalogue.now check.mode bytes found
+  pub is : IsTheFinding check.catalogue.now (heirs_in check) check.mode bytes found
   pub written : new ≡ old ++ found_text check.form is_first spot found
   pub refuses : is_refused ≡ is_some found
 
@@ -91,5 +97,5 @@ summary_in result = result_map_both (λ (c : Checked). c.summary) (λ (fault : R
 -- the run writes the finding of each line that has one, and counts the lines
 pub record ChecksLines (check : Check) (is_first : Bool) (file : List ℕ) (d : Devices) (result : Result Checked RunFault) : Type 0 where
   pub finding : List ℕ → Option Wrong
-  pub findings : (bytes : List ℕ) → IsTheFinding check.catalogue.now check.mode bytes (finding bytes)
+  pub findings : (bytes : List ℕ) → IsTheFinding check.catalogue.now (heirs_in check) check.mode bytes (finding bytes)
   pub runs : Runs (rule_by finding check.form is_first file) d (summary_in result)

@@ -1,5 +1,5 @@
 -- What is found in the bytes of an expression.
-use Rattle.std.specs.Prelude.{◌≡◌, ℕ, Bool, true, false, List, Option, None, Some, codes, IsUtf8, if◌then◌else◌}
+use Rattle.std.specs.Prelude.{◌≡◌, ℕ, Bool, true, false, List, [], ◌∷◌, length, min, slice_range, bytes_eq, find, option_map, Option, None, Some, codes, IsUtf8, if◌then◌else◌}
 use Rattle.std.specs.Str.Lossy.{utf8_valid_len, utf8_lossy}
 use Rattle.spdx_requirement.specs.Rows.{Rows}
 use Rattle.spdx_lexer.specs.declared.token.ParseMode.{ParseMode}
@@ -9,6 +9,7 @@ use Rattle.spdx_parser.specs.Faults.{IsFaultOf}
 use Rattle.spdx_fix.specs.Fix.{Reads, IsFixOf}
 use Rattle.spdx_hints.specs.Hints.{hints_of}
 use Rattle.spdx_hints.specs.Phrase.{phrase_of}
+use Rattle.spdx_list.specs.Files.{InsteadRow}
 use Rattle.finding_forms.specs.Finding.{Aid, nothing, write, names}
 
 -- what is wrong: the text that is shown, where the fault stands in it, why it is one, and what helps
@@ -26,14 +27,36 @@ wants_name InvalidCharacters = true
 wants_name DeprecatedLicenseId = true
 wants_name fault = false
 
--- the fix, where there is one; else the licences that the phrase at the fault may mean, where a name is wanted
-abbrev pub aid_by : Rows → List ℕ → Fault → Span → Option (List ℕ) → Aid
-aid_by c text fault s (Some fix) = write fix
-aid_by c text fault s None = if wants_name fault then names (hints_of c (phrase_of text s.from)) else nothing
+-- the text of the fault; a place behind the text counts as its end
+abbrev pub name_at : List ℕ → Span → List ℕ
+name_at text s = let end = min s.to (length text) in slice_range text (min s.from end) end
+
+-- what the first row of that name says to write in its place
+abbrev pub heir_in : List InsteadRow → List ℕ → Option (List ℕ)
+heir_in heirs name = option_map (λ (r : InsteadRow). r.write) (find (λ (r : InsteadRow). bytes_eq r.name name) heirs)
+
+-- a deprecated name may have an heir; no other fault has
+abbrev pub heir_of : List InsteadRow → List ℕ → Fault → Span → Option (List ℕ)
+heir_of heirs text DeprecatedLicenseId s = heir_in heirs (name_at text s)
+heir_of heirs text fault s = None
+
+-- the licences that the phrase at the fault may mean, where a name is wanted
+abbrev pub hint_by : Rows → List ℕ → Fault → Span → Aid
+hint_by c text fault s = if wants_name fault then names (hints_of c (phrase_of text s.from)) else nothing
+
+-- the heir, where there is one; else hints
+abbrev pub name_by : Rows → List ℕ → Fault → Span → Option (List ℕ) → Aid
+name_by c text fault s (Some heir) = names (heir ∷ [])
+name_by c text fault s None = hint_by c text fault s
+
+-- the fix, where there is one; else names
+abbrev pub aid_by : Rows → List InsteadRow → List ℕ → Fault → Span → Option (List ℕ) → Aid
+aid_by c heirs text fault s (Some fix) = write fix
+aid_by c heirs text fault s None = name_by c text fault s (heir_of heirs text fault s)
 
 -- a text with a fault, which may have a fix
-abbrev pub wrong_in : Rows → List ℕ → Fault → Span → Option (List ℕ) → Wrong
-wrong_in c text fault s fix = record { shown = text; place = s; reason = fault_text fault; aid = aid_by c text fault s fix }
+abbrev pub wrong_in : Rows → List InsteadRow → List ℕ → Fault → Span → Option (List ℕ) → Wrong
+wrong_in c heirs text fault s fix = record { shown = text; place = s; reason = fault_text fault; aid = aid_by c heirs text fault s fix }
 
 -- of bytes that are no text U+FFFD is shown for each invalid sequence, and the first one, of three bytes, is the fault
 abbrev pub no_text : List ℕ → Wrong
@@ -42,12 +65,12 @@ no_text bytes =
     record { shown = utf8_lossy bytes; place = span valid 3; reason = codes "not UTF-8"; aid = nothing }
 
 -- nothing is wrong with a text that a reader in the mode accepts; else its fault is, or that the bytes are no text
-pub data IsFinding (c : Rows) (m : ParseMode) (bytes : List ℕ) : Option Wrong → Type 0 where
-  is_accepted : IsUtf8 bytes → Reads c m bytes → IsFinding c m bytes None
-  is_refused : (fault : Fault) (s : Span) (fix : Option (List ℕ)) → IsUtf8 bytes → IsFaultOf c m bytes fault s → IsFixOf c bytes fix → IsFinding c m bytes (Some (wrong_in c bytes fault s fix))
-  is_no_text : ¬ (IsUtf8 bytes) → IsFinding c m bytes (Some (no_text bytes))
+pub data IsFinding (c : Rows) (heirs : List InsteadRow) (m : ParseMode) (bytes : List ℕ) : Option Wrong → Type 0 where
+  is_accepted : IsUtf8 bytes → Reads c m bytes → IsFinding c heirs m bytes None
+  is_refused : (fault : Fault) (s : Span) (fix : Option (List ℕ)) → IsUtf8 bytes → IsFaultOf c m bytes fault s → IsFixOf c bytes fix → IsFinding c heirs m bytes (Some (wrong_in c heirs bytes fault s fix))
+  is_no_text : ¬ (IsUtf8 bytes) → IsFinding c heirs m bytes (Some (no_text bytes))
 
 -- this is the finding, and there is no other
-pub record IsTheFinding (c : Rows) (m : ParseMode) (bytes : List ℕ) (found : Option Wrong) : Type 0 where
-  pub given : IsFinding c m bytes found
-  pub only : (other : Option Wrong) → IsFinding c m bytes other → other ≡ found
+pub record IsTheFinding (c : Rows) (heirs : List InsteadRow) (m : ParseMode) (bytes : List ℕ) (found : Option Wrong) : Type 0 where
+  pub given : IsFinding c heirs m bytes found
+  pub only : (other : Option Wrong) → IsFinding c heirs m bytes other → other ≡ found

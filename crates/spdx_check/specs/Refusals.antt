@@ -7,6 +7,7 @@ use Rattle.spdx_check.specs.declared.refusals.Refusal.{Refusal}
 use Rattle.spdx_check.specs.declared.refusals.Remedy.{Remedy}
 use Rattle.spdx_check.specs.declared.refusals.Remedy.TheVariants.{Nothing, Write, Names}
 use Rattle.spdx_check.specs.declared.remembered.Slot.{Slot}
+use Rattle.spdx_check.specs.Checking.{heirs_in}
 use Rattle.spdx_check.specs.Finding.{Wrong}
 use Rattle.spdx_check.specs.Found.{finding_of}
 
@@ -25,7 +26,7 @@ wrong_of r = record {
 
 -- a slot that is used holds what is found of its expression
 abbrev pub IsKnown : Check → Slot → Type 0
-IsKnown check slot = slot.is_used ≡ true → option_map wrong_of slot.found ≡ finding_of check.catalogue.now check.mode slot.expression.items
+IsKnown check slot = slot.is_used ≡ true → option_map wrong_of slot.found ≡ finding_of check.catalogue.now (heirs_in check) check.mode slot.expression.items
 
 abbrev pub AreKnown : Check → List Slot → Type 0
 AreKnown check slots = All (IsKnown check) slots

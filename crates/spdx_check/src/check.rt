@@ -9,12 +9,15 @@ use crate::refusals::{Refusal, refusal_of};
 use finding_forms::{Finding, Form, Help, Place, put_finding};
 use spdx_catalogue::Catalogue;
 use spdx_lexer::token::ParseMode;
+use spdx_list::Instead;
 use std::alloc::{AllocError, Global};
 
 /// How expressions are checked.
 #[derive(Clone, Copy)]
 pub struct Check<'c> {
     pub catalogue: &'c Catalogue,
+    /// What to write in place of deprecated names, where there is no fix. Of rows of one name the first counts.
+    pub heirs: &'c [Instead],
     /// How they are read.
     pub mode: ParseMode,
     /// How findings are written.
@@ -22,13 +25,15 @@ pub struct Check<'c> {
 }
 
 /// Appends the finding of an expression that stands there, if it is refused, and says whether it is: what is wrong, as
-/// the parser tells it, and as help the fix, where the expression has one, else the names of licences that the phrase at
-/// the fault may mean, where a name is wanted there: the fault is an unknown term or licence, a byte that begins no token,
-/// or a deprecated name. Bytes that are no UTF-8 are refused too: U+FFFD is shown for each invalid sequence, the first of
-/// which is the fault. `is_first` says that no finding stands before it, which counts in SARIF alone.
+/// the parser tells it, and as help the fix, where the expression has one; else, of a deprecated name, what the heirs say
+/// to write in its place; else the names of licences that the phrase at the fault may mean, where a name is wanted there:
+/// the fault is an unknown term or licence, a byte that begins no token, or a deprecated name. An heir is told as the one
+/// name that may be meant, since it mends the name alone and no reader has tried it. Bytes that are no UTF-8 are refused
+/// too: U+FFFD is shown for each invalid sequence, the first of which is the fault. `is_first` says that no finding
+/// stands before it, which counts in SARIF alone.
 ///
 /// Linear in the expression's tokens, besides their look-up. One that is refused is read up to four times more, and for
-/// names each row of the catalogue is looked at.
+/// names each heir, or each row of the catalogue, is looked at.
 ///
 /// # Errors
 ///

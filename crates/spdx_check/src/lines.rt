@@ -3,7 +3,7 @@
 ghost use Rattle.std.specs.Prelude.{◌≡◌, ◌++◌, IfOk, OnOk, is_some, length};
 ghost use Rattle.line_engine.specs.Device.{devices};
 ghost use Rattle.line_engine.specs.Output.{capped};
-ghost use Rattle.spdx_check.specs.Checking.{ChecksLines, expression_of, found_text, have_finding, is_blank, spot_of};
+ghost use Rattle.spdx_check.specs.Checking.{ChecksLines, expression_of, found_text, have_finding, heirs_in, is_blank, spot_of};
 ghost use Rattle.spdx_check.specs.Found.{finding_of, rule_of};
 ghost use Rattle.spdx_check.specs.Refusals.{AreKnown};
 
@@ -70,10 +70,11 @@ fn put_line<'c>(
     ensures text { AreKnown check.now remembered.old.slots.items →
         OnOk result (text.new.items ≡ text.old.items ++
         found_text check.now.form is_first (spot_of place.entry)
-        (finding_of check.now.catalogue.now check.now.mode expression.now)) }
+        (finding_of check.now.catalogue.now (heirs_in check.now) check.now.mode expression.now)) }
     ensures refuses { AreKnown check.now remembered.old.slots.items →
         IfOk result (λ is_refused. is_refused ≡
-        is_some (finding_of check.now.catalogue.now check.now.mode expression.now)) }
+        is_some (finding_of check.now.catalogue.now (heirs_in check.now) check.now.mode
+        expression.now)) }
     ensures known { AreKnown check.now remembered.old.slots.items →
         AreKnown check.now remembered.new.slots.items }
 {
@@ -91,7 +92,8 @@ impl Verdicts for File<'_, '_> {
 
     ghost HasAnswered = { λ file lines. (file.lines ≡ capped (length lines))
         × (file.has_finding ≡
-        have_finding (finding_of file.check.now.catalogue.now file.check.now.mode) lines) };
+        have_finding (finding_of file.check.now.catalogue.now (heirs_in file.check.now)
+        file.check.now.mode) lines) };
 
     fn answer(
         &mut self,

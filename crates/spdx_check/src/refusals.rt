@@ -1,13 +1,17 @@
 // What is wrong with an expression.
 
-ghost use Rattle.std.specs.Prelude.{◌≡◌, IfOk, MatchOption, None, option_map};
+ghost use Rattle.std.specs.Prelude.{◌≡◌, IfOk, MatchOption, None, bytes_eq, find, map, option_map, string_bytes};
+ghost use Rattle.std.specs.Option.{option_copied};
 ghost use Rattle.std.specs.Str.Lossy.{utf8_valid_len};
 ghost use Rattle.spdx_lexer.specs.Code.{span_of};
 ghost use Rattle.spdx_lexer.specs.Faults.{fault_of};
 ghost use Rattle.spdx_parser.specs.Meaning.{IsRefused};
 ghost use Rattle.spdx_fix.specs.Fix.{Reads};
 ghost use Rattle.finding_forms.specs.Finding.{aid_of};
-ghost use Rattle.spdx_check.specs.Finding.{aid_by, wants_name, wrong_in, no_text};
+ghost use Rattle.spdx_list.specs.Shown.{instead_of};
+ghost use Rattle.spdx_list.specs.declared.extras.Instead.{Instead};
+ghost use Rattle.spdx_check.specs.Checking.{heirs_in};
+ghost use Rattle.spdx_check.specs.Finding.{aid_by, heir_in, heir_of, hint_by, name_at, wants_name, wrong_in, no_text};
 ghost use Rattle.spdx_check.specs.Found.{finding_of, fix_of};
 ghost use Rattle.spdx_check.specs.Refusals.{aid_in, wrong_of};
 
@@ -17,6 +21,7 @@ use spdx_catalogue::{Catalogue, Failure};
 use spdx_fix::fix;
 use spdx_hints::{hints, phrase};
 use spdx_lexer::error::{ParseError, Reason};
+use spdx_list::Instead;
 use spdx_parser::parse_nodes;
 use std::alloc::{AllocError, Global};
 
@@ -58,7 +63,7 @@ pub(crate) fn refusal_of<'c>(
     bytes: &[u8],
 ) -> Result<Option<Refusal<'c>>, AllocError>
     ensures { IfOk result (λ found. option_map wrong_of found ≡
-        finding_of check.now.catalogue.now check.now.mode bytes.now) }
+        finding_of check.now.catalogue.now (heirs_in check.now) check.now.mode bytes.now) }
 {
     let written = match str::from_utf8(bytes) {
         Ok(written) => written,
@@ -66,7 +71,7 @@ pub(crate) fn refusal_of<'c>(
     };
     match fault_in(alloc, check, written)? {
         None => Ok(None),
-        Some(error) => Ok(Some(refused(alloc, check.catalogue, &error)?)),
+        Some(error) => Ok(Some(refused(alloc, check, &error)?)),
     }
 }
 
@@ -104,13 +109,13 @@ fn no_text<'c>(alloc: Global, bytes: &[u8], valid: usize) -> Result<Refusal<'c>,
 // Of a text that is refused.
 fn refused<'c>(
     alloc: Global,
-    catalogue: &'c Catalogue,
+    check: &Check<'c>,
     error: &ParseError<'_>,
 ) -> Result<Refusal<'c>, AllocError>
     ensures { IfOk result (λ refusal. wrong_of refusal ≡
-        wrong_in catalogue.entry.now error.now.original.now
+        wrong_in check.now.catalogue.now (heirs_in check.now) error.now.original.now
         (fault_of error.now.reason) (span_of error.now.span)
-        (fix_of catalogue.entry.now error.now.original.now)) }
+        (fix_of check.now.catalogue.now error.now.original.now)) }
 {
     let reason = error.reason;
     Ok(Refusal {
@@ -118,36 +123,87 @@ fn refused<'c>(
         start: error.span.start,
         end: error.span.end,
         reason: format!(in alloc; "{reason}")?,
-        remedy: remedy_of(alloc, catalogue, error)?,
+        remedy: remedy_of(alloc, check, error)?,
     })
 }
 
 // What helps: the fix, where there is one, else names.
 fn remedy_of<'c>(
     alloc: Global,
-    catalogue: &'c Catalogue,
+    check: &Check<'c>,
     error: &ParseError<'_>,
 ) -> Result<Remedy<'c>, AllocError>
     ensures { IfOk result (λ remedy. aid_in remedy ≡
-        aid_by catalogue.entry.now error.now.original.now
+        aid_by check.now.catalogue.now (heirs_in check.now) error.now.original.now
         (fault_of error.now.reason) (span_of error.now.span)
-        (fix_of catalogue.entry.now error.now.original.now)) }
+        (fix_of check.now.catalogue.now error.now.original.now)) }
 {
-    match fix(alloc, catalogue, error.original)? {
+    match fix(alloc, check.catalogue, error.original)? {
         Some(mended) => Ok(Remedy::Write(mended)),
-        None => names_for(alloc, catalogue, error),
+        None => names_for(alloc, check, error),
     }
 }
 
-// What helps where there is no fix: the names that the phrase at the fault may mean, if a name is wanted.
+// What helps where there is no fix: the heir of a deprecated name, else hints.
 fn names_for<'c>(
+    alloc: Global,
+    check: &Check<'c>,
+    error: &ParseError<'_>,
+) -> Result<Remedy<'c>, AllocError>
+    ensures { IfOk result (λ remedy. aid_in remedy ≡
+        aid_by check.now.catalogue.now (heirs_in check.now) error.now.original.now
+        (fault_of error.now.reason) (span_of error.now.span) None) }
+{
+    let Some(heir) = heir_of(check.heirs, error) else {
+        return hints_for(alloc, check.catalogue, error);
+    };
+    let mut names = Vec::new(alloc);
+    names.push(heir)?;
+    Ok(Remedy::Names(names))
+}
+
+// What is to be written in place of the deprecated name at the fault.
+fn heir_of<'c>(heirs: &'c [Instead], error: &ParseError<'_>) -> Option<&'c str>
+    ensures { option_copied result ≡ heir_of (map instead_of heirs.now) error.now.original.now
+        (fault_of error.now.reason) (span_of error.now.span) }
+{
+    match error.reason {
+        Reason::DeprecatedLicenseId => heir_in(heirs, name_at(error)),
+        _ => None,
+    }
+}
+
+fn name_at<'t>(error: &ParseError<'t>) -> &'t [u8]
+    ensures { result.now ≡ name_at error.now.original.now (span_of error.now.span) }
+{
+    let text = error.original.as_bytes();
+    let end = error.span.end.min(text.len());
+    &text[error.span.start.min(end)..end]
+}
+
+fn heir_in<'c>(heirs: &'c [Instead], name: &[u8]) -> Option<&'c str>
+    ensures { option_copied result ≡ heir_in (map instead_of heirs.now) name.now }
+{
+    let row = row_named(heirs, name)?;
+    Some(row.write.as_str())
+}
+
+fn row_named<'c>(heirs: &'c [Instead], name: &[u8]) -> Option<&'c Instead>
+    ensures { option_copied result
+        ≡ find (λ (r : Instead). bytes_eq (string_bytes r.name) name.now) heirs.now }
+{
+    heirs.iter().find(|row| row.name.as_bytes() == name)
+}
+
+// The names that the phrase at the fault may mean, if a name is wanted.
+fn hints_for<'c>(
     alloc: Global,
     catalogue: &'c Catalogue,
     error: &ParseError<'_>,
 ) -> Result<Remedy<'c>, AllocError>
     ensures { IfOk result (λ remedy. aid_in remedy ≡
-        aid_by catalogue.entry.now error.now.original.now
-        (fault_of error.now.reason) (span_of error.now.span) None) }
+        hint_by catalogue.entry.now error.now.original.now
+        (fault_of error.now.reason) (span_of error.now.span)) }
 {
     if !wants_name(error.reason) {
         return Ok(Remedy::Nothing);

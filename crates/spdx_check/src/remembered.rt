@@ -2,6 +2,7 @@
 
 ghost use Rattle.std.specs.Prelude.{◌≡◌, IfOk, IfSome, option_map};
 ghost use Rattle.spdx_check.specs.declared.check.Check.{Check};
+ghost use Rattle.spdx_check.specs.Checking.{heirs_in};
 ghost use Rattle.spdx_check.specs.Found.{finding_of};
 ghost use Rattle.spdx_check.specs.Refusals.{wrong_of, IsKnown, AreKnown};
 
@@ -35,7 +36,7 @@ impl<'c> Slot<'c> {
     // Holds this expression in place of another one; where memory is wanting, none.
     fn fill(&mut self, expression: &[u8], found: Option<Refusal<'c>>)
         ensures { (check : Check) → option_map wrong_of found.entry ≡
-            finding_of check.catalogue.now check.mode expression.now → IsKnown check self.new }
+            finding_of check.catalogue.now (heirs_in check) check.mode expression.now → IsKnown check self.new }
     {
         self.is_used = false;
         self.found = found;
@@ -84,7 +85,7 @@ impl<'c> Remembered<'c> {
     pub(crate) fn find(&self, expression: &[u8]) -> Option<&Option<Refusal<'c>>>
         ensures { IfSome result (λ found. (check : Check) →
             AreKnown check self.now.slots.items → option_map wrong_of found.now ≡
-            finding_of check.catalogue.now check.mode expression.now) }
+            finding_of check.catalogue.now (heirs_in check) check.mode expression.now) }
     {
         if expression.len() > LONGEST {
             return None;
@@ -101,7 +102,7 @@ impl<'c> Remembered<'c> {
     pub(crate) fn keep(&mut self, alloc: Global, expression: &[u8], found: Option<Refusal<'c>>)
         ensures { (check : Check) → AreKnown check self.old.slots.items →
             option_map wrong_of found.entry ≡
-            finding_of check.catalogue.now check.mode expression.now →
+            finding_of check.catalogue.now (heirs_in check) check.mode expression.now →
             AreKnown check self.new.slots.items }
     {
         if expression.len() > LONGEST {

@@ -17,7 +17,8 @@ use std::alloc::{AllocError, Global};
 use std::fs;
 use std::io::Write;
 
-const VERSION: &str = "0.1.0";
+/// The version that logs tell.
+pub(crate) const VERSION: &str = "0.1.0";
 
 // How what is named is checked.
 #[derive(Clone, Copy)]
@@ -33,8 +34,10 @@ pub(crate) fn check<R: System, O: Write + Drop, F: Write + Drop>(
     console: &mut Console<O, F>,
 ) -> Result<u8, Trouble> {
     let catalogue = list::catalogue(rt, request.list)?;
+    let extras = list::extras(rt.alloc())?;
     let check = Check {
         catalogue: &catalogue,
+        heirs: extras.instead.as_slice(),
         mode: mode_of(request.is_lax),
         form: form_of(request.form, console.screen.colours),
     };
