@@ -2,16 +2,26 @@
 #![tactic(auto)]
 
 mod check;
+mod chosen;
 mod console;
+mod details;
+mod entries;
 mod fix;
+mod gate;
 mod list;
 mod make;
+mod notice;
+mod packages;
+mod policy;
 mod replace;
 mod serve;
 mod show;
+mod shown;
 mod system;
 mod totals;
+mod tree;
 mod trouble;
+mod verdicts;
 mod walk;
 
 pub use crate::console::Screen;

@@ -3,7 +3,9 @@
 use crate::check::check;
 use crate::console::{Console, Hushed, Screen};
 use crate::fix::fix;
+use crate::gate::gate;
 use crate::make::make;
+use crate::notice::notice;
 use crate::show::show;
 use crate::system::System;
 use line_engine::stream::Output;
@@ -20,7 +22,11 @@ pub fn run<R: System, O: Write + Drop, F: Write + Drop>(
     output: O,
     faults: F,
 ) -> u8 {
-    let is_quiet = matches!(request, Request::Check(request) if request.quiet);
+    let is_quiet = match request {
+        Request::Check(request) => request.quiet,
+        Request::Gate(request) => request.quiet,
+        _ => false,
+    };
     let mut console = Console {
         output: Output::new(Hushed::new(output, is_quiet)),
         faults: Output::new(faults),
@@ -29,6 +35,8 @@ pub fn run<R: System, O: Write + Drop, F: Write + Drop>(
     let end = match request {
         Request::Check(request) => check(rt, request, &mut console),
         Request::Fix(request) => fix(rt, request, &mut console),
+        Request::Gate(request) => gate(rt, request, &mut console),
+        Request::Notice(request) => notice(rt, request, &mut console),
         Request::Show(request) => show(rt, request, &mut console),
         Request::Make(request) => make(rt, request, &mut console),
     };

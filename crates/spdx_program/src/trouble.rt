@@ -2,8 +2,10 @@
 
 use line_engine::device::Failed;
 use line_engine::lines::RunFault;
+use package_sources::SourceFault;
 use spdx::ReadFault;
 use spdx_list::ListFault;
+use spdx_policy::PolicyFault;
 use std::alloc::{AllocError, AllocFailed, Global};
 use std::io::{self, ErrorKind, Write};
 
@@ -20,6 +22,20 @@ pub(crate) enum Trouble {
     List(String, ReadFault),
     /// SPDX's two files in a folder make no list.
     Made(String, ListFault),
+    /// A file isn't what it was called.
+    Source(String, SourceFault),
+    /// A file holds no policy.
+    Policy(String, PolicyFault),
+    /// What is accepted is no licence, and why.
+    Accepted(String, String),
+    /// No package has this name.
+    NoPackage(String),
+    /// A package has no choice, and why.
+    NoChoice(String, String),
+    /// One choice for all is asked for by a policy, which allows each package its own.
+    NotTogether,
+    /// A licence's text can't be had, and why.
+    Text(String, String),
     /// The list has no such name; and what is told of those that may be meant.
     Unlisted(String, String),
     /// The mended file can't be written.
@@ -94,6 +110,7 @@ impl Trouble {
     pub(crate) fn status(&self) -> u8 {
         match self {
             Trouble::Broken(_) | Trouble::Unwritable(..) | Trouble::Output | Trouble::Memory => 3,
+            Trouble::NoChoice(..) => 1,
             _ => 2,
         }
     }
@@ -112,6 +129,16 @@ impl Trouble {
             Trouble::Broken(path) => write!(text, "spdx: {path}: read fault\n"),
             Trouble::List(path, fault) => write!(text, "spdx: {path}: no list: {fault}\n"),
             Trouble::Made(path, fault) => write!(text, "spdx: {path}: no list: {fault}\n"),
+            Trouble::Source(path, fault) => write!(text, "spdx: {path}: {fault}\n"),
+            Trouble::Policy(path, fault) => write!(text, "spdx: {path}: {fault}\n"),
+            Trouble::Accepted(name, why) => write!(text, "spdx: --accept: {name}: {why}\n"),
+            Trouble::NoPackage(name) => write!(text, "spdx: --explain: no package {name}\n"),
+            Trouble::NoChoice(package, why) => write!(text, "spdx: {package}: {why}\n"),
+            Trouble::NotTogether => write!(
+                text,
+                "spdx: --one-for-all goes with --accept: a policy may allow one package what it denies another\n"
+            ),
+            Trouble::Text(name, why) => write!(text, "spdx: the text of {name}: {why}\n"),
             Trouble::Unlisted(name, meant) => {
                 write!(text, "spdx: {name}: not in the list{meant}\n")
             }

@@ -1,5 +1,6 @@
 // The command line that is understood.
 
+use crate::packages_command::{gate, notice};
 use clap::{Arg, ArgAction, Command};
 use std::alloc::{AllocError, Global};
 
@@ -22,19 +23,25 @@ const EXAMPLES: &str = "Examples:
   spdx check licenses.txt            what is wrong in a list with an expression a line
   spdx check --headers src           the SPDX-License-Identifier tags of a source tree
   spdx fix licenses.txt              a diff of what can be mended; --write mends the file
+  spdx gate --policy policy.toml --from cargo metadata.json
+                                     which packages a policy refuses, and why
+  spdx notice --accept MIT,Apache-2.0 --texts texts --from cargo metadata.json
+                                     the page that says who is owed what
   spdx list show Apache-2.0          what the list says of a name";
 
 /// The command `spdx`. `version` is what `--version` prints.
 pub(crate) fn command<'a>(alloc: Global, version: &'a str) -> Result<Command<'a>, AllocError> {
     Command::new(alloc, "spdx")
         .bin_name("spdx")?
-        .about("Checks and mends SPDX license expressions")
+        .about("Checks and mends SPDX license expressions, and judges packages by them")
         .version(version)
         .subcommand_required(true)
         .arg_required_else_help(true)
         .after_help(EXAMPLES)
         .subcommand(check(alloc)?)?
         .subcommand(fix(alloc)?)?
+        .subcommand(gate(alloc)?)?
+        .subcommand(notice(alloc)?)?
         .subcommand(list(alloc)?)
 }
 
@@ -105,7 +112,7 @@ fn list<'a>(alloc: Global) -> Result<Command<'a>, AllocError> {
         .subcommand(make)
 }
 
-fn flag<'a>(alloc: Global, name: &'a str, help: &'a str) -> Arg<'a> {
+pub(crate) fn flag<'a>(alloc: Global, name: &'a str, help: &'a str) -> Arg<'a> {
     Arg::new(alloc, name)
         .long(name)
         .action(ArgAction::SetTrue)
@@ -120,18 +127,18 @@ fn headers<'a>(alloc: Global) -> Arg<'a> {
     )
 }
 
-fn list_file<'a>(alloc: Global) -> Arg<'a> {
+pub(crate) fn list_file<'a>(alloc: Global) -> Arg<'a> {
     Arg::new(alloc, "list")
         .long("list")
         .value_name("FILE|DIR")
         .help("The list to read by: a file of this program, or a folder with SPDX's own two")
 }
 
-fn paths<'a>(alloc: Global) -> Arg<'a> {
+pub(crate) fn paths<'a>(alloc: Global) -> Arg<'a> {
     Arg::new(alloc, "PATH")
         .action(ArgAction::Append)
         .num_args(0..)
-        .help("Files with an expression a line; `-` or none is standard input")
+        .help("The files that are read; `-` or none is standard input")
 }
 
 fn file<'a>(alloc: Global, name: &'a str, help: &'a str) -> Arg<'a> {

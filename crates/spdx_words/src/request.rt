@@ -1,5 +1,7 @@
 // What a command line asks for.
 
+use crate::packages_request::{GateRequest, NoticeRequest};
+
 /// What the program is to do.
 #[derive(Drop)]
 pub enum Request<'w> {
@@ -7,6 +9,10 @@ pub enum Request<'w> {
     Check(CheckRequest<'w>),
     /// `fix`.
     Fix(FixRequest<'w>),
+    /// `gate`.
+    Gate(GateRequest<'w>),
+    /// `notice`.
+    Notice(NoticeRequest<'w>),
     /// `list show`.
     Show(ShowRequest<'w>),
     /// `list make`.

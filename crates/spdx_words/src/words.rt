@@ -1,6 +1,7 @@
 // Words to requests.
 
 use crate::command::command;
+use crate::packages_words::{gate_request, notice_request};
 use crate::request::{CheckRequest, FixRequest, Form, MakeRequest, Request, ShowRequest};
 use clap::error::ErrorKind;
 use clap::{ArgMatches, Command, Error};
@@ -21,17 +22,28 @@ pub fn read<'w>(
     match matches.subcommand() {
         Some(("check", matches)) => Ok(Request::Check(check_request(alloc, matches)?)),
         Some(("fix", matches)) => Ok(Request::Fix(fix_request(alloc, matches)?)),
+        Some(("gate", matches)) => gate_request(alloc, matches),
+        Some(("notice", matches)) => notice_request(alloc, matches),
         Some(("list", matches)) => list_request(alloc, matches),
-        _ => Err(no_command(alloc)),
+        _ => Err(refused(alloc, ErrorKind::MissingSubcommand, "a command is missing")),
     }
 }
 
-// Every command line that is understood has a command, so nobody sees this.
-fn no_command(alloc: Global) -> Error {
-    match Command::new(alloc, "spdx").error(ErrorKind::MissingSubcommand, "a command is missing") {
+/// The refusal of words that the command's own arguments let through.
+pub(crate) fn refused(alloc: Global, kind: ErrorKind, why: &str) -> Error {
+    match Command::new(alloc, "spdx").error(kind, why) {
         Ok(error) => error,
         Err(error) => Error::from(error),
     }
+}
+
+// Every command line that is understood has the files that its command needs, so nobody sees this.
+pub(crate) fn no_file(alloc: Global) -> Error {
+    refused(
+        alloc,
+        ErrorKind::MissingRequiredArgument,
+        "a file is missing",
+    )
 }
 
 fn check_request<'w>(
@@ -72,13 +84,13 @@ fn list_request<'w>(alloc: Global, matches: &ArgMatches<'w>) -> Result<Request<'
     match matches.subcommand() {
         Some(("make", matches)) => match make_request(matches) {
             Some(request) => Ok(Request::Make(request)),
-            None => Err(no_command(alloc)),
+            None => Err(no_file(alloc)),
         },
         Some((_, matches)) => Ok(Request::Show(ShowRequest {
             list: matches.get_str("list"),
             names: texts(alloc, matches, "NAME")?,
         })),
-        None => Err(no_command(alloc)),
+        None => Err(no_file(alloc)),
     }
 }
 
@@ -91,7 +103,7 @@ fn make_request<'w>(matches: &ArgMatches<'w>) -> Option<MakeRequest<'w>> {
     })
 }
 
-fn texts<'w>(
+pub(crate) fn texts<'w>(
     alloc: Global,
     matches: &ArgMatches<'w>,
     name: &str,

@@ -1,0 +1,232 @@
+// What each package is used under.
+
+use crate::policy::policy;
+use crate::system::System;
+use crate::trouble::Trouble;
+use package_sources::{License, Package};
+use spdx::expression::ExprNode;
+use spdx::{Catalogue, Expression, Failure, LicenseReq, Licensee, ParseMode};
+use spdx_gate::{Judged, Outcome, judge_text};
+use spdx_notice::{RequirementTexts, Unmet, joint_choices, own_choices, texts_of};
+use spdx_policy::Policy;
+use spdx_why::Remedy;
+use spdx_words::{Accepted, NoticeRequest};
+use std::alloc::{AllocError, Global};
+
+/// The requirements of a package's choice, with the texts that they want.
+pub(crate) type Choice = Vec<RequirementTexts>;
+
+/// The choice of each package, in their order, among what the request accepts.
+pub(crate) fn choices<R: System>(
+    rt: &R,
+    catalogue: &Catalogue,
+    request: &NoticeRequest<'_>,
+    packages: &[&Package],
+) -> Result<Vec<Choice>, Trouble> {
+    let alloc = rt.alloc();
+    match request.accepted {
+        Accepted::List(list, is_lax) => {
+            let accepted = licensees(alloc, catalogue, list)?;
+            let mode = if is_lax {
+                ParseMode::LAX
+            } else {
+                ParseMode::STRICT
+            };
+            let expressions = expressions(alloc, catalogue, mode, packages)?;
+            among(
+                alloc,
+                packages,
+                &expressions,
+                &accepted,
+                request.one_for_all,
+            )
+        }
+        Accepted::Policy(_) if request.one_for_all => Err(Trouble::NotTogether),
+        Accepted::Policy(path) => {
+            let policy = policy(rt, catalogue, path)?;
+            allowed(alloc, catalogue, &policy, packages)
+        }
+    }
+}
+
+// The licences of a list with commas between them.
+fn licensees<'c>(
+    alloc: Global,
+    catalogue: &'c Catalogue,
+    list: &str,
+) -> Result<Vec<Licensee<'c>>, Trouble> {
+    let mut licensees = Vec::new(alloc);
+    for name in list.split(',') {
+        let name = name.trim();
+        match Licensee::parse(alloc, catalogue, name) {
+            Ok(licensee) => licensees.push(licensee)?,
+            Err(Failure::Refused(error)) => {
+                let reason = error.reason;
+                let why = format!(in alloc; "{reason}")?;
+                return Err(Trouble::Accepted(String::from_str(alloc, name)?, why));
+            }
+            Err(Failure::Memory(error)) => return Err(Trouble::from(error)),
+        }
+    }
+    Ok(licensees)
+}
+
+// The expression of each package.
+fn expressions<'c>(
+    alloc: Global,
+    catalogue: &'c Catalogue,
+    mode: ParseMode,
+    packages: &[&Package],
+) -> Result<Vec<Expression<'c>>, Trouble> {
+    let mut expressions = Vec::new(alloc);
+    for package in packages {
+        let text = stated(alloc, package)?;
+        match Expression::parse_mode(alloc, catalogue, text, mode) {
+            Ok(expression) => expressions.push(expression)?,
+            Err(Failure::Refused(error)) => {
+                let reason = error.reason;
+                let why = format!(in alloc; "{text}: {reason}")?;
+                return Err(without_choice(alloc, package, why)?);
+            }
+            Err(Failure::Memory(error)) => return Err(Trouble::from(error)),
+        }
+    }
+    Ok(expressions)
+}
+
+// The text of a package's licence.
+fn stated<'p>(alloc: Global, package: &'p Package) -> Result<&'p str, Trouble> {
+    match &package.license {
+        License::Stated(text) => Ok(text.as_str()),
+        License::Unstated => {
+            let why = String::from_str(alloc, "without a licence")?;
+            Err(without_choice(alloc, package, why)?)
+        }
+    }
+}
+
+// The trouble of a package that has no choice.
+fn without_choice(alloc: Global, package: &Package, why: String) -> Result<Trouble, AllocError> {
+    let name = package.name.as_str();
+    let told = match &package.version {
+        Some(version) => format!(in alloc; "{name} {version}")?,
+        None => String::from_str(alloc, name)?,
+    };
+    Ok(Trouble::NoChoice(told, why))
+}
+
+// The choice of each package among these licences.
+fn among<'c>(
+    alloc: Global,
+    packages: &[&Package],
+    expressions: &[Expression<'c>],
+    accepted: &[Licensee<'c>],
+    one_for_all: bool,
+) -> Result<Vec<Choice>, Trouble> {
+    let lent: Vec<&Expression<'c>> = expressions.iter().collect(alloc)?;
+    let chosen = if one_for_all {
+        joint_choices(alloc, &lent, accepted)
+    } else {
+        own_choices(alloc, &lent, accepted)
+    };
+    match chosen {
+        Ok(choices) => with_texts(alloc, &choices),
+        Err(Failure::Refused(unmet)) => Err(unmet_trouble(alloc, packages, unmet)?),
+        Err(Failure::Memory(error)) => Err(Trouble::from(error)),
+    }
+}
+
+fn unmet_trouble(
+    alloc: Global,
+    packages: &[&Package],
+    unmet: Unmet,
+) -> Result<Trouble, AllocError> {
+    match unmet {
+        Unmet::Expression { place, error } => {
+            let why = format!(in alloc; "{error}")?;
+            match packages.get(place) {
+                Some(package) => without_choice(alloc, package, why),
+                None => Ok(Trouble::NoChoice(String::new(alloc), why)),
+            }
+        }
+        Unmet::Together(error) => {
+            let why = format!(in alloc; "{error}")?;
+            Ok(Trouble::NoChoice(String::from_str(alloc, "all packages together")?, why))
+        }
+    }
+}
+
+fn with_texts(alloc: Global, choices: &[Vec<LicenseReq<'_>>]) -> Result<Vec<Choice>, Trouble> {
+    let mut all = Vec::new(alloc);
+    for requirements in choices {
+        let mut choice = Vec::new(alloc);
+        for requirement in requirements {
+            choice.push(texts_of(alloc, requirement)?)?;
+        }
+        all.push(choice)?;
+    }
+    Ok(all)
+}
+
+// The least choice of each package among what the policy allows it.
+fn allowed(
+    alloc: Global,
+    catalogue: &Catalogue,
+    policy: &Policy<'_>,
+    packages: &[&Package],
+) -> Result<Vec<Choice>, Trouble> {
+    let mut all = Vec::new(alloc);
+    for package in packages {
+        all.push(allowed_choice(alloc, catalogue, policy, package)?)?;
+    }
+    Ok(all)
+}
+
+fn allowed_choice(
+    alloc: Global,
+    catalogue: &Catalogue,
+    policy: &Policy<'_>,
+    package: &Package,
+) -> Result<Choice, Trouble> {
+    let name = package.name.as_str();
+    let version = match &package.version {
+        Some(version) => Some(version.as_str()),
+        None => None,
+    };
+    let clarified = match policy.clarification_for(alloc, name, version)? {
+        Some(table) => policy.clarification(table),
+        None => None,
+    };
+    let text = match clarified {
+        Some(text) => text,
+        None => stated(alloc, package)?,
+    };
+    let exceptions = policy.exceptions_for(alloc, name, version)?;
+    let why = match judge_text(alloc, catalogue, policy, &exceptions, text)? {
+        Outcome::Judged(judged) => match &judged.choice {
+            Remedy::Accept(numbers) => return Ok(chosen(alloc, &judged, numbers)?),
+            Remedy::Unmet => String::from_str(alloc, "not allowed by the policy")?,
+            Remedy::TooMany(_) => String::from_str(alloc, "more than 1,024 requirements")?,
+        },
+        Outcome::Unreadable(fault) => {
+            let reason = fault.reason;
+            format!(in alloc; "{text}: {reason}")?
+        }
+    };
+    Err(without_choice(alloc, package, why)?)
+}
+
+// The requirements of these numbers, with the texts that they want.
+fn chosen(alloc: Global, judged: &Judged<'_>, numbers: &[usize]) -> Result<Choice, AllocError> {
+    let mut choice = Vec::new(alloc);
+    let mut number: usize = 0;
+    for node in judged.nodes.as_slice() {
+        if let ExprNode::Req(requirement) = node {
+            if numbers.contains(&number) {
+                choice.push(texts_of(alloc, &requirement.req)?)?;
+            }
+            number = number.saturating_add(1);
+        }
+    }
+    Ok(choice)
+}

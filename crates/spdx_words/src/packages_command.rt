@@ -1,0 +1,136 @@
+// The commands over packages.
+
+use crate::command::{flag, list_file, paths};
+use clap::{Arg, ArgAction, Command};
+use std::alloc::{AllocError, Global};
+
+const GATE_EXAMPLE: &str = "Example:
+  cargo metadata --format-version 1 | spdx gate --policy policy.toml --from cargo
+
+Status: 0 every package is allowed, 1 some package is not, 2 wrong words, list, policy or file, 3 a read, a write or
+memory failed.";
+
+const NOTICE_EXAMPLE: &str = "Example:
+  spdx notice --accept MIT,Apache-2.0 --texts texts --format html --from cargo metadata.json > notice.html
+
+Status: 0 the page is written, 1 some package has no choice that is accepted, 2 wrong words, list, policy, file or
+license text, 3 a read, a write or memory failed. No page is written but with 0.";
+
+/// The command `gate`.
+pub(crate) fn gate<'a>(alloc: Global) -> Result<Command<'a>, AllocError> {
+    let policy = option(
+        alloc,
+        "policy",
+        "FILE",
+        "What is allowed and what is denied",
+    )
+    .required(true);
+    let form = Arg::new(alloc, "format")
+        .long("format")
+        .value_name("FORM")
+        .value_parser(["human", "short", "json", "github", "sarif", "html"].as_slice())
+        .default_value("human")
+        .help("How verdicts are written");
+    let explain = option(
+        alloc,
+        "explain",
+        "PACKAGE",
+        "Shows each part of the package's expression, and the entry that decided it",
+    );
+    let gate = Command::new(alloc, "gate")
+        .about("Tells which packages a policy refuses, why, and what would help")
+        .after_help(GATE_EXAMPLE)
+        .arg(policy)?
+        .arg(form)?
+        .arg(explain)?
+        .arg(flag(alloc, "quiet", "Writes nothing; the status tells").short('q'))?;
+    sources(alloc, gate)?
+        .arg(list_file(alloc))?
+        .arg(paths(alloc))
+}
+
+/// The command `notice`.
+pub(crate) fn notice<'a>(alloc: Global) -> Result<Command<'a>, AllocError> {
+    let accept = option(
+        alloc,
+        "accept",
+        "LIST",
+        "The licenses that are accepted, with commas between them; the first is liked best",
+    );
+    let policy = option(
+        alloc,
+        "policy",
+        "FILE",
+        "A policy that says what is allowed",
+    );
+    let form = Arg::new(alloc, "format")
+        .long("format")
+        .value_name("FORM")
+        .value_parser(["text", "markdown", "html"].as_slice())
+        .default_value("text")
+        .help("How the page is written");
+    let notice = Command::new(alloc, "notice")
+        .about("Writes the page with each package under its licenses, and their texts")
+        .after_help(NOTICE_EXAMPLE)
+        .arg(accept.conflicts_with("policy")?)?
+        .arg(policy)?
+        .arg(option(
+            alloc,
+            "texts",
+            "DIR",
+            "The folder with the texts, as MIT.txt",
+        ))?
+        .arg(flag(alloc, "without-texts", "Leaves the texts out").conflicts_with("texts")?)?
+        .arg(flag(
+            alloc,
+            "lax",
+            "With --accept: reads names in any case, imprecise names and `/` for OR too",
+        ))?
+        .arg(flag(
+            alloc,
+            "one-for-all",
+            "Makes one choice for all packages together",
+        ))?
+        .arg(form)?;
+    sources(alloc, notice)?
+        .arg(list_file(alloc))?
+        .arg(paths(alloc))
+}
+
+/// Adds the arguments that say what the files are.
+pub(crate) fn sources<'a>(alloc: Global, command: Command<'a>) -> Result<Command<'a>, AllocError> {
+    let from = Arg::new(alloc, "from")
+        .long("from")
+        .value_name("FORM")
+        .value_parser(["lines", "tsv", "cargo", "npm", "cyclonedx", "spdx"].as_slice())
+        .help("What the files are: lines of expressions where nothing is said");
+    let each = option(
+        alloc,
+        "each",
+        "POINTER",
+        "Any JSON: where its list of packages is, as /packages",
+    );
+    command
+        .arg(from.conflicts_with("each")?)?
+        .arg(each)?
+        .arg(option(
+            alloc,
+            "name",
+            "POINTER",
+            "With --each: a package's name, from the package; /name where nothing is said",
+        ))?
+        .arg(option(
+            alloc,
+            "license",
+            "POINTER",
+            "With --each: its license; /license where nothing is said",
+        ))
+}
+
+fn option<'a>(alloc: Global, name: &'a str, value: &'a str, help: &'a str) -> Arg<'a> {
+    Arg::new(alloc, name)
+        .long(name)
+        .value_name(value)
+        .action(ArgAction::Set)
+        .help(help)
+}

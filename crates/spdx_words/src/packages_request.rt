@@ -1,0 +1,79 @@
+// What the commands over packages ask for.
+
+/// What the files are.
+#[derive(Clone, Copy)]
+pub enum Source<'w> {
+    /// A form with a name.
+    Named(SourceForm),
+    /// Any JSON, by the pointers to its list of packages and, from each of them, to a name and a license.
+    At(&'w str, &'w str, &'w str),
+}
+
+/// The forms with names.
+#[derive(Clone, Copy, PartialEq, Eq, Debug)]
+pub enum SourceForm {
+    Lines,
+    Tsv,
+    Cargo,
+    Npm,
+    CycloneDx,
+    Spdx,
+}
+
+/// How the verdicts of a gate are written.
+#[derive(Clone, Copy, PartialEq, Eq, Debug)]
+pub enum GateForm {
+    Human,
+    Short,
+    Json,
+    Github,
+    Sarif,
+    Html,
+}
+
+/// How a page is written.
+#[derive(Clone, Copy, PartialEq, Eq, Debug)]
+pub enum PageForm {
+    Text,
+    Markdown,
+    Html,
+}
+
+/// Which packages are judged, by which policy, and how it is told.
+#[derive(Drop)]
+pub struct GateRequest<'w> {
+    /// The list's file or folder; the list inside the program where there is none.
+    pub list: Option<&'w str>,
+    pub policy: &'w str,
+    pub source: Source<'w>,
+    pub form: GateForm,
+    /// The name of a package that is explained.
+    pub explain: Option<&'w str>,
+    /// Whether nothing is written, and the status alone tells.
+    pub quiet: bool,
+    pub paths: Vec<&'w str>,
+}
+
+/// What may be chosen.
+#[derive(Clone, Copy)]
+pub enum Accepted<'w> {
+    /// The licenses of a list with commas between them, and whether expressions are read laxly.
+    List(&'w str, bool),
+    /// What the policy of a file allows, which also says how expressions are read.
+    Policy(&'w str),
+}
+
+/// Which packages a page is of, and how it is written.
+#[derive(Drop)]
+pub struct NoticeRequest<'w> {
+    /// The list's file or folder; the list inside the program where there is none.
+    pub list: Option<&'w str>,
+    pub accepted: Accepted<'w>,
+    pub source: Source<'w>,
+    /// The folder with the texts; none where they are left out.
+    pub texts: Option<&'w str>,
+    /// Whether one choice is made for all packages together.
+    pub one_for_all: bool,
+    pub form: PageForm,
+    pub paths: Vec<&'w str>,
+}

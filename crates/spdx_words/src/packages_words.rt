@@ -1,0 +1,105 @@
+// Words to requests of the commands over packages.
+
+use crate::packages_request::{
+    Accepted, GateForm, GateRequest, NoticeRequest, PageForm, Source, SourceForm,
+};
+use crate::request::Request;
+use crate::words::{no_file, refused, texts};
+use clap::error::ErrorKind;
+use clap::{ArgMatches, Error};
+use std::alloc::Global;
+
+/// What the words behind `gate` ask for.
+pub(crate) fn gate_request<'w>(
+    alloc: Global,
+    matches: &ArgMatches<'w>,
+) -> Result<Request<'w>, Error> {
+    let Some(policy) = matches.get_str("policy") else {
+        return Err(no_file(alloc));
+    };
+    Ok(Request::Gate(GateRequest {
+        list: matches.get_str("list"),
+        policy,
+        source: source(alloc, matches)?,
+        form: gate_form(matches.get_str("format")),
+        explain: matches.get_str("explain"),
+        quiet: matches.get_flag("quiet"),
+        paths: texts(alloc, matches, "PATH")?,
+    }))
+}
+
+/// What the words behind `notice` ask for.
+pub(crate) fn notice_request<'w>(
+    alloc: Global,
+    matches: &ArgMatches<'w>,
+) -> Result<Request<'w>, Error> {
+    let texts_folder = matches.get_str("texts");
+    if texts_folder.is_none() && !matches.get_flag("without-texts") {
+        let why =
+            "the texts are missing: say --texts DIR, or --without-texts for a page without them";
+        return Err(refused(alloc, ErrorKind::MissingRequiredArgument, why));
+    }
+    Ok(Request::Notice(NoticeRequest {
+        list: matches.get_str("list"),
+        accepted: accepted(alloc, matches)?,
+        source: source(alloc, matches)?,
+        texts: texts_folder,
+        one_for_all: matches.get_flag("one-for-all"),
+        form: page_form(matches.get_str("format")),
+        paths: texts(alloc, matches, "PATH")?,
+    }))
+}
+
+fn accepted<'w>(alloc: Global, matches: &ArgMatches<'w>) -> Result<Accepted<'w>, Error> {
+    match (matches.get_str("accept"), matches.get_str("policy")) {
+        (Some(list), _) => Ok(Accepted::List(list, matches.get_flag("lax"))),
+        (None, Some(file)) => Ok(Accepted::Policy(file)),
+        (None, None) => {
+            let why = "what is accepted is missing: say --accept LIST or --policy FILE";
+            Err(refused(alloc, ErrorKind::MissingRequiredArgument, why))
+        }
+    }
+}
+
+fn source<'w>(alloc: Global, matches: &ArgMatches<'w>) -> Result<Source<'w>, Error> {
+    let name = matches.get_str("name");
+    let license = matches.get_str("license");
+    let Some(each) = matches.get_str("each") else {
+        if name.is_some() || license.is_some() {
+            let why = "--name and --license go with --each";
+            return Err(refused(alloc, ErrorKind::MissingRequiredArgument, why));
+        }
+        return Ok(Source::Named(source_form(matches.get_str("from"))));
+    };
+    Ok(Source::At(each, name.unwrap_or("/name"), license.unwrap_or("/license")))
+}
+
+fn source_form(name: Option<&str>) -> SourceForm {
+    match name {
+        Some("tsv") => SourceForm::Tsv,
+        Some("cargo") => SourceForm::Cargo,
+        Some("npm") => SourceForm::Npm,
+        Some("cyclonedx") => SourceForm::CycloneDx,
+        Some("spdx") => SourceForm::Spdx,
+        _ => SourceForm::Lines,
+    }
+}
+
+fn gate_form(name: Option<&str>) -> GateForm {
+    match name {
+        Some("short") => GateForm::Short,
+        Some("json") => GateForm::Json,
+        Some("github") => GateForm::Github,
+        Some("sarif") => GateForm::Sarif,
+        Some("html") => GateForm::Html,
+        _ => GateForm::Human,
+    }
+}
+
+fn page_form(name: Option<&str>) -> PageForm {
+    match name {
+        Some("markdown") => PageForm::Markdown,
+        Some("html") => PageForm::Html,
+        _ => PageForm::Text,
+    }
+}
