@@ -2,14 +2,15 @@
 # make install_library: the library for C, C++ and Python; make samples: its samples; make library_speed: measures it.
 # make speed CRATE=FOLDER: processor time against the published Rust crate, whose sources are in FOLDER; CORPUS=FILE has
 # expressions with their weights.
-# make test: the whole gate, of which make quotes, theorem, known, growths, program and commands are parts: what README.md
+# make test: the whole gate, of which make quotes, theorem, known, growths, program, commands and verdicts are parts: what README.md
 # and docs/THEOREM.md quote is what the files hold; the list inside is that of data/; each growth of memory refused to
-# each call; the built line program in hostile surroundings; the built program spdx as its users run it.
+# each call; the built line program in hostile surroundings; the built program spdx as its users run it; its verdicts on
+# random packages.
 PREFIX ?= /usr/local
 LINES := crates/spdx_lines_main/out/spdx_lines_main
 SPDX := crates/spdx_main/out/spdx_main
 
-.PHONY: run build install install_library quotes theorem known growths program commands samples speed library_speed test
+.PHONY: run build install install_library quotes theorem known growths program commands verdicts samples speed library_speed test
 
 run:
 	@tools/run
@@ -40,6 +41,10 @@ program: $(LINES)
 commands: $(SPDX)
 	@tools/commands $(SPDX)
 
+# Verdicts on random packages against the definition, computed another way.
+verdicts: $(SPDX)
+	@tools/verdicts $(SPDX)
+
 # The samples in C, C++ and Python, over the library, which is proved and built first where it isn't: minutes, so it is no
 # part of the gate.
 samples:
@@ -65,4 +70,4 @@ library_speed:
 # The programs are run as rt ci has built them.
 test:
 	@tools/gate tools/quotes "tools/theorem --check" "tools/known --check" tools/growths \
-		"tools/program $(LINES)" "tools/commands $(SPDX)"
+		"tools/program $(LINES)" "tools/commands $(SPDX)" "tools/verdicts $(SPDX)"
