@@ -2,3 +2,4 @@ pub mod Finding
 pub mod Found
 pub mod Checking
 pub mod Refusals
+pub mod Totals

@@ -5,6 +5,8 @@ mod check;
 mod lines;
 mod refusals;
 mod remembered;
+mod totals;
 
 pub use crate::check::{Check, check_one};
 pub use crate::lines::{Checked, check_lines, expression_of};
+pub use crate::totals::Totals;

@@ -3,7 +3,6 @@
 use crate::console::Console;
 use crate::list;
 use crate::system::{System, bytes_of, input_bytes, is_binary, is_folder, paths_or_input};
-use crate::totals::Totals;
 use crate::trouble::Trouble;
 use crate::walk::Walk;
 use finding_forms::{Form, Place, Style, put_beginning, put_ending, put_totals};
@@ -11,7 +10,7 @@ use license_tags::{Tag, tags};
 use line_engine::lines::{Summary, write_all};
 use line_engine::stream::Input as Lines;
 use spdx::ParseMode;
-use spdx_check::{Check, check_lines, check_one};
+use spdx_check::{Check, Totals, check_lines, check_one};
 use spdx_words::{CheckRequest, Form as AskedForm};
 use std::alloc::{AllocError, Global};
 use std::fs;

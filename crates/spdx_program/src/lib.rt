@@ -18,7 +18,6 @@ mod serve;
 mod show;
 mod shown;
 mod system;
-mod totals;
 mod tree;
 mod trouble;
 mod verdicts;

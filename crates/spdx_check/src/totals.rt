@@ -1,21 +1,24 @@
 // The totals of a check.
 
 ghost use Rattle.std.specs.Prelude.{◌≡◌};
-ghost use Rattle.spdx_program.specs.Totals.{status_of, with_file};
+ghost use Rattle.spdx_check.specs.Totals.{status_of, with_file};
 
 /// How many expressions were seen, in how many files, and how many of them were refused. Counts stay at `u64::MAX`.
 #[derive(Clone, Copy, Default)]
-pub(crate) struct Totals {
-    pub(crate) expressions: u64,
-    pub(crate) files: u64,
-    pub(crate) refused: u64,
+pub struct Totals {
+    /// The expressions.
+    pub expressions: u64,
+    /// The files.
+    pub files: u64,
+    /// The expressions that are refused.
+    pub refused: u64,
     /// Whether a path could not be read.
-    pub(crate) is_short: bool,
+    pub is_short: bool,
 }
 
 impl Totals {
-    /// Adds those of a file.
-    pub(crate) fn add(&mut self, expressions: u64, refused: u64)
+    /// Adds a file: how many expressions it has, and how many of them are refused.
+    pub fn add(&mut self, expressions: u64, refused: u64)
         ensures { self.new ≡ with_file self.old expressions refused }
     {
         self.expressions = self.expressions.saturating_add(expressions);
@@ -23,8 +26,9 @@ impl Totals {
         self.files = self.files.saturating_add(1);
     }
 
-    /// The program's status.
-    pub(crate) fn status(&self) -> u8
+    /// The status of a program that checks: 2 where a path could not be read, else 1 where some
+    /// expression was refused, else 0.
+    pub fn status(&self) -> u8
         ensures { result ≡ status_of self.now }
     {
         if self.is_short {

@@ -1,7 +1,7 @@
 -- The totals of a check, and the status that they give.
 use Rattle.std.specs.Prelude.{ℕ, ◌+◌, ◌==◌, if◌then◌else◌}
 use Rattle.line_engine.specs.Output.{capped}
-use Rattle.spdx_program.specs.declared.totals.Totals.{Totals}
+use Rattle.spdx_check.specs.declared.totals.Totals.{Totals}
 
 -- one more file, with its expressions and how many of them are refused
 abbrev pub with_file : Totals → ℕ → ℕ → Totals
