@@ -32,7 +32,8 @@ enum {
     SPDX_TOO_MANY = 6,          /* `number` licensees are useful, more than 1,024 */
     SPDX_NO_FIX = 7,            /* the text has no fix, or needs none */
     SPDX_SHORT = 8,             /* the buffer is too short: it needs `length` bytes */
-    SPDX_ARGUMENT = 9,          /* a null pointer, an impossible length, or a number that means nothing */
+    SPDX_ARGUMENT = 9,          /* a null pointer, an impossible length, a number that means nothing; or a wrong
+                                 * number of bits: the expression has `number` requirements */
     SPDX_LIST = 10,             /* the bytes are no list of licences */
     SPDX_MEMORY = 11            /* memory was refused */
 };
@@ -43,7 +44,7 @@ typedef struct {
     uint32_t reason;  /* from 1 to 12: spdx_reason */
     size_t start;     /* the first byte of the fault */
     size_t end;       /* the byte behind the fault */
-    size_t number;    /* a licensee, counted from 0, or how many */
+    size_t number;    /* a licensee, counted from 0; or how many licensees or requirements there are */
     size_t length;    /* the bytes of the text, at SPDX_OK and SPDX_SHORT */
     uint64_t lines;   /* of spdx_lines: how many lines there were */
     uint64_t refused; /* and how many of them were refused */
@@ -80,6 +81,13 @@ spdx_report spdx_normal(spdx_text list, uint32_t mode, spdx_text text, spdx_buff
 /* SPDX_OK where those who hold these licences, one on each line, may use what comes under the expression; SPDX_UNMET
  * where not. */
 spdx_report spdx_evaluate(spdx_text list, uint32_t mode, spdx_text text, spdx_text licensees);
+
+/* The requirements of an expression, from left to right, each with a newline. */
+spdx_report spdx_requirements(spdx_text list, uint32_t mode, spdx_text text, spdx_buffer out);
+
+/* SPDX_OK where the expression is true if requirement i, in the order of spdx_requirements, is met exactly where bit i
+ * is set; SPDX_UNMET where it is false. Bit i is `(bits[i / 8] >> i % 8) & 1`, and there are `count` bits. */
+spdx_report spdx_evaluate_bits(spdx_text list, uint32_t mode, spdx_text text, const void *bits, size_t count);
 
 /* The requirements of the least choice among the licensees that makes the expression true, each with a newline. */
 spdx_report spdx_choose(spdx_text list, uint32_t mode, spdx_text text, spdx_text licensees, spdx_buffer out);

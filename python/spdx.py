@@ -4,6 +4,7 @@
     licences.check("MIT OR Apache-2.0")                     # None, or spdx.Refused
     licences.fix("mit/apache-2.0")                          # "MIT OR Apache-2.0"
     licences.evaluate("MIT OR Zlib", ["Zlib"])              # True
+    licences.evaluate_bits("MIT OR Zlib", [False, True])    # True: requirement by requirement
     licences.lines(["MIT", "Apache2"], ["MIT"])             # a verdict for each, in one call
 
 Texts are str or bytes; places are in bytes of UTF-8. Nothing is shared between calls, so threads may call at once, and
@@ -77,12 +78,15 @@ _TOO_MANY, _NO_FIX, _SHORT, _ARGUMENT, _LIST, _MEMORY = range(6, 12)
 def _library() -> ctypes.CDLL:
     path = os.environ.get("SPDX_LIBRARY") or ctypes.util.find_library("spdx") or "libspdx.so"
     library = ctypes.CDLL(path)
-    texts = {"check": 1, "canonical": 1, "fix": 1, "normal": 1, "evaluate": 2, "choose": 2, "lines": 2}
+    texts = {"check": 1, "canonical": 1, "fix": 1, "normal": 1, "requirements": 1}
+    texts |= {"evaluate": 2, "choose": 2, "lines": 2}
     for name, count in texts.items():
         call = getattr(library, f"spdx_{name}")
         mode = [] if name == "fix" else [ctypes.c_uint32]
         out = [] if name in ("check", "evaluate") else [_Buffer]
         call.restype, call.argtypes = _Report, [_Bytes, *mode, *[_Bytes] * count, *out]
+    bits = library.spdx_evaluate_bits
+    bits.restype, bits.argtypes = _Report, [_Bytes, ctypes.c_uint32, _Bytes, ctypes.c_char_p, ctypes.c_size_t]
     library.spdx_reason.restype, library.spdx_reason.argtypes = _Report, [ctypes.c_uint32, _Buffer]
     return library
 
@@ -181,6 +185,25 @@ class Licences:
         report = _LIBRARY.spdx_evaluate(self._list, mode, _bytes(_encoded(text)), _bytes(_joined(licensees)))
         if report.status == _UNMET:
             return False
+        _raise(report)
+        return True
+
+    def requirements(self, text: Text, mode: int = STRICT) -> list[str]:
+        """The requirements of an expression, from left to right."""
+        return self._text(_LIBRARY.spdx_requirements, mode, _bytes(_encoded(text))).split("\n")[:-1]
+
+    def evaluate_bits(self, text: Text, met: Iterable[bool], mode: int = STRICT) -> bool:
+        """Whether the expression is true where each of its `requirements`, in their order, is met or not. `ValueError`
+        where there is not an answer for each."""
+        answers = [bool(answer) for answer in met]
+        bits = bytearray(len(answers) // 8 + 1)
+        for place, answer in enumerate(answers):
+            bits[place // 8] |= answer << place % 8
+        report = _LIBRARY.spdx_evaluate_bits(self._list, mode, _bytes(_encoded(text)), bytes(bits), len(answers))
+        if report.status == _UNMET:
+            return False
+        if report.status == _ARGUMENT and report.number:
+            raise ValueError(f"{len(answers)} answers for {report.number} requirements")
         _raise(report)
         return True
 

@@ -1,6 +1,6 @@
-/* sample LIST CORPUS STRICT LAX NORMAL EACH: the verdicts of the corpus's lines, in one call by mode, against stored
- * ones; of the first EACH lines each by calls of their own; short buffers, wrong arguments, and threads. Prints what
- * differs, and 'N passed, M failed'. */
+/* sample LIST CORPUS STRICT LAX NORMAL BITS EACH: the verdicts of the corpus's lines, in one call by mode, against
+ * stored ones; of the first EACH lines each by calls of their own, and their truths by bits; short buffers, wrong
+ * arguments, and threads. Prints what differs, and 'N passed, M failed'. */
 #include <pthread.h>
 #include <spdx.h>
 #include <stdio.h>
@@ -96,6 +96,33 @@ static void each(spdx_text list, uint32_t mode, spdx_text corpus, spdx_text want
     }
 }
 
+/* The requirements of one line, and its truths over at most sixteen answers: samples/store_bits.py says which. */
+static size_t truths(spdx_text list, spdx_text line, char *out, size_t room) {
+    char text[512];
+    spdx_report put = spdx_requirements(list, SPDX_STRICT, line, (spdx_buffer){text, sizeof text});
+    if (put.status != SPDX_OK) return snprintf(out, room, "-");
+    size_t at = 0, count = 0;
+    for (size_t i = 0; i < put.length; i++) {
+        if (text[i] != '\n') out[at++] = text[i];
+        else if (count++, i + 1 < put.length) at += snprintf(out + at, room - at, ", ");
+    }
+    out[at++] = '\t';
+    for (unsigned k = 0; k < 16 && k < 1u << (count < 4 ? count : 4); k++) {
+        unsigned char bits[32];
+        memset(bits, k | k << 4, sizeof bits);
+        out[at++] = spdx_evaluate_bits(list, SPDX_STRICT, line, bits, count).status == SPDX_OK ? '1' : '0';
+    }
+    return at;
+}
+
+static void each_by_bits(spdx_text list, spdx_text corpus, spdx_text wanted, int count) {
+    char out[2048];
+    while (corpus.length && count--) {
+        spdx_text line = line_of(&corpus), is = line_of(&wanted);
+        expect(same(out, truths(list, line, out, sizeof out), is), "truths by bits");
+    }
+}
+
 static void puts_text(spdx_report report, const char *out, const char *wanted, const char *what) {
     expect(report.status == SPDX_OK && same(out, report.length, text_of(wanted)), what);
 }
@@ -112,6 +139,12 @@ static void singles(spdx_text list) {
     puts_text(spdx_reason(9, to), out, "unknown term", "a reason");
     expect(spdx_evaluate(list, SPDX_STRICT, text_of("MIT OR Zlib"), text_of("0BSD\nZlib")).status == SPDX_OK, "met");
     expect(spdx_evaluate(list, SPDX_STRICT, text_of("MIT AND Zlib"), text_of("Zlib")).status == SPDX_UNMET, "unmet");
+    puts_text(spdx_requirements(list, SPDX_STRICT, two, to), out, "Zlib\nMIT\nApache-2.0\n", "requirements");
+    expect(spdx_evaluate_bits(list, SPDX_STRICT, two, "\6", 3).status == SPDX_OK, "met by bits");
+    expect(spdx_evaluate_bits(list, SPDX_STRICT, two, "\2", 3).status == SPDX_UNMET, "unmet by bits");
+    spdx_text nine = text_of("MIT AND MIT AND MIT AND MIT AND MIT AND MIT AND MIT AND MIT AND Zlib");
+    expect(spdx_evaluate_bits(list, SPDX_STRICT, nine, "\377\1", 9).status == SPDX_OK, "a ninth bit");
+    expect(spdx_evaluate_bits(list, SPDX_STRICT, nine, "\377\376", 9).status == SPDX_UNMET, "no ninth bit");
     spdx_report who = spdx_evaluate(list, SPDX_STRICT, text_of("MIT"), text_of("MIT\n  Nope\n"));
     expect(who.status == SPDX_LICENSEE && who.number == 1 && who.start == 2 && who.end == 6, "a licensee");
     who = spdx_evaluate(list, SPDX_STRICT, text_of("MIT"), (spdx_text){"MIT\n\xff", 5});
@@ -131,6 +164,11 @@ static void wrong(spdx_text list) {
     expect(spdx_check(list, 0, (spdx_text){"MIT", SIZE_MAX}).status == SPDX_ARGUMENT, "a length");
     expect(spdx_fix(list, text_of("mit"), (spdx_buffer){NULL, 9}).status == SPDX_ARGUMENT, "a null buffer");
     expect(spdx_canonical(list, 0, (spdx_text){out, 3}, to).status == SPDX_ARGUMENT, "a buffer over its text");
+    for (size_t bits = 0; bits < 5; bits++) {
+        spdx_report told = spdx_evaluate_bits(list, 0, text_of("MIT OR Zlib"), out, bits);
+        expect(bits == 2 || (told.status == SPDX_ARGUMENT && told.number == 2), "a number of bits");
+    }
+    expect(spdx_evaluate_bits(list, 0, text_of("MIT"), NULL, 1).status == SPDX_ARGUMENT, "null bits");
     expect(spdx_check(text_of("{}"), 0, text_of("MIT")).status == SPDX_LIST, "no list");
     expect(spdx_reason(0, to).status == SPDX_ARGUMENT && spdx_reason(13, to).status == SPDX_ARGUMENT, "a reason");
 }
@@ -164,14 +202,17 @@ static void threads(spdx_text list, spdx_text corpus, spdx_text wanted) {
 }
 
 int main(int count, char **words) {
-    if (count != 7) return 2;
+    if (count != 8) return 2;
     spdx_text list = file(words[1]), corpus = file(words[2]), wanted[3];
     for (uint32_t mode = 0; mode < 3; mode++) {
         wanted[mode] = file(words[3 + mode]);
         whole(list, mode, corpus, wanted[mode], words[3 + mode]);
     }
-    each(list, SPDX_STRICT, corpus, wanted[SPDX_STRICT], atoi(words[6]));
-    each(list, SPDX_LAX, corpus, wanted[SPDX_LAX], atoi(words[6]));
+    each(list, SPDX_STRICT, corpus, wanted[SPDX_STRICT], atoi(words[7]));
+    each(list, SPDX_LAX, corpus, wanted[SPDX_LAX], atoi(words[7]));
+    spdx_text bits = file(words[6]);
+    each_by_bits(list, corpus, bits, atoi(words[7]));
+    free((void *)bits.bytes);
     singles(list);
     wrong(list);
     threads(list, corpus, wanted[0]);

@@ -2,6 +2,7 @@
 // texts of C++. Prints 'N passed, M failed'.
 #include <spdx.h>
 
+#include <cstdint>
 #include <cstdio>
 #include <fstream>
 #include <iterator>
@@ -46,7 +47,14 @@ int main(int count, char **words) {
         });
         expect(report.status == SPDX_OK && out == file(words[3 + mode]), words[3 + mode]);
     }
-    std::string fix;
+    const std::string_view both = "MIT AND Zlib";
+    std::string fix, needs;
+    const spdx_report told =
+        written(needs, [&](spdx_buffer to) { return spdx_requirements(text_of(list), 0, text_of(both), to); });
+    expect(told.status == SPDX_OK && needs == "MIT\nZlib\n", "requirements");
+    const std::uint8_t met[] = {3}, half[] = {1};
+    expect(spdx_evaluate_bits(text_of(list), 0, text_of(both), met, 2).status == SPDX_OK, "met by bits");
+    expect(spdx_evaluate_bits(text_of(list), 0, text_of(both), half, 2).status == SPDX_UNMET, "unmet by bits");
     const spdx_report report =
         written(fix, [&](spdx_buffer to) { return spdx_fix(text_of(list), text_of("apache 2.0"), to); });
     expect(report.status == SPDX_OK && fix == "Apache-2.0", "a fix");

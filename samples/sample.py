@@ -1,5 +1,6 @@
-"""sample.py LIST CORPUS STRICT LAX NORMAL EACH: the verdicts of the corpus's lines against stored ones, in one call by
-mode, and of the first EACH lines each by calls of its own. Prints what differs, and 'N passed, M failed'."""
+"""sample.py LIST CORPUS STRICT LAX NORMAL BITS EACH: the verdicts of the corpus's lines against stored ones, in one
+call by mode; of the first EACH lines each by calls of its own, and their truths by bits. Prints what differs, and 'N
+passed, M failed'."""
 
 import sys
 from concurrent.futures import ThreadPoolExecutor
@@ -24,6 +25,16 @@ def verdict(licences, text, mode):
     return f"accepted\t{canonical}\t{choice}"
 
 
+def truths(licences, text):
+    """The line of samples/bits.txt."""
+    try:
+        requirements = licences.requirements(text)
+    except spdx.Refused:
+        return "-"
+    answers = [[bool(k >> i % 4 & 1) for i in range(len(requirements))] for k in range(min(16, 1 << len(requirements)))]
+    return ", ".join(requirements) + "\t" + "".join("01"[licences.evaluate_bits(text, met)] for met in answers)
+
+
 def refused_by(call, *given):
     try:
         call(*given)
@@ -33,7 +44,7 @@ def refused_by(call, *given):
 
 
 def main(list_path, corpus_path, *wanted_paths):
-    *wanted_paths, each = wanted_paths
+    *wanted_paths, bits_path, each = wanted_paths
     licences = spdx.Licences.read(list_path)
     with open(corpus_path, encoding="utf-8", newline="\n") as file:
         corpus = file.read().split("\n")[:-1]
@@ -56,6 +67,14 @@ def main(list_path, corpus_path, *wanted_paths):
         for text, line in zip(corpus[: int(each)], wanted):
             said = verdict(licences, text, mode)
             expect(line.startswith(said) if said.endswith(" ") else line == said, said)
+    with open(bits_path, encoding="utf-8", newline="\n") as file:
+        for text, line in zip(corpus[: int(each)], file.read().split("\n")):
+            expect(truths(licences, text) == line, f"{text} by bits")
+    try:
+        licences.evaluate_bits("MIT OR Zlib", [True])
+        expect(False, "an answer too few")
+    except ValueError:
+        expect(True, "an answer too few")
     expect(licences.fix("mit/apache-2.0") == "MIT OR Apache-2.0", "a fix")
     expect(licences.fix("MIT") is None, "no fix")
     expect(licences.normal("((MIT) AND (Zlib))") == "MIT AND Zlib", "a normal text")

@@ -13,7 +13,8 @@ use Rattle.spdx_calls.specs.Buffer.{IsPut}
 use Rattle.spdx_calls.specs.Reasons.{number_of}
 use Rattle.spdx_calls.specs.Faults.{IsTextFault, IsCanonicalFault, IsFixFault, IsLinesFault}
 use Rattle.spdx_calls.specs.Questions.{IsQuestionFault, IsChoiceFault}
-use Rattle.spdx_calls.specs.Answers.{Reads, PutsCanonical, PutsFix, PutsNormal, PutsChoice, PutsLines, IsTruth}
+use Rattle.spdx_calls.specs.Answers.{Reads, PutsCanonical, PutsFix, PutsNormal, PutsChoice, PutsLines, PutsRequirements, IsTruth}
+use Rattle.spdx_calls.specs.Bits.{IsTruthByBits, IsBitsFault}
 use Rattle.spdx_c.specs.declared.report.Report.{Report}
 use Rattle.spdx_c.specs.Reports.{plain, with_length, of_check, of_put, of_fix, of_truth, of_answered}
 use Rattle.spdx_c.specs.Modes.{mode_of, line_mode_of, IsUnmade}
@@ -52,6 +53,12 @@ IsNormalCall list mode text old new report = IsCall list (mode_of mode) of_put (
 
 abbrev pub IsEvaluation : List ℕ → ℕ → List ℕ → List ℕ → Report → Type 0
 IsEvaluation list mode text licensees report = IsCall list (mode_of mode) of_truth (λ c m. IsTruth c m text licensees) (λ c m. IsQuestionFault c m text licensees) report
+
+abbrev pub IsBitsCall : List ℕ → ℕ → List ℕ → List ℕ → ℕ → Report → Type 0
+IsBitsCall list mode text bits count report = IsCall list (mode_of mode) of_truth (λ c m. IsTruthByBits c m text bits count) (λ c m. IsBitsFault c m text count) report
+
+abbrev pub IsRequirementsCall : List ℕ → ℕ → List ℕ → List ℕ → List ℕ → Report → Type 0
+IsRequirementsCall list mode text old new report = IsCall list (mode_of mode) of_put (λ c m. PutsRequirements c m text old new) (λ c m. IsTextFault c m text) report
 
 abbrev pub IsChoiceCall : List ℕ → ℕ → List ℕ → List ℕ → List ℕ → List ℕ → Report → Type 0
 IsChoiceCall list mode text licensees old new report = IsCall list (mode_of mode) of_put (λ c m. PutsChoice c m text licensees old new) (λ c m. IsChoiceFault c m text licensees) report

@@ -4,7 +4,7 @@ use Rattle.spdx_calls.specs.declared.buffer.Put.{Put}
 use Rattle.spdx_calls.specs.declared.buffer.Put.TheVariants.{Whole, Short}
 use Rattle.spdx_calls.specs.declared.fault.Refusal.{Refusal}
 use Rattle.spdx_calls.specs.declared.fault.CallFault.{CallFault}
-use Rattle.spdx_calls.specs.declared.fault.CallFault.TheVariants.{NotText, Refused, LicenseeNotText, Licensee, Unmet, TooMany, Memory}
+use Rattle.spdx_calls.specs.declared.fault.CallFault.TheVariants.{NotText, Refused, LicenseeNotText, Licensee, Unmet, TooMany, BitCount, Memory}
 use Rattle.spdx_calls.specs.declared.texts.Answered.{Answered}
 use Rattle.spdx_c.specs.declared.report.Report.{Report}
 
@@ -26,6 +26,7 @@ of_fault (LicenseeNotText n) = with_number 4 n
 of_fault (Licensee n r) = with_refusal 3 n r
 of_fault Unmet = plain 5
 of_fault (TooMany n) = with_number 6 n
+of_fault (BitCount n) = with_number 9 n
 of_fault Memory = plain 11
 
 -- a text that is written, or too long for the buffer

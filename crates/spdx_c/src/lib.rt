@@ -4,7 +4,7 @@
 #![tactic(auto)]
 
 ghost use Rattle.std.specs.Prelude.{◌≡◌, ◌≢◌};
-ghost use Rattle.spdx_c.specs.Calls.{IsReasonCall, IsCheck, IsCanonicalCall, IsFixCall, IsNormalCall, IsEvaluation, IsChoiceCall, IsLinesCall};
+ghost use Rattle.spdx_c.specs.Calls.{IsReasonCall, IsCheck, IsCanonicalCall, IsFixCall, IsNormalCall, IsEvaluation, IsBitsCall, IsRequirementsCall, IsChoiceCall, IsLinesCall};
 
 mod opening;
 pub mod report;
@@ -98,6 +98,44 @@ pub extern "C" fn spdx_slices_evaluate(
 {
     match open(alloc, list, mode) {
         Ok((cat, mode)) => { of_truth(spdx_calls::evaluate(alloc, &cat, mode, text, licensees)) }
+        Err(fault) => fault,
+    }
+}
+
+/// Whether the expression is true where bit `i` tells whether requirement `i`, from the left, is met.
+#[unsafe(no_mangle)]
+pub extern "C" fn spdx_slices_evaluate_bits(
+    alloc: Global,
+    list: &[u8],
+    mode: u32,
+    text: &[u8],
+    bits: &[u8],
+    count: usize,
+) -> Report
+    ensures { IsBitsCall list.now mode text.now bits.now count result }
+{
+    match open(alloc, list, mode) {
+        Ok((cat, mode)) => {
+            of_truth(spdx_calls::evaluate_bits(alloc, &cat, mode, text, bits, count))
+        }
+        Err(fault) => fault,
+    }
+}
+
+/// Puts the requirements of an expression into the buffer, from left to right, one on each line.
+#[unsafe(no_mangle)]
+pub extern "C" fn spdx_slices_requirements(
+    alloc: Global,
+    list: &[u8],
+    mode: u32,
+    text: &[u8],
+    out: &mut [u8],
+) -> Report
+    ensures call { IsRequirementsCall list.now mode text.now out.old out.new result }
+    ensures unwritten { result.status ≢ 0 → out.new ≡ out.old }
+{
+    match open(alloc, list, mode) {
+        Ok((cat, mode)) => of_put(spdx_calls::requirements(alloc, &cat, mode, text, out)),
         Err(fault) => fault,
     }
 }

@@ -23,7 +23,7 @@ pub const TOO_MANY: u32 = 6;
 pub const NO_FIX: u32 = 7;
 /// The buffer is too short.
 pub const SHORT: u32 = 8;
-/// A number that means nothing, or a null pointer.
+/// A number that means nothing, a null pointer, or a wrong number of bits.
 pub const ARGUMENT: u32 = 9;
 /// The bytes are no list.
 pub const LIST: u32 = 10;
@@ -42,7 +42,7 @@ pub struct Report {
     pub start: usize,
     /// The byte behind the fault.
     pub end: usize,
-    /// Which licensee, counted from 0; or how many are useful.
+    /// Which licensee, counted from 0; or how many are useful; or how many bits are wanted.
     pub number: usize,
     /// How many bytes the text has that was to be written, at `OK` and `SHORT`.
     pub length: usize,
@@ -98,6 +98,7 @@ fn of_fault(fault: CallFault) -> Report
         CallFault::Licensee(number, refusal) => with_refusal(LICENSEE, number, refusal),
         CallFault::Unmet => plain(UNMET),
         CallFault::TooMany(count) => with_number(TOO_MANY, count),
+        CallFault::BitCount(count) => with_number(ARGUMENT, count),
         CallFault::Memory => plain(MEMORY),
     }
 }

@@ -1,13 +1,13 @@
 -- What the calls answer.
 use Rattle.std.specs.Prelude.{◌≡◌, ℕ, Bool, List, [], ◌∷◌, ◌++◌, Option, Some, None, Ok}
 use Rattle.std.specs.List.{flat_map}
-use Rattle.line_engine.specs.declared.lines.Summary.{Summary}
 use Rattle.line_engine.specs.Lines.{lines_of}
 use Rattle.line_engine.specs.Output.{output_of, summary_of}
 use Rattle.spdx_requirement.specs.Rows.{Rows}
 use Rattle.spdx_requirement.specs.Items.{Requirement}
 use Rattle.spdx_requirement.specs.Texts.{requirement_text}
 use Rattle.spdx_lexer.specs.declared.token.ParseMode.{ParseMode}
+use Rattle.spdx_parser.specs.Tree.{leaves}
 use Rattle.spdx_canonical.specs.Canonical.{canonical_of}
 use Rattle.spdx_fix.specs.Fix.{IsFix, HasNoFix}
 use Rattle.spdx_normal.specs.Normal.{normal_text}
@@ -49,8 +49,15 @@ pub record IsTruth (c : Rows) (m : ParseMode) (text licensees : List ℕ) (truth
   pub is : truth ≡ holds (accepts accepted) expression.tree
 
 -- requirements, each with a newline behind it
+abbrev pub line_of : Requirement → List ℕ
+line_of r = requirement_text r ++ 10 ∷ []
+
 abbrev pub lines_text : List Requirement → List ℕ
-lines_text requirements = flat_map (λ r. requirement_text r ++ 10 ∷ []) requirements
+lines_text requirements = flat_map line_of requirements
+
+-- the requirements of the tree are put, from left to right
+abbrev pub PutsRequirements : Rows → ParseMode → List ℕ → List ℕ → List ℕ → Put → Type 0
+PutsRequirements c m text old new put = (e : Written) × IsReadFrom c m text e × IsPut (lines_text (leaves e.tree)) old new put
 
 -- the least choice among the licensees is put
 pub record PutsChoice (c : Rows) (m : ParseMode) (text licensees old new : List ℕ) (put : Put) : Type 0 where

@@ -1,5 +1,5 @@
 -- What the faults of the calls say.
-use Rattle.std.specs.Prelude.{◌≡◌, ◌⊎◌, ℕ, List, [], ◌∷◌, ◌++◌, length, Err, IsUtf8}
+use Rattle.std.specs.Prelude.{◌≡◌, ◌⊎◌, ℕ, List, ◌∷◌, ◌++◌, length, Err, IsUtf8}
 use Rattle.line_engine.specs.Lines.{lines_of}
 use Rattle.spdx_requirement.specs.Rows.{Rows}
 use Rattle.spdx_requirement.specs.Items.{Requirement}
@@ -12,7 +12,7 @@ use Rattle.spdx_licensee.specs.LicenseeText.{NamesNone, IsLicenseeFault}
 use Rattle.spdx_canonical.specs.Canonical.{canonical_of}
 use Rattle.spdx_canonical.specs.Code.{placed_fault}
 use Rattle.spdx_calls.specs.declared.fault.CallFault.{CallFault}
-use Rattle.spdx_calls.specs.declared.fault.CallFault.TheVariants.{NotText, Refused, LicenseeNotText, Licensee, Unmet, TooMany, Memory}
+use Rattle.spdx_calls.specs.declared.fault.CallFault.TheVariants.{NotText, Refused, LicenseeNotText, Licensee, Memory}
 use Rattle.spdx_calls.specs.Reasons.{refusal_of}
 use Rattle.spdx_calls.specs.Licensees.{AreNamed}
 

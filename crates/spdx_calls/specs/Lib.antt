@@ -4,3 +4,4 @@ pub mod Licensees
 pub mod Faults
 pub mod Questions
 pub mod Answers
+pub mod Bits

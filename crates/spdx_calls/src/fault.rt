@@ -34,6 +34,8 @@ pub enum CallFault {
     Unmet,
     /// So many licensees are useful, which is more than 1,024.
     TooMany(usize),
+    /// There is not a bit for each requirement: the expression has so many.
+    BitCount(usize),
     /// Memory was refused.
     Memory,
 }

@@ -3,14 +3,18 @@
 //! They are what callers in other languages have; `spdx_c` hands them on. No call keeps anything.
 #![tactic(auto)]
 
+pub mod bits;
 pub mod buffer;
 pub mod fault;
 mod licensees;
+pub mod listing;
 pub mod questions;
 mod reading;
 pub mod texts;
 
+pub use crate::bits::evaluate_bits;
 pub use crate::buffer::Put;
 pub use crate::fault::{CallFault, Refusal, reason_text};
+pub use crate::listing::requirements;
 pub use crate::questions::{check, choose, evaluate};
 pub use crate::texts::{Answered, canonical, fix, lines, normal};

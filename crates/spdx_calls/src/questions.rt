@@ -10,10 +10,10 @@ ghost use Rattle.spdx_requirement.specs.Texts.{requirement_text};
 use crate::buffer::{Put, put_text};
 use crate::fault::CallFault;
 use crate::licensees::{is_accepted, read_licensees};
+use crate::listing::requirement_lines;
 use crate::reading::read;
 use spdx::{Catalogue, Failure, LicenseReq, MinimizeError, ParseMode};
-use std::alloc::{AllocError, Global};
-use std::io::Write;
+use std::alloc::Global;
 
 /// Whether the text is an expression in this mode. Linear in the text, besides the look-up of each name.
 ///
@@ -84,28 +84,5 @@ pub fn choose(
             Err(CallFault::TooMany(count))
         }
         Err(Failure::Memory(_)) => Err(CallFault::Memory),
-    }
-}
-
-// The requirements, each with a newline behind it.
-fn requirement_lines(alloc: Global, requirements: &[LicenseReq<'_>]) -> Result<Vec<u8>, AllocError>
-    ensures { IfOk result (λ text.
-        text.items ≡ lines_text (map requirement_of requirements.now)) }
-{
-    let mut text = Vec::new(alloc);
-    for requirement in requirements {
-        put_requirement(&mut text, requirement)?;
-        text.push(b'\n')?;
-    }
-    Ok(text)
-}
-
-fn put_requirement(text: &mut Vec<u8>, requirement: &LicenseReq<'_>) -> Result<(), AllocError>
-    ensures { OnOk result (
-        text.new.items ≡ text.old.items ++ requirement_text (requirement_of requirement.now)) }
-{
-    match write!(text, "{requirement}") {
-        Ok(()) => Ok(()),
-        Err(_) => Err(AllocError),
     }
 }

@@ -1,6 +1,5 @@
-use Rattle.std.proofs.Common.{◌≡◌, ℕ, List, [], ◌∷◌, ◌++◌, rules, ◌∙◌, ap, sym, subst, length, ◌<◌, arith}
+use Rattle.std.proofs.Common.{◌≡◌, ℕ, List, [], ◌∷◌, ◌++◌, rules, ◌∙◌, ap, subst}
 use Rattle.line_engine.specs.Lines.{lines_of}
-use Rattle.spdx_calls.specs.Licensees.{AreNamed}
 use Rattle.spdx_calls.specs.Faults.{IsFaultOfLine, IsLicenseesFault}
 use Rattle.spdx_calls.proofs.Named.{one_more, lines_of-last, named-more, first_fault, handed_on}
 use Rattle.spdx_calls.proofs.licensees.read_licensees.Goals as goal
