@@ -16,11 +16,11 @@ same c n = grind (arith, nat_tests)
 
 -- ---- bytes that stand as they are
 
-record IsPlain (b : ℕ) : Type 0 where
+pub record IsPlain (b : ℕ) : Type 0 where
   pub no_entity : eqb b 38 ≡ false
   pub no_mark : is_mark b ≡ false
 
-abbrev ArePlain : List ℕ → Type 0
+abbrev pub ArePlain : List ℕ → Type 0
 ArePlain [] = Unit {0}
 ArePlain (b ∷ bs) = IsPlain b × ArePlain bs
 
@@ -52,7 +52,7 @@ unmarked c h i j k = rw (h, i, j, k) refl
 
 -- ---- no markup
 
-joined : (xs ys : List ℕ) → HasNoMarkup xs → HasNoMarkup ys → HasNoMarkup (xs ++ ys)
+pub joined : (xs ys : List ℕ) → HasNoMarkup xs → HasNoMarkup ys → HasNoMarkup (xs ++ ys)
 joined [] ys h k = k
 joined (x ∷ xs) ys h k = (h.0, joined xs ys h.1 k)
 
@@ -71,7 +71,7 @@ not_39 b = grind (arith, nat_tests)
 none : (b : ℕ) → is_mark b ≡ false → (b ≢ 60) × (b ≢ 62) × (b ≢ 34) × (b ≢ 39)
 none b h = (not_60 b h, not_62 b h, not_34 b h, not_39 b h)
 
-plain_no_markup : (bs : List ℕ) → ArePlain bs → HasNoMarkup bs
+pub plain_no_markup : (bs : List ℕ) → ArePlain bs → HasNoMarkup bs
 plain_no_markup [] h = tt
 plain_no_markup (b ∷ bs) h = (none b h.0.no_mark, plain_no_markup bs h.1)
 
@@ -93,7 +93,7 @@ no_markup text = chars_no_markup (chars text)
 
 -- ---- it is read as the text
 
-plain_read : (bs rest text : List ℕ) → ArePlain bs → read_from 0 rest ≡ Some text → read_from 0 (bs ++ rest) ≡ Some (bs ++ text)
+pub plain_read : (bs rest text : List ℕ) → ArePlain bs → read_from 0 rest ≡ Some text → read_from 0 (bs ++ rest) ≡ Some (bs ++ text)
 plain_read [] rest text h e = e
 plain_read (b ∷ bs) rest text h e = rw (h.0.no_entity, h.0.no_mark, plain_read bs rest text h.1 e) refl
 
@@ -124,7 +124,7 @@ apostrophe : (rest text : List ℕ) → read_from 0 rest ≡ Some text → Stand
 unfolding encode
 apostrophe rest text e = rw e refl
 
-char_read : (c : ℕ) (rest text : List ℕ) → read_from 0 rest ≡ Some text → Stands c rest text (page_char c)
+pub char_read : (c : ℕ) (rest text : List ℕ) → read_from 0 rest ≡ Some text → Stands c rest text (page_char c)
 char_read c rest text e =
     choose (Stands c rest text) (eqb c 38) _ _ (entity c 38 rest text (codes "&amp;") (amp rest text e))
     (λ a. choose (Stands c rest text) (eqb c 60) _ _ (entity c 60 rest text (codes "&lt;") (lt rest text e))

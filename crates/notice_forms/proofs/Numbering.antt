@@ -1,5 +1,5 @@
 -- One more item with its place.
-use Rattle.std.proofs.Common.{◌≡◌, ℕ, zero, suc, ◌+◌, ◌<◌, List, [], ◌∷◌, ◌++◌, length, get_or, map, take, refl, sym, ap, ◌∙◌, append_assoc, append-nil, arith}
+use Rattle.std.proofs.Common.{◌≡◌, ℕ, zero, suc, ◌+◌, ◌<◌, List, [], ◌∷◌, ◌++◌, length, get_or, map, take, sym, ap, ◌∙◌, append_assoc, append-nil, arith}
 use Rattle.notice_forms.specs.Numbered.{numbered}
 use Rattle.notice_forms.specs.declared.pages.LicenseText.{LicenseText}
 use Rattle.notice_forms.specs.Told.{Named, named}

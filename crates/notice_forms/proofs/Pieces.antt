@@ -1,5 +1,5 @@
 -- Pieces that are put one behind the other.
-use Rattle.std.proofs.Common.{◌≡◌, ℕ, List, [], ◌++◌, refl, ap, ◌∙◌, append_assoc}
+use Rattle.std.proofs.Common.{◌≡◌, ℕ, List, ◌++◌, refl, ap, ◌∙◌, append_assoc}
 
 -- behind the old bytes stand pieces, and the rest behind these
 pub record Wrote (old now : List ℕ) (pieces : List ℕ → List ℕ) : Type 0 where

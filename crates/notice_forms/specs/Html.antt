@@ -1,5 +1,5 @@
 -- The page as one file of HTML.
-use Rattle.std.specs.Prelude.{◌≡◌, ℕ, List, [], ◌∷◌, ◌++◌, codes, ⊤, Any}
+use Rattle.std.specs.Prelude.{◌≡◌, ℕ, List, ◌++◌, codes, ⊤, Any}
 use Rattle.std.specs.Str.{IsUtf8}
 use Rattle.html_text.specs.Text.{page_text}
 use Rattle.license_notice.specs.Rows.{Band}

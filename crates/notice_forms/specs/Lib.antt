@@ -5,3 +5,4 @@ pub mod Markup
 pub mod Html
 pub mod Markdown
 pub mod Pages
+pub mod Seen

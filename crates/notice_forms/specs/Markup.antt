@@ -1,5 +1,5 @@
 -- What the page of HTML has of each package, requirement and text.
-use Rattle.std.specs.Prelude.{ℕ, List, [], ◌∷◌, ◌++◌, length, flat_map, codes, decimal}
+use Rattle.std.specs.Prelude.{ℕ, List, ◌++◌, length, flat_map, codes, decimal}
 use Rattle.html_text.specs.Text.{page_text}
 use Rattle.license_notice.specs.Rows.{Line, Band}
 use Rattle.notice_forms.specs.Told.{Named, package_count}

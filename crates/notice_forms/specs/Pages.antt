@@ -1,5 +1,5 @@
 -- The page in any form.
-use Rattle.std.specs.Prelude.{◌≡◌, ℕ, List, ⊤}
+use Rattle.std.specs.Prelude.{ℕ, List, ⊤}
 use Rattle.notice_forms.specs.declared.errors.PageError.{PageError}
 use Rattle.notice_forms.specs.declared.errors.PageError.TheVariants.{Memory, NotUtf8}
 use Rattle.notice_forms.specs.declared.pages.Form.{Form}

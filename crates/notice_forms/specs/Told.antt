@@ -1,7 +1,7 @@
 -- What a page tells.
-use Rattle.std.specs.Prelude.{ℕ, ◌+◌, ◌==◌, List, [], ◌∷◌, ◌++◌, length, map, flat_map, chars, codes, decimal, encode_utf8, Bool, ◌||◌, if◌then◌else◌}
+use Rattle.std.specs.Prelude.{ℕ, ◌==◌, List, [], ◌++◌, map, flat_map, chars, codes, decimal, encode_utf8, Bool, ◌||◌, if◌then◌else◌}
 use Rattle.std.specs.Int.{is_in_range}
-use Rattle.license_notice.specs.Rows.{Line, Band}
+use Rattle.license_notice.specs.Rows.{Band}
 use Rattle.license_notice.specs.Notices.{bands_of}
 use Rattle.notice_forms.specs.declared.pages.LicenseText.{LicenseText}
 use Rattle.notice_forms.specs.declared.pages.Page.{Page}

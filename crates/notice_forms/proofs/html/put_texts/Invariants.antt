@@ -1,5 +1,4 @@
 use Rattle.std.proofs.Common.{◌≡◌, ◌++◌, map, take}
-use Rattle.license_notice.specs.Notices.{band_of}
 use Rattle.notice_forms.specs.Told.{named}
 use Rattle.notice_forms.specs.Numbered.{numbered}
 use Rattle.notice_forms.specs.Markup.{html_text}

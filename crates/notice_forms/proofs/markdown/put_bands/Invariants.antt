@@ -1,6 +1,5 @@
 use Rattle.std.proofs.Common.{◌≡◌, ◌++◌, map, take, flat_map}
-use Rattle.license_notice.specs.Notices.{line_of, band_of}
-use Rattle.notice_forms.specs.Told.{named}
+use Rattle.license_notice.specs.Notices.{band_of}
 use Rattle.notice_forms.specs.Markdown.{markdown_band}
 use Rattle.notice_forms.proofs.markdown.put_bands.Given as goal
 

@@ -1,5 +1,4 @@
 use Rattle.std.proofs.Common.{◌≡◌, ◌++◌, map, take, flat_map}
-use Rattle.license_notice.specs.Notices.{line_of, band_of}
 use Rattle.notice_forms.specs.Told.{named}
 use Rattle.notice_forms.specs.Markdown.{markdown_text}
 use Rattle.notice_forms.proofs.markdown.put_texts.Given as goal

@@ -1,5 +1,4 @@
 use Rattle.std.proofs.Common.{◌≡◌, ◌++◌, map, take, flat_map}
-use Rattle.license_notice.specs.Notices.{line_of, band_of}
 use Rattle.notice_forms.specs.Told.{named}
 use Rattle.notice_forms.specs.Plain.{plain_text}
 use Rattle.notice_forms.proofs.plain.put_texts.Given as goal

@@ -1,0 +1,230 @@
+-- What is shown of pieces of a page, one behind the other.
+use Rattle.std.proofs.Common.{◌≡◌, ◌≢◌, ℕ, zero, suc, ◌+◌, ◌<◌, ◌≤◌, ◌%◌, ◌/◌, List, [], ◌∷◌, ◌++◌, Bool, true, false, cond, eqb, Some, length, flat_map, chars, codes, refl, sym, ap, ◌∙◌, subst, append_assoc, append-nil, arith}
+use Rattle.std.proofs.lemmas.Bool.Decides.{nat_tests}
+use Rattle.std.specs.Prelude.{not}
+use Rattle.std.specs.Fmt.{decimal, digits, digits_onto, digit_glyph}
+use Rattle.html_text.specs.Text.{HasNoMarkup, is_mark, page_char, page_text, read_from, shown_char, shown_text}
+use Rattle.html_text.proofs.Laws.{IsPlain, ArePlain, no_markup, plain_no_markup, plain_read, char_read}
+use Rattle.license_notice.specs.Rows.{Line, Band}
+use Rattle.notice_forms.specs.declared.style.TheConstants.{HTML_HEAD, HTML_STYLE}
+use Rattle.notice_forms.specs.Told.{Named, Told, package_count}
+use Rattle.notice_forms.specs.Numbered.{numbered}
+use Rattle.notice_forms.specs.Markup.{html_line, html_entry, html_text_entry, html_band, html_text}
+use Rattle.notice_forms.specs.Html.{html_front, html_contents}
+use Rattle.notice_forms.specs.Seen.{untagged, said_line, said_entry, said_text_entry, said_band, said_text, said_contents, said_page, html_body, IsShown}
+
+-- ---- pieces
+
+-- a piece that begins in a tag or outside, as s says, and ends so, as t says, shows this text
+record Shows (s : Bool) (page : List ℕ) (t : Bool) (text : List ℕ) : Type 0 where
+  pub go : (rest out : List ℕ) → read_from 0 (untagged t rest) ≡ Some out → read_from 0 (untagged s (page ++ rest)) ≡ Some (text ++ out)
+
+then : {s t u : Bool} {a b x y : List ℕ} → Shows s a t x → Shows t b u y → Shows s (a ++ b) u (x ++ y)
+then {s = s} {a = a} {b = b} {x = x} {y = y} h k = record {
+  go = λ rest out e.
+      ap (λ (bs : List ℕ). read_from 0 (untagged s bs)) (append_assoc a b rest) ∙ h.go (b ++ rest) (y ++ out) (k.go rest out e) ∙ ap (λ (ts : List ℕ). Some ts) (sym (append_assoc x y out));
+}
+
+-- ---- texts
+
+no_begin : (b : ℕ) → b ≢ 60 → eqb b 60 ≡ false
+no_begin b = grind (arith, nat_tests)
+
+no_end : (b : ℕ) → b ≢ 62 → eqb b 62 ≡ false
+no_end b = grind (arith, nat_tests)
+
+outside : (xs rest : List ℕ) → HasNoMarkup xs → untagged false (xs ++ rest) ≡ xs ++ untagged false rest
+outside [] rest h = refl
+outside (x ∷ xs) rest h = rw (no_begin x h.0.0) (ap (λ (bs : List ℕ). x ∷ bs) (outside xs rest h.1))
+
+inside : (xs rest : List ℕ) → HasNoMarkup xs → untagged true (xs ++ rest) ≡ untagged true rest
+inside [] rest h = refl
+inside (x ∷ xs) rest h = ap (λ (b : Bool). untagged (not b) (xs ++ rest)) (no_end x h.0.1) ∙ inside xs rest h.1
+
+chars_shown : (cs rest out : List ℕ) → read_from 0 rest ≡ Some out → read_from 0 (flat_map page_char cs ++ rest) ≡ Some (flat_map shown_char cs ++ out)
+chars_shown [] rest out e = e
+chars_shown (c ∷ cs) rest out e =
+    ap (read_from 0) (append_assoc (page_char c) (flat_map page_char cs) rest)
+    ∙ char_read c (flat_map page_char cs ++ rest) (flat_map shown_char cs ++ out) (chars_shown cs rest out e)
+    ∙ ap (λ (ts : List ℕ). Some ts) (sym (append_assoc (shown_char c) (flat_map shown_char cs) out))
+
+text : (x : List ℕ) → Shows false (page_text x) false (shown_text x)
+text x = record {
+  go = λ rest out e. ap (read_from 0) (outside (page_text x) rest (no_markup x)) ∙ chars_shown (chars x) (untagged false rest) out e;
+}
+
+plain : (xs : List ℕ) → ArePlain xs → Shows false xs false xs
+plain xs h = record {
+  go = λ rest out e. ap (read_from 0) (outside xs rest (plain_no_markup xs h)) ∙ plain_read xs (untagged false rest) out h e;
+}
+
+-- ---- numbers
+
+digit_entity : (b : ℕ) → 48 ≤ b → b < 58 → eqb b 38 ≡ false
+digit_entity b = grind (arith, nat_tests)
+
+digit_mark : (b : ℕ) → 48 ≤ b → b < 58 → is_mark b ≡ false
+digit_mark b = grind (arith, nat_tests)
+
+glyph : (d : ℕ) → d < 10 → digit_glyph false d ≡ 48 + d
+glyph d = grind (arith, nat_tests)
+
+plain-glyph : (d : ℕ) → d < 10 → IsPlain (digit_glyph false d)
+plain-glyph d h = subst IsPlain (sym (glyph d h)) (record { no_entity = digit_entity (48 + d) (omega arith) (omega arith); no_mark = digit_mark (48 + d) (omega arith) (omega arith) })
+
+either : (b : Bool) (xs ys : List ℕ) → ArePlain xs → ArePlain ys → ArePlain (cond b xs ys)
+either true xs ys h k = h
+either false xs ys h k = k
+
+plain-digits : (k n : ℕ) (acc : List ℕ) → ArePlain acc → ArePlain (digits_onto k 10 false n acc)
+plain-digits zero n acc h = h
+plain-digits (suc k) n acc h =
+    let last = plain-glyph (n % 10) (omega arith) in
+    either (eqb (n / 10) 0) _ _ (last, h) (plain-digits k (n / 10) _ (last, h))
+
+plain-decimal : (n : ℕ) → ArePlain (decimal n)
+unfolding digits
+plain-decimal n = plain-digits 64 n [] tt
+
+number : (n : ℕ) → Shows true (decimal n) true []
+number n = record { go = λ rest out e. ap (read_from 0) (inside (decimal n) rest (plain_no_markup (decimal n) (plain-decimal n))) ∙ e }
+
+letter : (b : ℕ) → eqb b 38 ≡ false → is_mark b ≡ false → IsPlain b
+letter b h k = record { no_entity = h; no_mark = k }
+
+one_package : Shows false (codes " package") false (codes " package")
+one_package = plain (codes " package") (letter _ refl refl, (letter _ refl refl, (letter _ refl refl, (letter _ refl refl, (letter _ refl refl, (letter _ refl refl, (letter _ refl refl, (letter _ refl refl, tt))))))))
+
+ending : (b : Bool) → ArePlain (cond b [] (codes "s"))
+ending true = tt
+ending false = (letter _ refl refl, tt)
+
+count : (n : ℕ) → Shows false (package_count n) false (package_count n)
+unfolding package_count
+count n = then (plain (decimal n) (plain-decimal n)) (then one_package (plain _ (ending (eqb n 1))))
+
+-- ---- entries
+
+nothing : Shows false [] false []
+nothing = record { go = λ rest out e. e }
+
+many : {A : Type 0} (f g : A → List ℕ) → ((x : A) → Shows false (f x) false (g x)) → (xs : List A) → Shows false (flat_map f xs) false (flat_map g xs)
+many f g h [] = nothing
+many f g h (x ∷ xs) = then (h x) (many f g h xs)
+
+many_numbered : {A : Type 0} (f : ℕ → A → List ℕ) (g : A → List ℕ) → ((n : ℕ) (x : A) → Shows false (f n x) false (g x)) → (n : ℕ) (xs : List A) → Shows false (numbered f n xs) false (flat_map g xs)
+many_numbered f g h n [] = nothing
+many_numbered f g h n (x ∷ xs) = then (h n x) (many_numbered f g h (n + 1) xs)
+
+-- mark-up by the tags that it has, and what it shows
+
+item : Shows false (codes "<li>") false []
+item = record { go = λ rest out e. e }
+
+version : Shows false (codes " <span>") false (32 ∷ [])
+version = record { go = λ rest out e. rw e refl }
+
+item_end : Shows false (codes "</span></li>\n") false (10 ∷ [])
+item_end = record { go = λ rest out e. rw e refl }
+
+line : (l : Line) → Shows false (html_line l) false (said_line l)
+unfolding html_line
+line l = then item (then (text l.name) (then version (then (text l.version) item_end)))
+
+link : Shows false (codes "<li><a href=\"#l") true []
+link = record { go = λ rest out e. e }
+
+text_link : Shows false (codes "<li><a href=\"#t") true []
+text_link = record { go = λ rest out e. e }
+
+tag_end : Shows true (codes "\">") false []
+tag_end = record { go = λ rest out e. e }
+
+link_end : Shows false (codes "</a> <span>") false (32 ∷ [])
+link_end = record { go = λ rest out e. rw e refl }
+
+text_link_end : Shows false (codes "</a></li>\n") false (10 ∷ [])
+text_link_end = record { go = λ rest out e. rw e refl }
+
+entry : (n : ℕ) (b : Band) → Shows false (html_entry n b) false (said_entry b)
+unfolding html_entry
+entry n b = then link (then (number n) (then tag_end (then (text b.requirement) (then link_end (then (count (length b.lines)) item_end)))))
+
+text_entry : (n : ℕ) (t : Named) → Shows false (html_text_entry n t) false (said_text_entry t)
+unfolding html_text_entry
+text_entry n t = then text_link (then (number n) (then tag_end (then (text t.name) text_link_end)))
+
+section : Shows false (codes "<section id=\"l") true []
+section = record { go = λ rest out e. e }
+
+heading : Shows true (codes "\">\n<h3>") false (10 ∷ [])
+heading = record { go = λ rest out e. rw e refl }
+
+list : Shows false (codes "</h3>\n<ul>\n") false (codes "\n\n")
+list = record { go = λ rest out e. rw e refl }
+
+section_end : Shows false (codes "</ul>\n</section>\n") false (codes "\n\n")
+section_end = record { go = λ rest out e. rw e refl }
+
+band : (n : ℕ) (b : Band) → Shows false (html_band n b) false (said_band b)
+unfolding html_band
+band n b = then section (then (number n) (then heading (then (text b.requirement) (then list (then (many html_line said_line line b.lines) section_end)))))
+
+summary : Shows false (codes "<details><summary>") false []
+summary = record { go = λ rest out e. e }
+
+summary_end : Shows false (codes "</summary>\n<pre id=\"t") true (10 ∷ [])
+summary_end = record { go = λ rest out e. rw e refl }
+
+folded : Shows true (codes "\">\n") false (10 ∷ [])
+folded = record { go = λ rest out e. rw e refl }
+
+folded_end : Shows false (codes "</pre>\n</details>\n") false (codes "\n\n")
+folded_end = record { go = λ rest out e. rw e refl }
+
+text_below : (n : ℕ) (t : Named) → Shows false (html_text n t) false (said_text t)
+unfolding html_text
+text_below n t = then summary (then (text t.name) (then summary_end (then (number n) (then folded (then (text t.bytes) folded_end)))))
+
+-- ---- the page
+
+licences : Shows false (codes "<nav>\n<h2>Licences</h2>\n<ol>\n") false (codes "\nLicences\n\n")
+licences = record { go = λ rest out e. rw e refl }
+
+texts : Shows false (codes "</ol>\n<h2>Licence texts</h2>\n<ol>\n") false (codes "\nLicence texts\n\n")
+texts = record { go = λ rest out e. rw e refl }
+
+contents_end : Shows false (codes "</ol>\n</nav>\n") false (codes "\n\n")
+contents_end = record { go = λ rest out e. rw e refl }
+
+contents : (p : Told) → Shows false (html_contents p.bands p.texts) false (said_contents p)
+unfolding html_contents
+contents p =
+    then licences (then (many_numbered html_entry said_entry entry 0 p.bands) (then texts (then (many_numbered html_text_entry said_text_entry text_entry 0 p.texts) contents_end)))
+
+title_end : Shows false (codes "</h1>\n") false (10 ∷ [])
+title_end = record { go = λ rest out e. rw e refl }
+
+packages : Shows false (codes "<main>\n<h2>Packages by licence</h2>\n") false (codes "\nPackages by licence\n")
+packages = record { go = λ rest out e. rw e refl }
+
+texts_below : Shows false (codes "<h2>Licence texts</h2>\n") false (codes "Licence texts\n")
+texts_below = record { go = λ rest out e. rw e refl }
+
+page_end : Shows false (codes "</main>\n</body>\n</html>\n") false (codes "\n\n\n")
+page_end = record { go = λ rest out e. rw e refl }
+
+body : (p : Told) → Shows false (html_body p) false (said_page p)
+body p =
+    then (text p.title) (then title_end (then (contents p) (then packages (then (many_numbered html_band said_band band 0 p.bands)
+    (then texts_below (then (many_numbered html_text said_text text_below 0 p.texts) page_end))))))
+
+regroup : (h t s c r : List ℕ) → (h ++ (t ++ (s ++ (t ++ c)))) ++ r ≡ (h ++ (t ++ s)) ++ (t ++ (c ++ r))
+regroup h t s c r = simp append_assoc
+
+pub is_shown : (p : Told) → IsShown p
+unfolding html_front
+is_shown p = record {
+  cut = regroup HTML_HEAD.now (page_text p.title) HTML_STYLE.now (codes "</h1>\n") _;
+  says = ap (λ (bs : List ℕ). read_from 0 (untagged false bs)) (sym (append-nil (html_body p))) ∙ (body p).go [] [] refl ∙ ap (λ (ts : List ℕ). Some ts) (append-nil (said_page p));
+}

@@ -1,0 +1,12 @@
+use Rattle.notice_forms.specs.Told.{told}
+use Rattle.notice_forms.proofs.Seeing.{is_shown}
+use Rattle.notice_forms.proofs.put_page.Goals as goal
+
+pub returns-in_err-whole-clause-shown : goal.returns-in_err-whole-clause-shown
+returns-in_err-whole-clause-shown c = is_shown (told c.args.shown.now)
+
+pub returns-in_err-extend_from_slice-clause-shown : goal.returns-in_err-extend_from_slice-clause-shown
+returns-in_err-extend_from_slice-clause-shown c = is_shown (told c.args.shown.now)
+
+pub returns-clause-shown : goal.returns-clause-shown
+returns-clause-shown c = is_shown (told c.args.shown.now)
