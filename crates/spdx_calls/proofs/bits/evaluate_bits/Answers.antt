@@ -15,7 +15,8 @@ pub returns-in-Ok-clause-ok : goal.returns-in-Ok-clause-ok
 returns-in-Ok-clause-ok c =
     let e = c.in_ok-expression.expression in
     let wanted = counted-leaves e c.requirements.result c.count-wanted.result c.count-wanted.ensures.ran c.requirements.ensures.requirements c.requirements.ensures.places in
-    let as_many : c.args.count ≡ length (leaves e.tree) = c.if-count-wanted.false ∙ wanted in
+    let same : c.args.count ≡ c.count-wanted.result = search rules in
+    let as_many = same ∙ wanted in
     let fits : length (leaves e.tree) < 2 ^ 64 = omega arith in
     let truth =
     truth_by_bits _ e.tree c.in-Ok.truth _ c.in-Ok.ensures.ok c.args.bits.now (λ f. f.0.now ≡ c.args.bits.now) (λ f. f.1.now)
