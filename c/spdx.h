@@ -63,8 +63,8 @@ typedef struct {
     size_t length;
 } spdx_buffer;
 
-/* `list`, of every call: the list of licences, as JSON in the form of `spdx list make` (share/spdx/spdx.json). It is read
- * again in each call, which takes a millisecond or two; for many texts, spdx_lines reads it once. */
+/* `list`, of every call: the list of licences, as JSON in the form of `spdx list make` (share/spdx/spdx.json). It is
+ * read again in each call, which takes half a millisecond or more; for many texts, spdx_lines reads it once. */
 
 /* Whether the text is an expression. */
 spdx_report spdx_check(spdx_text list, uint32_t mode, spdx_text text);

@@ -8,7 +8,8 @@
     licences.lines(["MIT", "Apache2"], ["MIT"])             # a verdict for each, in one call
 
 Texts are str or bytes; places are in bytes of UTF-8. Nothing is shared between calls, so threads may call at once, and
-Python's lock is free meanwhile. Every call reads the list again, a millisecond or two; `lines` reads it once for all.
+Python's lock is free meanwhile. Every call reads the list again, half a millisecond or more; `lines` reads it once for
+all.
 """
 
 from __future__ import annotations
