@@ -1,14 +1,11 @@
 -- What the exports answer.
-use Rattle.std.specs.Prelude.{◌≡◌, ◌⊎◌, ℕ, Bool, List, Option, Some, Result, Ok, MatchResult}
+use Rattle.std.specs.Prelude.{◌≡◌, ◌⊎◌, ℕ, List, Option, Some, Result, Ok, MatchResult}
 use Rattle.spdx_requirement.specs.Rows.{Rows}
 use Rattle.spdx_catalogue.specs.Reading.{catalogue_in}
-use Rattle.spdx_lexer.specs.declared.token.ParseMode.{ParseMode}
 use Rattle.spdx_lexer.specs.Faults.{description_text}
 use Rattle.spdx_lexer.specs.Words.{Fault}
-use Rattle.spdx_lines.specs.declared.lines.LineMode.{LineMode}
 use Rattle.spdx_calls.specs.declared.buffer.Put.{Put}
 use Rattle.spdx_calls.specs.declared.fault.CallFault.{CallFault}
-use Rattle.spdx_calls.specs.declared.texts.Answered.{Answered}
 use Rattle.spdx_calls.specs.Buffer.{IsPut}
 use Rattle.spdx_calls.specs.Reasons.{number_of}
 use Rattle.spdx_calls.specs.Faults.{IsTextFault, IsCanonicalFault, IsFixFault, IsLinesFault}
