@@ -16,20 +16,15 @@ use spdx_catalogue::{Catalogue, LicenseId};
 // A token, and how many bytes it takes.
 pub(crate) type Found<'c, 't> = Option<(Token<'c, 't>, usize)>;
 
-// The bytes of an operator are compared once the length fits.
 fn operator<'c, 't>(run: &str) -> Option<Token<'c, 't>>
     ensures { option_map word_of result ≡ spec.operator run.now }
 {
-    if run == "AND" || run == "and" {
-        return Some(Token::And);
+    match run.as_bytes() {
+        b"AND" | b"and" => Some(Token::And),
+        b"OR" | b"or" => Some(Token::Or),
+        b"WITH" | b"with" => Some(Token::With),
+        _ => None,
     }
-    if run == "OR" || run == "or" {
-        return Some(Token::Or);
-    }
-    if run == "WITH" || run == "with" {
-        return Some(Token::With);
-    }
-    None
 }
 
 // The licence of that name. A run has no `+` that the look-up would take off.
