@@ -7,3 +7,5 @@ pub mod Joined
 pub mod Caseless
 pub mod Listed
 pub mod Ordered
+pub mod Keys
+pub mod Relevant

@@ -7,7 +7,7 @@ use Rattle.std.specs.declared.cmp.Ordering.TheVariants.{Equal}
 use Rattle.std.specs.Cmp.Lexicographic.{slice_cmp}
 use Rattle.std.proofs.lemmas.Cmp.{nat_list_cmp_total, ranked, by_ranked, tied_itself}
 use Rattle.std.proofs.lemmas.Option.{slice_get_within, get_or_from_slice_get}
-use Rattle.spdx_requirement.specs.Rows.{Rows, LicenseRow, ExceptionRow, license_name, exception_name}
+use Rattle.spdx_requirement.specs.Rows.{LicenseRow, ExceptionRow, license_name, exception_name}
 use Rattle.spdx_catalogue.specs.Ascent.{Ascends}
 use Rattle.spdx_catalogue.specs.NameOrders.{IsLicenseNameOrder, IsExceptionNameOrder}
 use Rattle.spdx_catalogue.proofs.Sorted.{far}

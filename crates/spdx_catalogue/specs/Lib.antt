@@ -6,3 +6,4 @@ pub mod CatalogueModel
 pub mod Faults
 pub mod Reading
 pub mod NameOrders
+pub mod Index

@@ -10,6 +10,7 @@ ghost use Rattle.spdx_requirement.specs.Failures.{IfRefused};
 
 use crate::checks::first_fault;
 use crate::error::{CatalogueError, ReadFault};
+use crate::index::{Index, index_of};
 use spdx_requirement::failure::Failure;
 use spdx_requirement::row::{Exception, ImpreciseName, License};
 use spdx_tables::{TableFault, Tables};
@@ -25,6 +26,9 @@ pub struct Catalogue {
     pub(crate) licenses: Vec<License>,
     pub(crate) exceptions: Vec<Exception>,
     pub(crate) imprecise: Vec<ImpreciseName>,
+    pub(crate) license_index: Option<Index>,
+    pub(crate) exception_index: Option<Index>,
+    pub(crate) prefix_index: Option<Index>,
 }
 
 impl Model for Catalogue {
@@ -40,7 +44,8 @@ impl Model for Catalogue {
 }
 
 impl Catalogue {
-    /// The catalogue of these rows. Takes no memory.
+    /// The catalogue of these rows. Of each row it notes eight bytes, by which the look-ups find
+    /// it; where memory for them is refused, they go over the rows.
     ///
     /// # Errors
     ///
@@ -68,12 +73,21 @@ impl Catalogue {
     {
         match first_fault(version.as_str(), &licenses, &exceptions, &imprecise) {
             Some(fault) => Err(fault),
-            None => Ok(Catalogue {
-                version,
-                licenses,
-                exceptions,
-                imprecise,
-            }),
+            None => {
+                let alloc = *licenses.allocator();
+                let license_index = index_of(alloc, &licenses);
+                let exception_index = index_of(alloc, &exceptions);
+                let prefix_index = index_of(alloc, &imprecise);
+                Ok(Catalogue {
+                    version,
+                    licenses,
+                    exceptions,
+                    imprecise,
+                    license_index,
+                    exception_index,
+                    prefix_index,
+                })
+            }
         }
     }
 

@@ -1,10 +1,9 @@
 // Rows by name: those whose names ascend are searched by halving.
 
-ghost use Rattle.std.specs.Prelude.{◌≡◌, ◌++◌, ◌<◌, option_map, slice_get, map, find};
+ghost use Rattle.std.specs.Prelude.{◌≡◌, ◌++◌, ◌<◌, option_map, slice_get, map};
 ghost use Rattle.std.specs.Option.{option_copied};
-ghost use Rattle.std.specs.Str.{str_eq_ignore_ascii_case};
 ghost use Rattle.spdx_catalogue.specs.Ascent.{Ascends};
-ghost use Rattle.spdx_catalogue.specs.LookUps.{named, named_caseless};
+ghost use Rattle.spdx_catalogue.specs.LookUps.{named};
 
 use crate::names::compare_joined;
 use crate::row::Row;
@@ -37,21 +36,4 @@ pub(crate) fn joined<'c, R: Row>(rows: &'c [R], front: &[u8], ending: &[u8]) -> 
         Ok(at) => row_at(rows, at),
         Err(_) => None,
     }
-}
-
-// The first row whose own name it is, the case of ASCII letters aside.
-fn own_alike<'c, R: Row>(rows: &'c [R], name: &str) -> Option<&'c R>
-    ensures { option_copied result
-        ≡ find (λ r. str_eq_ignore_ascii_case (R.name_of (R.shown r)) name.now) rows.now }
-{
-    rows.iter()
-        .find(|row| row.name().eq_ignore_ascii_case(name))
-}
-
-/// The first row whose name it is, the case of ASCII letters aside.
-pub(crate) fn alike<'c, R: Row>(rows: &'c [R], name: &str) -> Option<&'c R>
-    ensures { option_map R.shown (option_copied result)
-        ≡ named_caseless R.name_of (map R.shown rows.now) name.now }
-{
-    own_alike(rows, name)
 }

@@ -5,6 +5,7 @@ pub mod catalogue;
 mod checks;
 pub mod error;
 mod halving;
+mod index;
 mod look_up;
 pub mod names;
 pub mod order;

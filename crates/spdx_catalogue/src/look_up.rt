@@ -1,33 +1,25 @@
 // The look-ups, none of which takes memory or copies a name.
 
-ghost use Rattle.std.specs.Prelude.{◌≡◌, ◌<◌, ◌++◌, IsTrue, IfSome, IsCharBoundary, option_map, map, length, find, string_bytes};
+ghost use Rattle.std.specs.Prelude.{◌≡◌, ◌<◌, ◌++◌, IsTrue, IfSome, IsCharBoundary, option_map, map, length, string_bytes};
 ghost use Rattle.std.specs.Option.{option_copied};
 ghost use Rattle.spdx_requirement.specs.Rows.{row_of, exception_of, imprecise_of};
 ghost use Rattle.spdx_requirement.specs.Ids.{id_row, exception_row};
-ghost use Rattle.spdx_catalogue.specs.Names.{without_plus, begins_caseless};
-ghost use Rattle.spdx_requirement.specs.declared.row.ImpreciseName.{ImpreciseName};
+ghost use Rattle.spdx_catalogue.specs.Names.{without_plus};
 ghost use Rattle.spdx_catalogue.specs.LookUps.{listed, listed_exception, listed_caseless, listed_exception_caseless, imprecise_row, imprecise_license, gnu_listed};
 
 use crate::catalogue::Catalogue;
-use crate::halving::{alike, joined, named};
-use crate::names::{begins_caseless, without_plus};
+use crate::halving::joined;
+use crate::index::{Sought, first};
+use crate::names::without_plus;
 use spdx_requirement::endings::{ending, has_suffix};
 use spdx_requirement::id::{ExceptionId, LicenseId};
 use spdx_requirement::row::{Exception, ImpreciseName, License};
-
-fn imprecise_front<'c>(rows: &'c [ImpreciseName], text: &str) -> Option<&'c ImpreciseName>
-    ensures { option_copied result
-        ≡ find (λ (r : ImpreciseName). begins_caseless (string_bytes r.prefix) text.now) rows.now }
-{
-    rows.iter()
-        .find(|row| begins_caseless(row.prefix.as_str(), text))
-}
 
 impl Catalogue {
     fn license_named(&self, name: &[u8]) -> Option<&License>
         ensures { option_map row_of (option_copied result) ≡ listed self.now.licenses name.now }
     {
-        named(&self.licenses, name)
+        first(&self.licenses, &self.license_index, Sought::Named(name))
     }
 
     fn license_joined(&self, front: &[u8], ending: &[u8]) -> Option<&License>
@@ -41,21 +33,21 @@ impl Catalogue {
         ensures { option_map exception_of (option_copied result)
             ≡ listed_exception self.now.exceptions name.now }
     {
-        named(&self.exceptions, name)
+        first(&self.exceptions, &self.exception_index, Sought::Named(name))
     }
 
     fn license_caseless(&self, name: &str) -> Option<&License>
         ensures { option_map row_of (option_copied result)
             ≡ listed_caseless self.now.licenses name.now }
     {
-        alike(&self.licenses, name)
+        first(&self.licenses, &self.license_index, Sought::Alike(name))
     }
 
     fn exception_caseless(&self, name: &str) -> Option<&Exception>
         ensures { option_map exception_of (option_copied result)
             ≡ listed_exception_caseless self.now.exceptions name.now }
     {
-        alike(&self.exceptions, name)
+        first(&self.exceptions, &self.exception_index, Sought::Alike(name))
     }
 
     fn imprecise_name(&self, text: &str) -> Option<&ImpreciseName>
@@ -63,7 +55,7 @@ impl Catalogue {
             ≡ imprecise_row self.now.imprecise text.now }
         ensures taken { IfSome result (λ m. 0 < length (string_bytes m.now.prefix)) }
     {
-        imprecise_front(&self.imprecise, text)
+        first(&self.imprecise, &self.prefix_index, Sought::Front(text))
     }
 
     /// The licence of that name, every `+` at the name's end taken off.
@@ -97,8 +89,8 @@ impl Catalogue {
     }
 
     /// The licence that the first imprecise name means with which the text begins, the case of
-    /// ASCII letters aside, and how many bytes of the text that name takes. A walk over the
-    /// imprecise names, since the first counts.
+    /// ASCII letters aside, and how many bytes of the text that name takes. Only the imprecise names
+    /// with the same first three bytes are compared; all of them, where one is shorter.
     pub fn imprecise_license_id(&self, text: &str) -> Option<(LicenseId<'_>, usize)>
         ensures value { option_map (λ f. (id_row f.0, f.1)) result
             ≡ imprecise_license self.now text.now }
@@ -111,7 +103,6 @@ impl Catalogue {
     }
 
     /// The first licence whose name it is, the case of ASCII letters aside; nothing is taken off.
-    /// A walk over the licences.
     pub fn license_id_caseless(&self, name: &str) -> Option<LicenseId<'_>>
         ensures { option_map id_row result ≡ listed_caseless self.now.licenses name.now }
     {
@@ -119,7 +110,7 @@ impl Catalogue {
     }
 
     /// The first exception whose name it is, the case of ASCII letters aside; nothing is taken
-    /// off. A walk over the exceptions.
+    /// off.
     pub fn exception_id_caseless(&self, name: &str) -> Option<ExceptionId<'_>>
         ensures { option_map exception_row result
             ≡ listed_exception_caseless self.now.exceptions name.now }

@@ -9,4 +9,4 @@ pub joined-requires : goal.joined-requires
 joined-requires c =
     let rows : List License = c.self.inside.licenses.items in
     let same : c.deref.result.now ≡ rows = c.deref.ensures.value in
-    rw same (licenses_ascend (map row_of rows) (licenses_keep (rows_shown c.self.inside) c.self.invariant))
+    rw same (licenses_ascend (map row_of rows) (licenses_keep (rows_shown c.self.inside) c.self.invariant.rules))

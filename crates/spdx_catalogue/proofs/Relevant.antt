@@ -1,0 +1,49 @@
+-- Rows that fit what is looked for have its key.
+use Rattle.std.proofs.Common.{◌≡◌, ℕ, ◌+◌, ◌*◌, ◌%◌, ◌^◌, ◌≤◌, Bool, true, false, cond, List, length, take, map, Some, None, refl, sym, ◌∙◌, ap, arith, nat_lt}
+use Rattle.std.specs.Borrow.{Bor}
+use Rattle.std.specs.List.{fold}
+use Rattle.std.specs.Char.{to_ascii_lowercase}
+use Rattle.std.proofs.lemmas.List.{take-take, take-map}
+use Rattle.std.proofs.lemmas.List.Folds.{fold-map}
+use Rattle.std.proofs.lemmas.Bool.Decides.{nat_tests}
+use Rattle.spdx_catalogue.specs.Index.{key_of, whole_front, IsRelevant}
+use Rattle.spdx_catalogue.specs.declared.index.Sought.TheVariants.{Named, Alike, Front}
+use Rattle.spdx_catalogue.proofs.Caseless.{bytes_same}
+
+abbrev lowered_key : ℕ → ℕ → ℕ
+lowered_key key b = ((key + b) % 2 ^ 32 * 16777619) % 2 ^ 32
+
+-- the case of ASCII letters does not count in a key
+key_lowered : (bytes : List ℕ) → fold lowered_key 0 (map to_ascii_lowercase bytes) ≡ key_of bytes
+key_lowered bytes = fold-map lowered_key to_ascii_lowercase 0 bytes
+
+alike_keys : (xs ys : List ℕ) → map to_ascii_lowercase xs ≡ map to_ascii_lowercase ys → key_of xs ≡ key_of ys
+alike_keys xs ys e = sym (key_lowered xs) ∙ ap (fold lowered_key 0) e ∙ key_lowered ys
+
+module _ {A : Type 0} (text : A → List ℕ) where
+  pub named_relevant : (name : Bor (List ℕ)) → IsRelevant (λ r. Some (text r)) text (Named name)
+  named_relevant name r bytes fit e =
+      let same : text r ≡ bytes = cc in
+      ap key_of (sym same ∙ bytes_same (text r) name.now fit)
+
+  pub alike_relevant : (name : Bor (List ℕ)) → IsRelevant (λ r. Some (text r)) text (Alike name)
+  alike_relevant name r bytes fit e =
+      let same : text r ≡ bytes = cc in
+      ap key_of (sym same) ∙ alike_keys (text r) name.now (bytes_same (map to_ascii_lowercase (text r)) (map to_ascii_lowercase name.now) fit)
+
+  whole : (prefix bytes : List ℕ) → whole_front prefix ≡ Some bytes → (3 ≤ length prefix) × (take 3 prefix ≡ bytes)
+  whole prefix bytes e = pick (nat_lt (length prefix) 3) refl e
+    where
+      pick : (b : Bool) → nat_lt (length prefix) 3 ≡ b → cond b None (Some (take 3 prefix)) ≡ Some bytes → (3 ≤ length prefix) × (take 3 prefix ≡ bytes)
+      pick true t g = absurd cc
+      pick false t g = (grind (arith, nat_tests), cc)
+
+  pub front_relevant : (begun : Bor (List ℕ)) → IsRelevant (λ r. whole_front (text r)) text (Front begun)
+  front_relevant begun r bytes fit e =
+      let prefix = text r in
+      let front = whole prefix bytes e in
+      let f = to_ascii_lowercase in
+      let same : map f prefix ≡ map f (take (length prefix) begun.now) = bytes_same (map f prefix) (map f (take (length prefix) begun.now)) fit in
+      let cut : take 3 (take (length prefix) begun.now) ≡ take 3 begun.now = take-take 3 (length prefix) begun.now front.0 in
+      let lowered : map f (take 3 prefix) ≡ map f (take 3 begun.now) = sym (take-map f 3 prefix) ∙ ap (take 3) same ∙ take-map f 3 (take (length prefix) begun.now) ∙ ap (map f) cut in
+      ap key_of (sym front.1) ∙ alike_keys (take 3 prefix) (take 3 begun.now) lowered

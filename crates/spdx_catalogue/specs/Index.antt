@@ -1,0 +1,47 @@
+-- Rows by a key of their names.
+use Rattle.std.specs.Prelude.{◌≡◌, ℕ, ◌+◌, ◌*◌, ◌%◌, ◌<◌, ◌≤◌, ◌^◌, Bool, true, List, length, take, get_or, Option, Some, None, bytes_eq, nat_lt, if◌then◌else◌}
+use Rattle.std.specs.List.{fold, Contains}
+use Rattle.std.specs.List.Sorted.{IsNonDecreasing}
+use Rattle.std.specs.Char.{to_ascii_lowercase}
+use Rattle.std.specs.Str.{str_eq_ignore_ascii_case}
+use Rattle.spdx_catalogue.specs.Names.{begins_caseless}
+use Rattle.spdx_catalogue.specs.declared.index.Sought.{Sought}
+use Rattle.spdx_catalogue.specs.declared.index.Sought.TheVariants.{Named, Alike, Front}
+
+-- a key with one more byte
+abbrev pub mixed : ℕ → ℕ → ℕ
+mixed key b = ((key + to_ascii_lowercase b) % 2 ^ 32 * 16777619) % 2 ^ 32
+
+abbrev pub key_of : List ℕ → ℕ
+key_of bytes = fold mixed 0 bytes
+
+-- the bytes that make a prefix's key: so many of the prefix, which a short one lacks
+abbrev pub whole_front : List ℕ → Option (List ℕ)
+whole_front prefix = if nat_lt (length prefix) 3 then None else Some (take 3 prefix)
+
+-- a key and a place in one number, in whose order rows with one key stand together
+abbrev pub code : ℕ → ℕ → ℕ
+code key place = key * 4294967296 + place
+
+-- the code of each row is among the codes, which rise
+pub record IsIndexOf {A : Type 0} (keyed : A → Option (List ℕ)) (rows : List A) (codes : List ℕ) : Type 0 where
+  pub few : length rows ≤ 4294967296
+  pub rise : IsNonDecreasing codes
+  pub holds : (k : ℕ) (d : A) → k < length rows → (bytes : List ℕ) × (keyed (get_or rows k d) ≡ Some bytes) × Contains codes (code (key_of bytes) k)
+
+-- whether a row of that text is looked for
+abbrev pub fits : Sought → List ℕ → Bool
+fits (Named name) text = bytes_eq text name.now
+fits (Alike name) text = str_eq_ignore_ascii_case text name.now
+fits (Front begun) text = begins_caseless text begun.now
+
+-- the key of what is looked for
+abbrev pub sought_key : Sought → ℕ
+sought_key (Named name) = key_of name.now
+sought_key (Alike name) = key_of name.now
+sought_key (Front begun) = key_of (take 3 begun.now)
+
+-- each row that fits has that key
+abbrev pub IsRelevant : {A : Type 0} → (A → Option (List ℕ)) → (A → List ℕ) → Sought → Type 0
+IsRelevant {A} keyed text sought =
+    (r : A) (bytes : List ℕ) → fits sought (text r) ≡ true → keyed r ≡ Some bytes → key_of bytes ≡ sought_key sought

@@ -1,0 +1,197 @@
+// Rows by a key of their names: of many rows only those with the key of what is looked for are compared.
+
+ghost use Rattle.std.specs.Prelude.{◌≡◌, ℕ, ◌<◌, ◌≤◌, ◌^◌, List, Option, Some, true, IfSome, find, length};
+ghost use Rattle.std.specs.Option.{option_copied};
+ghost use Rattle.std.specs.List.{fold};
+ghost use Rattle.spdx_catalogue.specs.Index as spec;
+ghost use Rattle.spdx_catalogue.specs.CatalogueModel.{IsIndexed};
+ghost use Rattle.spdx_requirement.specs.Rows.{row_of, exception_of, imprecise_of, license_name, exception_name};
+
+use crate::names::begins_caseless;
+use spdx_requirement::row::{Exception, ImpreciseName, License};
+use std::alloc::Global;
+
+// More than a place may be.
+const SPAN: u64 = 4_294_967_296;
+
+// So many bytes of a prefix make its key.
+const FRONT: usize = 3;
+
+/// Of each row a code, made of its key and its place, in order: rows with the same key stand
+/// together there, by place.
+#[derive(Drop)]
+pub(crate) struct Index {
+    codes: Vec<u64>,
+}
+
+/// A row that is found by a text.
+pub(crate) trait Keyed {
+    ghost text_of: { Self → List ℕ };
+
+    ghost keyed_of: { Self → Option (List ℕ) };
+
+    /// The text.
+    fn text(&self) -> &str
+        ensures { result.now ≡ text_of self.now };
+
+    /// The bytes that make the row's key, if it can have one.
+    fn keyed(&self) -> Option<&[u8]>
+        ensures { option_copied result ≡ keyed_of self.now };
+}
+
+impl Keyed for License {
+    ghost text_of = { λ r. license_name (row_of r) };
+
+    ghost keyed_of = { λ r. Some (license_name (row_of r)) };
+
+    fn text(&self) -> &str {
+        self.name.as_str()
+    }
+
+    fn keyed(&self) -> Option<&[u8]> {
+        Some(self.name.as_bytes())
+    }
+}
+
+impl Keyed for Exception {
+    ghost text_of = { λ r. exception_name (exception_of r) };
+
+    ghost keyed_of = { λ r. Some (exception_name (exception_of r)) };
+
+    fn text(&self) -> &str {
+        self.name.as_str()
+    }
+
+    fn keyed(&self) -> Option<&[u8]> {
+        Some(self.name.as_bytes())
+    }
+}
+
+impl Keyed for ImpreciseName {
+    ghost text_of = { λ r. (imprecise_of r).prefix };
+
+    ghost keyed_of = { λ r. spec.whole_front (imprecise_of r).prefix };
+
+    fn text(&self) -> &str {
+        self.prefix.as_str()
+    }
+
+    fn keyed(&self) -> Option<&[u8]> {
+        self.prefix.as_bytes().get(..FRONT)
+    }
+}
+
+/// What is looked for.
+#[derive(Clone, Copy)]
+pub(crate) enum Sought<'t> {
+    /// A name.
+    Named(&'t [u8]),
+    /// A name, the case of ASCII letters aside.
+    Alike(&'t str),
+    /// A prefix with which the text begins, the case of ASCII letters aside.
+    Front(&'t str),
+}
+
+fn mixed(key: u32, b: u8) -> u32
+    ensures { result ≡ spec.mixed key b }
+{
+    key.wrapping_add(u32::from(b.to_ascii_lowercase()))
+        .wrapping_mul(16_777_619)
+}
+
+// The same for bytes that differ in the case of ASCII letters alone.
+fn key_of(bytes: &[u8]) -> u32
+    ensures { result ≡ spec.key_of bytes.now }
+{
+    let mut key = 0;
+    for b in bytes {
+        key = mixed(key, *b);
+    }
+    key
+}
+
+fn code(key: u32, place: usize) -> u64
+    requires { place < 2 ^ 32 }
+    ensures { result ≡ spec.code key place }
+{
+    u64::from(key) * SPAN + place as u64
+}
+
+/// The index of the rows. There is none where memory is refused, nor where a row has no key.
+pub(crate) fn index_of<R: Keyed>(alloc: Global, rows: &[R]) -> Option<Index>
+    ensures { IfSome result (λ i. spec.IsIndexOf R.keyed_of rows.now i.codes.items) }
+{
+    if rows.len() as u64 > SPAN {
+        return None;
+    }
+    let mut codes = Vec::with_capacity(alloc, rows.len()).ok()?;
+    for (place, row) in rows.iter().enumerate() {
+        codes.push(code(key_of(row.keyed()?), place)).ok()?;
+    }
+    codes.sort_unstable();
+    Some(Index { codes })
+}
+
+impl Sought<'_> {
+    fn key(self) -> u32
+        ensures { result ≡ spec.sought_key self.entry }
+    {
+        match self {
+            Sought::Named(name) => key_of(name),
+            Sought::Alike(name) => key_of(name.as_bytes()),
+            Sought::Front(text) => {
+                let bytes = text.as_bytes();
+                key_of(&bytes[..bytes.len().min(FRONT)])
+            }
+        }
+    }
+
+    fn fits(self, text: &str) -> bool
+        ensures { result ≡ spec.fits self.entry text.now }
+    {
+        match self {
+            Sought::Named(name) => text.as_bytes() == name,
+            Sought::Alike(name) => text.eq_ignore_ascii_case(name),
+            Sought::Front(begun) => begins_caseless(text, begun),
+        }
+    }
+}
+
+// The first row that fits, by the index.
+fn first_indexed<'c, R: Keyed>(rows: &'c [R], index: &Index, sought: Sought<'_>) -> Option<&'c R>
+    requires index { spec.IsIndexOf R.keyed_of rows.now index.now.codes.items }
+    requires relevant { spec.IsRelevant R.keyed_of R.text_of sought }
+    ensures { option_copied result ≡ find (λ r. spec.fits sought.entry (R.text_of r)) rows.now }
+{
+    let key = u64::from(sought.key());
+    let least = key * SPAN;
+    let codes = index.codes.as_slice();
+    let from = codes.partition_point(|code| *code < least);
+    for at in from..codes.len() {
+        if codes[at] / SPAN != key {
+            return None;
+        }
+        if let Some(row) = rows.get((codes[at] % SPAN) as usize)
+            && sought.fits(row.text())
+        {
+            return Some(row);
+        }
+    }
+    None
+}
+
+/// The first row that fits. Where there is no index, a walk over the rows.
+pub(crate) fn first<'c, R: Keyed>(
+    rows: &'c [R],
+    index: &Option<Index>,
+    sought: Sought<'_>,
+) -> Option<&'c R>
+    requires index { IsIndexed R.keyed_of rows.now index.now }
+    requires relevant { spec.IsRelevant R.keyed_of R.text_of sought }
+    ensures { option_copied result ≡ find (λ r. spec.fits sought.entry (R.text_of r)) rows.now }
+{
+    match index {
+        Some(index) => first_indexed(rows, index, sought),
+        None => rows.iter().find(|row| sought.fits(row.text())),
+    }
+}
