@@ -1,5 +1,5 @@
 -- What an index of rows finds is what a walk over the rows finds.
-use Rattle.std.proofs.Common.{◌≡◌, ℕ, zero, suc, ◌+◌, ◌*◌, ◌/◌, ◌%◌, ◌<◌, ◌≤◌, ◌⊎◌, inl, inr, Bool, true, false, List, [], ◌∷◌, ◌++◌, length, get_or, Option, Some, None, find, refl, sym, ◌∙◌, arith, subst, IsSome}
+use Rattle.std.proofs.Common.{◌≡◌, ℕ, zero, suc, ◌+◌, ◌*◌, ◌/◌, ◌%◌, ◌<◌, ◌≤◌, ◌⊎◌, inl, inr, Bool, true, false, List, [], ◌∷◌, ◌++◌, length, get_or, Option, Some, None, find, refl, ◌∙◌, arith, subst, IsSome}
 use Rattle.std.specs.Prelude.{slice_get}
 use Rattle.std.specs.Prelude.{nat_lt}
 use Rattle.std.specs.List.Sorted.{IsPartitionPoint, IsPermutation, IsNonDecreasing}
@@ -71,29 +71,20 @@ module _ {A : Type 0} (p : A → Bool) (keyed : A → Option (List ℕ)) (rows :
       early j l m in_range there (inr behind) = absurd (omega (arith, index.rise n m 0 behind in_range, at, there, l))
 
 -- what halving says of codes that are searched for the least with a key
-pub least_found : (xs codes : List ℕ) (least from : ℕ) → xs ≡ codes → IsPartitionPoint (λ y. nat_lt y least ≡ true) (λ y. nat_lt y least ≡ false) xs from
-    → ((m : ℕ) → m < from → get_or codes m 0 < least) × ((m : ℕ) → from ≤ m → m < length codes → least ≤ get_or codes m 0)
-least_found xs codes least from same split = (λ m lt. subst (λ (ys : List ℕ). get_or ys m 0 < least) same (low m lt), λ m le lt. subst (λ (ys : List ℕ). least ≤ get_or ys m 0) same (high m le (subst (λ (ys : List ℕ). m < length ys) (sym same) lt)))
+pub least_found : (xs codes : List ℕ) (least from : ℕ) → xs ≡ codes → IsPartitionPoint (λ y. nat_lt y least ≡ true) (λ y. nat_lt y least ≡ false) xs from → (m : ℕ) → m < from → get_or codes m 0 < least
+least_found xs codes least from same split m lt = subst (λ (ys : List ℕ). get_or ys m 0 < least) same low
   where
-    low : (m : ℕ) → m < from → get_or xs m 0 < least
-    low m lt = let e = split.0 m 0 (omega arith) lt in grind (arith, nat_tests)
-
-    high : (m : ℕ) → from ≤ m → m < length xs → least ≤ get_or xs m 0
-    high m le lt = let e = split.1 m 0 le lt in grind (arith, nat_tests)
+    low : get_or xs m 0 < least
+    low = let e = split.0 m 0 (omega arith) lt in grind (arith, nat_tests)
 
 pub place_is : (x key k : ℕ) → x ≡ key * 4294967296 + k → k < 4294967296 → x % 4294967296 ≡ k
 place_is x key k e lt = omega arith
 
+pub key_is : (x key k : ℕ) → x ≡ key * 4294967296 + k → k < 4294967296 → x / 4294967296 ≡ key
+key_is x key k e lt = omega arith
+
 pub code_is : (x key : ℕ) → x / 4294967296 ≡ key → x ≡ key * 4294967296 + x % 4294967296
 code_is x key e = omega arith
-
-pub greater_key : (x key : ℕ) → (x / 4294967296 ≡ key → ⊥) → key * 4294967296 ≤ x → key * 4294967296 + 4294967296 ≤ x
-greater_key x key other le = split (side (x / 4294967296) key) (side key (x / 4294967296))
-  where
-    split : (x / 4294967296 < key) ⊎ (key ≤ x / 4294967296) → (key < x / 4294967296) ⊎ (x / 4294967296 ≤ key) → key * 4294967296 + 4294967296 ≤ x
-    split (inl low) s = absurd (omega arith)
-    split (inr up) (inl high) = omega arith
-    split (inr up) (inr down) = absurd (other (omega arith))
 
 pub not_some : {A : Type 0} (o : Option A) → o ≡ None → IsSome o → ⊥
 not_some None e s = absurd cc

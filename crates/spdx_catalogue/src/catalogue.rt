@@ -44,8 +44,8 @@ impl Model for Catalogue {
 }
 
 impl Catalogue {
-    /// The catalogue of these rows. Of each row it notes eight bytes, by which the look-ups find
-    /// it; where memory for them is refused, they go over the rows.
+    /// The catalogue of these rows. Of each row it notes twelve bytes, by which the look-ups find
+    /// it; where memory for them is refused, a look-up goes over the rows.
     ///
     /// # Errors
     ///

@@ -1,8 +1,9 @@
-// Rows by a key of their names: of many rows only those with the key of what is looked for are compared.
+// Rows by a key of their names: only those with the key of what is looked for are compared with it.
 
-ghost use Rattle.std.specs.Prelude.{◌≡◌, ℕ, ◌<◌, ◌≤◌, ◌^◌, List, Option, Some, true, IfSome, find, length};
+ghost use Rattle.std.specs.Prelude.{◌≡◌, ℕ, slice_index, ◌<◌, ◌≤◌, ◌^◌, List, Option, Some, true, IfSome, find, length};
 ghost use Rattle.std.specs.Option.{option_copied};
-ghost use Rattle.std.specs.List.{fold};
+ghost use Rattle.std.specs.List.Sorted.{IsNonDecreasing};
+ghost use Rattle.std.specs.Bool.{OnTrue};
 ghost use Rattle.spdx_catalogue.specs.Index as spec;
 ghost use Rattle.spdx_catalogue.specs.CatalogueModel.{IsIndexed};
 ghost use Rattle.spdx_requirement.specs.Rows.{row_of, exception_of, imprecise_of, license_name, exception_name};
@@ -11,17 +12,18 @@ use crate::names::begins_caseless;
 use spdx_requirement::row::{Exception, ImpreciseName, License};
 use std::alloc::Global;
 
-// More than a place may be.
+// Places are below it, and so are keys.
 const SPAN: u64 = 4_294_967_296;
 
 // So many bytes of a prefix make its key.
 const FRONT: usize = 3;
 
 /// Of each row a code, made of its key and its place, in order: rows with the same key stand
-/// together there, by place.
+/// together there, by place. The starts are hints, which a look-up tries before it halves.
 #[derive(Drop)]
 pub(crate) struct Index {
     codes: Vec<u64>,
+    starts: Vec<u32>,
 }
 
 /// A row that is found by a text.
@@ -92,6 +94,7 @@ pub(crate) enum Sought<'t> {
     Front(&'t str),
 }
 
+// A key with one more byte. Whatever it gives, a look-up finds the same, if perhaps later.
 fn mixed(key: u32, b: u8) -> u32
     ensures { result ≡ spec.mixed key b }
 {
@@ -117,7 +120,25 @@ fn code(key: u32, place: usize) -> u64
     u64::from(key) * SPAN + place as u64
 }
 
-/// The index of the rows. There is none where memory is refused, nor where a row has no key.
+// Of as many buckets the one of that key; a greater key has no lesser one.
+fn bucket(key: u32, buckets: usize) -> usize {
+    (u64::from(key).wrapping_mul(buckets as u64) / SPAN) as usize
+}
+
+// Of each bucket where its codes begin.
+fn starts_of(alloc: Global, codes: &[u64]) -> Option<Vec<u32>> {
+    let mut starts = Vec::with_capacity(alloc, codes.len()).ok()?;
+    for place in 0..codes.len() {
+        let start = codes.partition_point(|code| {
+            bucket((*code / SPAN) as u32, codes.len()) < place
+        });
+        starts.push(u32::try_from(start).ok()?).ok()?;
+    }
+    Some(starts)
+}
+
+/// The index of the rows, of twelve bytes for each, made in time n log n. There is none where
+/// memory is refused, nor where a row has no key.
 pub(crate) fn index_of<R: Keyed>(alloc: Global, rows: &[R]) -> Option<Index>
     ensures { IfSome result (λ i. spec.IsIndexOf R.keyed_of rows.now i.codes.items) }
 {
@@ -129,7 +150,8 @@ pub(crate) fn index_of<R: Keyed>(alloc: Global, rows: &[R]) -> Option<Index>
         codes.push(code(key_of(row.keyed()?), place)).ok()?;
     }
     codes.sort_unstable();
-    Some(Index { codes })
+    let starts = starts_of(alloc, &codes)?;
+    Some(Index { codes, starts })
 }
 
 impl Sought<'_> {
@@ -157,21 +179,48 @@ impl Sought<'_> {
     }
 }
 
+// Whether the codes before that place are known to be less.
+fn is_behind_less(codes: &[u64], at: usize, least: u64) -> bool
+    requires { IsNonDecreasing codes.now }
+    ensures { OnTrue result ((m : ℕ) → m < at → slice_index codes.now m < least) }
+{
+    match at.checked_sub(1) {
+        None => true,
+        Some(last) => last < codes.len() && codes[last] < least,
+    }
+}
+
+// Where the codes of that key begin, or some place before that.
+fn least_at(index: &Index, key: u32) -> usize
+    requires { IsNonDecreasing index.now.codes.items }
+    ensures { (m : ℕ) → m < result → slice_index index.now.codes.items m < spec.code key 0 }
+{
+    let least = code(key, 0);
+    let codes = index.codes.as_slice();
+    if let Some(start) = index.starts.get(bucket(key, codes.len()))
+        && is_behind_less(codes, *start as usize, least)
+    {
+        return *start as usize;
+    }
+    codes.partition_point(|code| *code < least)
+}
+
 // The first row that fits, by the index.
 fn first_indexed<'c, R: Keyed>(rows: &'c [R], index: &Index, sought: Sought<'_>) -> Option<&'c R>
     requires index { spec.IsIndexOf R.keyed_of rows.now index.now.codes.items }
     requires relevant { spec.IsRelevant R.keyed_of R.text_of sought }
     ensures { option_copied result ≡ find (λ r. spec.fits sought.entry (R.text_of r)) rows.now }
 {
-    let key = u64::from(sought.key());
-    let least = key * SPAN;
+    let key = sought.key();
+    let wanted = u64::from(key);
     let codes = index.codes.as_slice();
-    let from = codes.partition_point(|code| *code < least);
-    for at in from..codes.len() {
-        if codes[at] / SPAN != key {
+    for at in least_at(index, key)..codes.len() {
+        let own = codes[at] / SPAN;
+        if own > wanted {
             return None;
         }
-        if let Some(row) = rows.get((codes[at] % SPAN) as usize)
+        if own == wanted
+            && let Some(row) = rows.get((codes[at] % SPAN) as usize)
             && sought.fits(row.text())
         {
             return Some(row);
