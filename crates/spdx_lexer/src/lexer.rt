@@ -21,9 +21,9 @@ fn is_separated_plus(spaced: bool, rest: &str) -> bool
 /// The tokens of a text up to its end, or up to its first fault, which is the last item then. The
 /// rules are those of `docs/EXPRESSIONS.md`.
 ///
-/// Each call reads on from where the call before stopped, and takes no memory. A text of listed
-/// words is read in time linear in its length; a word that is not listed is also looked for among
-/// the catalogue's names in another case and among its imprecise names, one row after another.
+/// Each call reads on from where the call before stopped, and takes no memory. A text is read in
+/// time linear in its length: a word is looked for by a key of its bytes, so that the number of
+/// the catalogue's rows counts for little.
 #[derive(Drop)]
 pub struct Lexer<'c, 't> {
     catalogue: &'c Catalogue,

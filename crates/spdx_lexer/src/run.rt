@@ -12,7 +12,7 @@ use spdx_catalogue::names::is_name_byte;
 fn is_run_byte(b: u8) -> bool
     ensures { result ≡ spec.is_run_byte b }
 {
-    is_name_byte(b) || b == b':'
+    b.is_ascii_alphabetic() || matches!(b, b'0'..=b':' | b'-' | b'.')
 }
 
 #[tactic(auto, using(crate::proofs::Front::fronts))]
