@@ -12,6 +12,7 @@ use Rattle.spdx_catalogue.specs.declared.index.Sought.TheVariants.{Named, Alike,
 abbrev pub mixed : ℕ → ℕ → ℕ
 mixed key b = ((key + to_ascii_lowercase b) % 2 ^ 32 * 16777619) % 2 ^ 32
 
+-- the key of some bytes, in which the case of ASCII letters does not count
 abbrev pub key_of : List ℕ → ℕ
 key_of bytes = fold mixed 0 bytes
 
