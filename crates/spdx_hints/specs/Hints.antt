@@ -5,11 +5,11 @@ use Rattle.spdx_requirement.specs.Flags.{is_deprecated, is_osi_approved}
 use Rattle.spdx_hints.specs.Words.{has_words, has_numbers}
 use Rattle.spdx_hints.specs.Rules.{spellings, may_be_meant}
 use Rattle.spdx_hints.specs.declared.rule.Rule.{Rule}
-use Rattle.spdx_hints.specs.declared.rule.Rule.TheVariants.{SameWords, SameTitle, SameFamily, OneEdit, TwoEdits}
+use Rattle.spdx_hints.specs.declared.rule.Rule.TheVariants.{SameWords, SameTitle, SameFamily, OtherNumbers, OneEdit, TwoEdits}
 
 -- in the order in which they are asked
 abbrev pub rules_asked : List Rule
-rules_asked = SameWords ∷ SameTitle ∷ SameFamily ∷ OneEdit ∷ TwoEdits ∷ []
+rules_asked = SameWords ∷ SameTitle ∷ SameFamily ∷ OtherNumbers ∷ OneEdit ∷ TwoEdits ∷ []
 
 abbrev pub is_approved : LicenseRow → Bool
 is_approved r = is_osi_approved r.flags

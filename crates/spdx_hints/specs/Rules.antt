@@ -1,5 +1,5 @@
 -- The rules by which a licence may be meant by a phrase.
-use Rattle.std.specs.Prelude.{ℕ, ◌-◌, ◌*◌, Bool, not, ◌||◌, ◌&&◌, nat_eq, nat_le, min, max, List, length, filter, bytes_eq}
+use Rattle.std.specs.Prelude.{ℕ, ◌-◌, ◌*◌, Bool, not, ◌||◌, ◌&&◌, nat_eq, nat_le, min, max, List, [], length, filter, bytes_eq}
 use Rattle.std.specs.List.{list_any}
 use Rattle.std.specs.Str.{str_to_ascii_lowercase}
 use Rattle.strsim.specs.Edits.{levenshtein_row}
@@ -8,7 +8,7 @@ use Rattle.spdx_requirement.specs.Flags.{is_deprecated, is_osi_approved, is_fsf_
 use Rattle.spdx_requirement.specs.Versions.{base}
 use Rattle.spdx_hints.specs.Words.{word, has_word, has_words, has_numbers}
 use Rattle.spdx_hints.specs.declared.rule.Rule.{Rule}
-use Rattle.spdx_hints.specs.declared.rule.Rule.TheVariants.{SameWords, SameTitle, SameFamily, OneEdit, TwoEdits}
+use Rattle.spdx_hints.specs.declared.rule.Rule.TheVariants.{SameWords, SameTitle, SameFamily, OtherNumbers, OneEdit, TwoEdits}
 
 -- each has the other's numbers
 abbrev pub same_numbers : List ℕ → List ℕ → Bool
@@ -55,6 +55,10 @@ abbrev pub has_same_family : List ℕ → LicenseRow → Bool
 has_same_family phrase r =
     is_recognised r && (nat_le 3 (length (family_word r)) && (has_word phrase (family_word r) && has_numbers r.name phrase))
 
+-- the phrase has a word, and the licence's name or full name has its words, whatever the numbers
+abbrev pub has_other_numbers : List ℕ → LicenseRow → Bool
+has_other_numbers phrase r = not (has_words [] phrase) && (same_words phrase r.name || same_words phrase r.full_name)
+
 -- how many bytes must be put in, taken out or written over, the case of ASCII letters aside
 abbrev pub edits : List ℕ → List ℕ → ℕ
 edits a b = levenshtein_row nat_eq (str_to_ascii_lowercase a) (str_to_ascii_lowercase b) (length (str_to_ascii_lowercase b))
@@ -70,6 +74,7 @@ abbrev pub holds : Rule → List ImpreciseRow → List ℕ → LicenseRow → Bo
 holds SameWords found phrase r = has_same_words found phrase r
 holds SameTitle found phrase r = has_same_title phrase r
 holds SameFamily found phrase r = has_same_family phrase r
+holds OtherNumbers found phrase r = has_other_numbers phrase r
 holds OneEdit found phrase r = is_near 1 phrase r.name
 holds TwoEdits found phrase r = is_near 2 phrase r.name
 

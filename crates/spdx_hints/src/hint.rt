@@ -26,8 +26,9 @@ const LONGEST: usize = 128;
 /// The rules, in their order: the licence's name, full name or imprecise name has the same words
 /// and numbers; its name or full name has the same words, and the phrase's numbers; the word of
 /// its family is in the phrase, the phrase's numbers are in its name, and the Open Source
-/// Initiative or the Free Software Foundation recognises it; one edit leads to its name, or two,
-/// and the numbers are the same. Where a rule finds more than six it gives those that the Open
+/// Initiative or the Free Software Foundation recognises it; the phrase has a word, and its name or
+/// full name has the same words and other numbers, as of a version that isn't listed; one edit leads
+/// to its name, or two, and the numbers are the same. Where a rule finds more than six it gives those that the Open
 /// Source Initiative has approved, or none if these are more than six too.
 ///
 /// A phrase without a word, or of more than 128 bytes, means none. Linear in the catalogue's rows,
@@ -97,6 +98,7 @@ fn first_given<'c>(
         Rule::SameWords,
         Rule::SameTitle,
         Rule::SameFamily,
+        Rule::OtherNumbers,
         Rule::OneEdit,
         Rule::TwoEdits,
     ];

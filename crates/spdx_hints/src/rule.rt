@@ -22,6 +22,9 @@ pub(crate) enum Rule {
     /// The word before its name's first hyphen is in the phrase, whose numbers are in the name. Of
     /// these only the licences that others recognise, since many of the words are common ones.
     SameFamily,
+    /// Its name or full name has the same words, of which there is one at least, whatever the numbers: the licence is
+    /// listed, and this version isn't.
+    OtherNumbers,
     /// One edit leads from the phrase to its name, and the numbers are the same.
     OneEdit,
     /// Two edits do.
@@ -112,6 +115,13 @@ fn has_same_family(phrase: &[u8], row: &License) -> bool
         && has_numbers(row.name.as_bytes(), phrase)
 }
 
+fn has_other_numbers(phrase: &[u8], row: &License) -> bool
+    ensures { result ≡ spec.has_other_numbers phrase.now (row_of row.now) }
+{
+    !has_words(b"", phrase)
+        && (same_words(phrase, row.name.as_bytes()) || same_words(phrase, row.full_name.as_bytes()))
+}
+
 fn lowercase(alloc: Global, text: &[u8]) -> Result<Vec<u8>, AllocError>
     ensures { IfOk result (λ lower. lower.items ≡ str_to_ascii_lowercase text.now) }
 {
@@ -162,6 +172,7 @@ fn holds(
         Rule::SameWords => Ok(has_same_words(found, phrase, row)),
         Rule::SameTitle => Ok(has_same_title(phrase, row)),
         Rule::SameFamily => Ok(has_same_family(phrase, row)),
+        Rule::OtherNumbers => Ok(has_other_numbers(phrase, row)),
         Rule::OneEdit => is_near(alloc, 1, phrase, row.name.as_bytes()),
         Rule::TwoEdits => is_near(alloc, 2, phrase, row.name.as_bytes()),
     }
