@@ -35,10 +35,13 @@ red = codes "[1;31m"
 abbrev pub cyan : List ℕ
 cyan = codes "[1;36m"
 
+-- what is wrong, to the end of its line
+abbrev pub reason_text : Style → Told → List ℕ
+reason_text style t = codes ": " ++ (painted style red (codes "error") ++ (codes ": " ++ (escaped Shown t.reason ++ 10 ∷ [])))
+
 -- the place, and what is wrong
 abbrev pub reason_line : Style → Told → List ℕ
-reason_line style t =
-    painted style bold (place_text Shown t) ++ (codes ": " ++ (painted style red (codes "error") ++ (codes ": " ++ (escaped Shown t.reason ++ 10 ∷ []))))
+reason_line style t = painted style bold (place_text Shown t) ++ reason_text style t
 
 -- how many columns of a terminal a text takes as it is shown
 abbrev pub shown_width : List ℕ → ℕ

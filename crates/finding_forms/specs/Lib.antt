@@ -5,4 +5,5 @@ pub mod Json
 pub mod JsonTokens
 pub mod Sarif
 pub mod Forms
+pub mod Frames
 pub mod Totals

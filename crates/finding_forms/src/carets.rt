@@ -1,14 +1,15 @@
 // The form for people, with carets under the fault.
 
-ghost use Rattle.std.specs.Prelude.{◌≡◌, ◌<◌, ◌++◌, OnOk, OnErr, IfOk, replicate, string_bytes};
+ghost use Rattle.std.specs.Prelude.{◌≡◌, ℕ, ◌<◌, ◌++◌, OnOk, OnErr, IfOk, replicate, string_bytes};
 ghost use Rattle.finding_forms.specs.Finding.{told, aid_of};
-ghost use Rattle.finding_forms.specs.Message.{place_text};
-ghost use Rattle.finding_forms.specs.Forms.{bold, caret_line, help_line, human_text, paint_begins, paint_ends, painted, reason_line, shown_width};
+ghost use Rattle.finding_forms.specs.Forms.{caret_line, help_line, human_text, paint_begins, paint_ends, painted, reason_text, shown_width};
+ghost use Rattle.finding_forms.specs.Frames.{before_human, behind_human, column_human, framed, on_line};
 
 use crate::escapes::{Escape, escaped_text, put_escaped};
 use crate::findings::{Finding, Help};
 use crate::forms::Style;
-use crate::messages::{put_help, put_place};
+use crate::frames::Frame;
+use crate::messages::{put_column, put_help};
 use std::alloc::{AllocError, Global};
 use unicode_width::UnicodeWidthStr;
 
@@ -28,14 +29,41 @@ pub fn put_human(
         text.new.items ≡ text.old.items ++ human_text style (told finding.now)) }
     ensures err { OnErr result (text.new.items ≡ text.old.items) }
 {
-    let lines = human_lines(alloc, style, finding)?;
-    text.extend_from_slice(lines.as_bytes())
+    human_frame(alloc, style, finding)?.put(text, finding.place.line)
 }
 
-fn human_lines(alloc: Global, style: Style, finding: &Finding<'_>) -> Result<String, AllocError>
-    ensures { IfOk result (λ lines. string_bytes lines ≡ human_text style (told finding.now)) }
+/// The lines of a finding round the number of its line.
+pub(crate) fn human_frame(
+    alloc: Global,
+    style: Style,
+    finding: &Finding<'_>,
+) -> Result<Frame, AllocError>
+    ensures { IfOk result (λ frame. (line : ℕ) →
+        human_text style (on_line (told finding.now) line) ≡ framed frame line) }
+{
+    Ok(Frame {
+        before: before_human(alloc, style, finding.place.file)?,
+        behind: behind_human(alloc, style, finding)?,
+    })
+}
+
+// What stands before the number.
+fn before_human(alloc: Global, style: Style, file: &str) -> Result<String, AllocError>
+    ensures { IfOk result (λ lines. string_bytes lines ≡ before_human style file.now) }
 {
     let mut lines = String::new(alloc);
+    begin_paint(&mut lines, style, "[1m")?;
+    put_escaped(&mut lines, Escape::Shown, file)?;
+    lines.push(':')?;
+    Ok(lines)
+}
+
+// What stands behind the number.
+fn behind_human(alloc: Global, style: Style, finding: &Finding<'_>) -> Result<String, AllocError>
+    ensures { IfOk result (λ lines. string_bytes lines ≡ behind_human style (told finding.now)) }
+{
+    let mut lines = String::new(alloc);
+    put_place_end(&mut lines, style, finding)?;
     put_reason(&mut lines, style, finding)?;
     lines.push_str("  ")?;
     put_escaped(&mut lines, Escape::Shown, finding.expression)?;
@@ -45,27 +73,26 @@ fn human_lines(alloc: Global, style: Style, finding: &Finding<'_>) -> Result<Str
     Ok(lines)
 }
 
-// The line of the place and the reason.
+// The column of the fault, which ends the place.
+fn put_place_end(lines: &mut String, style: Style, finding: &Finding<'_>) -> Result<(), AllocError>
+    ensures { OnOk result (string_bytes lines.new ≡
+        string_bytes lines.old ++ column_human style (told finding.now)) }
+{
+    put_column(lines, finding)?;
+    end_paint(lines, style)?;
+    Ok(())
+}
+
+// What is wrong, to the end of its line.
 fn put_reason(lines: &mut String, style: Style, finding: &Finding<'_>) -> Result<(), AllocError>
     ensures { OnOk result (string_bytes lines.new ≡
-        string_bytes lines.old ++ reason_line style (told finding.now)) }
+        string_bytes lines.old ++ reason_text style (told finding.now)) }
 {
-    put_bold_place(lines, style, finding)?;
     lines.push_str(": ")?;
     put_painted(lines, style, "[1;31m", "error")?;
     lines.push_str(": ")?;
     put_escaped(lines, Escape::Shown, finding.reason)?;
     lines.push('\n')?;
-    Ok(())
-}
-
-fn put_bold_place(lines: &mut String, style: Style, finding: &Finding<'_>) -> Result<(), AllocError>
-    ensures { OnOk result (string_bytes lines.new ≡
-        string_bytes lines.old ++ painted style bold (place_text Escape.Shown (told finding.now))) }
-{
-    begin_paint(lines, style, "[1m")?;
-    put_place(lines, Escape::Shown, finding)?;
-    end_paint(lines, style)?;
     Ok(())
 }
 

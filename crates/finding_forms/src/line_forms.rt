@@ -1,12 +1,14 @@
 // A line for each finding.
 
-ghost use Rattle.std.specs.Prelude.{◌≡◌, ◌++◌, OnOk, OnErr, IfOk, string_bytes};
+ghost use Rattle.std.specs.Prelude.{◌≡◌, ℕ, ◌++◌, OnOk, OnErr, IfOk, string_bytes};
 ghost use Rattle.finding_forms.specs.Finding.{told};
 ghost use Rattle.finding_forms.specs.Forms.{IsOneLine, short_text, github_place, github_text};
+ghost use Rattle.finding_forms.specs.Frames.{before_short, behind_short, framed, on_line};
 
-use crate::escapes::{Escape, put_escaped};
+use crate::escapes::{Escape, escaped_text, put_escaped};
 use crate::findings::Finding;
-use crate::messages::{put_message, put_place};
+use crate::frames::Frame;
+use crate::messages::{put_column, put_message};
 use std::alloc::{AllocError, Global};
 
 /// Appends a finding as one line: `deps.txt:3:1: unknown term; did you mean `MIT`?`.
@@ -19,15 +21,35 @@ pub fn put_short(alloc: Global, text: &mut Vec<u8>, finding: &Finding<'_>) -> Re
     ensures err { OnErr result (text.new.items ≡ text.old.items) }
     ensures one_line { IsOneLine (short_text (told finding.now)) }
 {
-    let line = short_line(alloc, finding)?;
-    text.extend_from_slice(line.as_bytes())
+    short_frame(alloc, finding)?.put(text, finding.place.line)
 }
 
-fn short_line(alloc: Global, finding: &Finding<'_>) -> Result<String, AllocError>
-    ensures { IfOk result (λ line. string_bytes line ≡ short_text (told finding.now)) }
+/// The line of a finding round the number of its line.
+pub(crate) fn short_frame(alloc: Global, finding: &Finding<'_>) -> Result<Frame, AllocError>
+    ensures { IfOk result (λ frame. (line : ℕ) →
+        short_text (on_line (told finding.now) line) ≡ framed frame line) }
+{
+    Ok(Frame {
+        before: before_short(alloc, finding.place.file)?,
+        behind: behind_short(alloc, finding)?,
+    })
+}
+
+// What stands before the number.
+fn before_short(alloc: Global, file: &str) -> Result<String, AllocError>
+    ensures { IfOk result (λ line. string_bytes line ≡ before_short file.now) }
+{
+    let mut line = escaped_text(alloc, Escape::Shown, file)?;
+    line.push(':')?;
+    Ok(line)
+}
+
+// What stands behind the number.
+fn behind_short(alloc: Global, finding: &Finding<'_>) -> Result<String, AllocError>
+    ensures { IfOk result (λ line. string_bytes line ≡ behind_short (told finding.now)) }
 {
     let mut line = String::new(alloc);
-    put_place(&mut line, Escape::Shown, finding)?;
+    put_column(&mut line, finding)?;
     line.push_str(": ")?;
     put_message(&mut line, Escape::Shown, finding)?;
     line.push('\n')?;

@@ -1,26 +1,21 @@
-// What is wrong and what helps, and the place.
+// What is wrong and what helps, and the column of the fault.
 
-ghost use Rattle.std.specs.Prelude.{◌≡◌, ℕ, ◌++◌, List, OnOk, map, string_bytes};
+ghost use Rattle.std.specs.Prelude.{◌≡◌, ℕ, ◌∷◌, ◌++◌, List, OnOk, decimal, map, string_bytes};
 ghost use Rattle.std.specs.Borrow.{Bor};
-ghost use Rattle.finding_forms.specs.Finding.{told, aid_of, names as name_aid};
-ghost use Rattle.finding_forms.specs.Message.{named, other_names, help_text, message_text, place_text};
+ghost use Rattle.finding_forms.specs.Finding.{told, aid_of, fault_column, names as name_aid};
+ghost use Rattle.finding_forms.specs.Message.{named, other_names, help_text, message_text};
 
 use crate::escapes::{Escape, put_escaped};
 use crate::findings::{Finding, Help};
 use std::alloc::AllocError;
 
-/// Appends the file, the line and the column of the fault.
-pub(crate) fn put_place(
-    line: &mut String,
-    how: Escape,
-    finding: &Finding<'_>,
-) -> Result<(), AllocError>
-    ensures { OnOk result (
-        string_bytes line.new ≡ string_bytes line.old ++ place_text how (told finding.now)) }
+/// Appends a colon and the column of the fault.
+pub(crate) fn put_column(line: &mut String, finding: &Finding<'_>) -> Result<(), AllocError>
+    ensures { OnOk result (string_bytes line.new ≡
+        string_bytes line.old ++ (58 ∷ decimal (fault_column (told finding.now)))) }
 {
     let column = finding.column();
-    put_escaped(line, how, finding.place.file)?;
-    match write!(line, ":{}:{column}", finding.place.line) {
+    match write!(line, ":{column}") {
         Ok(()) => Ok(()),
         Err(_) => Err(AllocError),
     }
