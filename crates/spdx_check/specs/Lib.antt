@@ -3,3 +3,4 @@ pub mod Found
 pub mod Checking
 pub mod Refusals
 pub mod Totals
+pub mod Known

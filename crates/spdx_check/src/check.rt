@@ -1,12 +1,13 @@
 // One expression.
 
 ghost use Rattle.std.specs.Prelude.{◌≡◌, ◌++◌, IfOk, OnOk, OnErr, is_some, option_map};
+ghost use Rattle.finding_forms.specs.Finding.{told};
 ghost use Rattle.finding_forms.specs.Forms.{finding_text};
 ghost use Rattle.spdx_check.specs.Checking.{ChecksOne, found_text, spot_of, told_at};
 ghost use Rattle.spdx_check.specs.Refusals.{wrong_of};
 
 use crate::refusals::{Refusal, refusal_of};
-use finding_forms::{Finding, Form, Help, Place, put_finding};
+use finding_forms::{Finding, Form, Place, put_finding};
 use spdx_catalogue::Catalogue;
 use spdx_lexer::token::ParseMode;
 use spdx_list::Instead;
@@ -55,8 +56,8 @@ pub fn check_one(
     put_found(alloc, check.form, is_first, place, &found, text)
 }
 
-/// Appends what was found of an expression that stands there, and says whether anything was.
-pub(crate) fn put_found<'t>(
+// Appends what was found of an expression that stands there, and says whether anything was.
+fn put_found<'t>(
     alloc: Global,
     form: Form,
     is_first: bool,
@@ -76,7 +77,8 @@ pub(crate) fn put_found<'t>(
     Ok(true)
 }
 
-fn put_refusal<'t>(
+/// Appends what is wrong with an expression that stands there.
+pub(crate) fn put_refusal<'t>(
     alloc: Global,
     form: Form,
     is_first: bool,
@@ -88,13 +90,19 @@ fn put_refusal<'t>(
         finding_text form is_first (told_at (spot_of place.entry) (wrong_of refusal.now))) }
     ensures err { OnErr result (text.new.items ≡ text.old.items) }
 {
-    let finding = Finding {
+    put_finding(alloc, text, form, is_first, &finding_at(place, refusal))
+}
+
+/// What is wrong with an expression, told of one that stands there.
+pub(crate) fn finding_at<'t>(place: Place<'t>, refusal: &'t Refusal<'_>) -> Finding<'t>
+    ensures { told result ≡ told_at (spot_of place.entry) (wrong_of refusal.now) }
+{
+    Finding {
         place,
         expression: refusal.shown.as_str(),
         start: refusal.start,
         end: refusal.end,
         reason: refusal.reason.as_str(),
         help: refusal.help(),
-    };
-    put_finding(alloc, text, form, is_first, &finding)
+    }
 }

@@ -2,6 +2,7 @@
 #![tactic(auto)]
 
 mod check;
+mod known;
 mod lines;
 mod refusals;
 mod remembered;

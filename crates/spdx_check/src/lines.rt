@@ -3,11 +3,12 @@
 ghost use Rattle.std.specs.Prelude.{◌≡◌, ◌++◌, IfOk, OnOk, is_some, length};
 ghost use Rattle.line_engine.specs.Device.{devices};
 ghost use Rattle.line_engine.specs.Output.{capped};
-ghost use Rattle.spdx_check.specs.Checking.{ChecksLines, expression_of, found_text, have_finding, heirs_in, is_blank, spot_of};
+ghost use Rattle.spdx_check.specs.Checking.{ChecksLines, expression_of, found_text, have_finding, heirs_in, is_blank};
 ghost use Rattle.spdx_check.specs.Found.{finding_of, rule_of};
-ghost use Rattle.spdx_check.specs.Refusals.{AreKnown};
+ghost use Rattle.spdx_check.specs.Known.{AreHeld, spot_in};
 
-use crate::check::{Check, put_found};
+use crate::check::Check;
+use crate::known::{known_of, put_known};
 use crate::refusals::refusal_of;
 use crate::remembered::Remembered;
 use finding_forms::Place;
@@ -53,37 +54,44 @@ struct File<'f, 'c> {
     blanks: u64,
     has_finding: bool,
     remembered: Remembered<'c>,
-    ghost known: { AreKnown check.now remembered.slots.items },
+    ghost known: { AreHeld check.now name.now remembered.slots.items },
 }
 
-// Appends what is found of an expression that stands there, and says whether anything is. One that came lately is looked
-// up among those that are remembered.
+// Appends what is found of an expression that is this line of the file, and says whether anything is. One that came lately
+// is looked up among those that are remembered.
 fn put_line<'c>(
     alloc: Global,
     check: &Check<'c>,
     remembered: &mut Remembered<'c>,
     is_first: bool,
-    place: Place<'_>,
+    file: &str,
+    line: u64,
     expression: &[u8],
     text: &mut Vec<u8>,
 ) -> Result<bool, AllocError>
-    ensures text { AreKnown check.now remembered.old.slots.items →
+    ensures text { AreHeld check.now file.now remembered.old.slots.items →
         OnOk result (text.new.items ≡ text.old.items ++
-        found_text check.now.form is_first (spot_of place.entry)
+        found_text check.now.form is_first (spot_in file.now line)
         (finding_of check.now.catalogue.now (heirs_in check.now) check.now.mode expression.now)) }
-    ensures refuses { AreKnown check.now remembered.old.slots.items →
+    ensures refuses { AreHeld check.now file.now remembered.old.slots.items →
         IfOk result (λ is_refused. is_refused ≡
         is_some (finding_of check.now.catalogue.now (heirs_in check.now) check.now.mode
         expression.now)) }
-    ensures known { AreKnown check.now remembered.old.slots.items →
-        AreKnown check.now remembered.new.slots.items }
+    ensures known { AreHeld check.now file.now remembered.old.slots.items →
+        AreHeld check.now file.now remembered.new.slots.items }
 {
-    if let Some(found) = remembered.find(expression) {
-        return put_found(alloc, check.form, is_first, place, found, text);
+    let place = Place {
+        file,
+        line,
+        column: 1,
+    };
+    if let Some(known) = remembered.find(expression) {
+        return put_known(alloc, check.form, is_first, place, known, text);
     }
     let found = refusal_of(alloc, check, expression)?;
-    let is_refused = put_found(alloc, check.form, is_first, place, &found, text)?;
-    remembered.keep(alloc, expression, found);
+    let known = known_of(alloc, check.form, file, found)?;
+    let is_refused = put_known(alloc, check.form, is_first, place, &known, text)?;
+    remembered.keep(alloc, expression, known);
     Ok(is_refused)
 }
 
@@ -108,18 +116,14 @@ impl Verdicts for File<'_, '_> {
             self.blanks = self.blanks.saturating_add(1);
             return Ok(false);
         }
-        let place = Place {
-            file: self.name,
-            line: number,
-            column: 1,
-        };
         let is_first = self.is_first && !self.has_finding;
         let is_refused = put_line(
             alloc,
             self.check,
             &mut self.remembered,
             is_first,
-            place,
+            self.name,
+            number,
             expression,
             text,
         )?;

@@ -1,45 +1,43 @@
-// What was found lately, beside the expressions that it was found of.
+// What is known of expressions that came lately.
 
-ghost use Rattle.std.specs.Prelude.{◌≡◌, IfOk, IfSome, option_map};
+ghost use Rattle.std.specs.Prelude.{ℕ, IfOk, IfSome, List};
 ghost use Rattle.spdx_check.specs.declared.check.Check.{Check};
-ghost use Rattle.spdx_check.specs.Checking.{heirs_in};
-ghost use Rattle.spdx_check.specs.Found.{finding_of};
-ghost use Rattle.spdx_check.specs.Refusals.{wrong_of, IsKnown, AreKnown};
+ghost use Rattle.spdx_check.specs.Known.{IsKnownOf, IsHeld, AreHeld};
 
-use crate::refusals::Refusal;
+use crate::known::Known;
 use std::alloc::{AllocError, Global};
 
-const SLOTS: usize = 512;
+const SLOTS: usize = 1024;
 
 // What is longer isn't remembered, so that the slots stay small.
 const LONGEST: usize = 128;
 
-/// An expression and what is wrong with it, where the slot is used.
+/// An expression and what is known of it, where the slot is used.
 #[derive(Drop)]
 pub(crate) struct Slot<'c> {
     is_used: bool,
     expression: Vec<u8>,
-    found: Option<Refusal<'c>>,
+    known: Known<'c>,
 }
 
 impl<'c> Slot<'c> {
     fn new(alloc: Global) -> Slot<'c>
-        ensures { (check : Check) → IsKnown check result }
+        ensures { (check : Check) (file : List ℕ) → IsHeld check file result }
     {
         Slot {
             is_used: false,
             expression: Vec::new(alloc),
-            found: None,
+            known: Known::Accepted,
         }
     }
 
     // Holds this expression in place of another one; where memory is wanting, none.
-    fn fill(&mut self, expression: &[u8], found: Option<Refusal<'c>>)
-        ensures { (check : Check) → option_map wrong_of found.entry ≡
-            finding_of check.catalogue.now (heirs_in check) check.mode expression.now → IsKnown check self.new }
+    fn fill(&mut self, expression: &[u8], known: Known<'c>)
+        ensures { (check : Check) (file : List ℕ) →
+            IsKnownOf check file expression.now known.entry → IsHeld check file self.new }
     {
         self.is_used = false;
-        self.found = found;
+        self.known = known;
         self.expression.clear();
         if self.expression.extend_from_slice(expression).is_ok() {
             self.is_used = true;
@@ -47,17 +45,19 @@ impl<'c> Slot<'c> {
     }
 }
 
-// The slot of an expression.
-fn place_of(expression: &[u8]) -> usize {
+// The two slots that an expression may stand in.
+fn places_of(expression: &[u8]) -> (usize, usize) {
     let mut hash = 0u64;
     for byte in expression {
         hash = hash.wrapping_mul(31).wrapping_add(u64::from(*byte));
     }
-    (hash % SLOTS as u64) as usize
+    let slots = SLOTS as u64;
+    ((hash % slots) as usize, (hash / slots % slots) as usize)
 }
 
 fn empty_slots<'c>(alloc: Global) -> Result<Vec<Slot<'c>>, AllocError>
-    ensures { IfOk result (λ slots. (check : Check) → AreKnown check slots.items) }
+    ensures { IfOk result (λ slots. (check : Check) (file : List ℕ) →
+        AreHeld check file slots.items) }
 {
     let mut slots = Vec::with_capacity(alloc, SLOTS)?;
     for _ in 0..SLOTS {
@@ -66,7 +66,8 @@ fn empty_slots<'c>(alloc: Global) -> Result<Vec<Slot<'c>>, AllocError>
     Ok(slots)
 }
 
-/// Expressions with what is wrong with them, one in each slot: an expression takes the place of the one that was there.
+/// Expressions with what is known of them, one in each slot. An expression that finds both of its slots used takes the
+/// place of the one in the first.
 #[derive(Drop)]
 pub(crate) struct Remembered<'c> {
     slots: Vec<Slot<'c>>,
@@ -74,48 +75,88 @@ pub(crate) struct Remembered<'c> {
 
 impl<'c> Remembered<'c> {
     pub(crate) fn new(alloc: Global) -> Remembered<'c>
-        ensures { (check : Check) → AreKnown check result.slots.items }
+        ensures { (check : Check) (file : List ℕ) → AreHeld check file result.slots.items }
     {
         Remembered {
             slots: Vec::new(alloc),
         }
     }
 
-    /// What was found of this expression, if it is remembered.
-    pub(crate) fn find(&self, expression: &[u8]) -> Option<&Option<Refusal<'c>>>
-        ensures { IfSome result (λ found. (check : Check) →
-            AreKnown check self.now.slots.items → option_map wrong_of found.now ≡
-            finding_of check.catalogue.now (heirs_in check) check.mode expression.now) }
+    /// What is known of this expression, if it is remembered.
+    pub(crate) fn find(&self, expression: &[u8]) -> Option<&Known<'c>>
+        ensures { IfSome result (λ known. (check : Check) (file : List ℕ) →
+            AreHeld check file self.now.slots.items →
+            IsKnownOf check file expression.now known.now) }
     {
         if expression.len() > LONGEST {
             return None;
         }
-        let slot = self.slots.get(place_of(expression))?;
+        let (first, second) = places_of(expression);
+        match self.held_at(first, expression) {
+            Some(known) => Some(known),
+            None => self.held_at(second, expression),
+        }
+    }
+
+    fn held_at(&self, place: usize, expression: &[u8]) -> Option<&Known<'c>>
+        ensures { IfSome result (λ known. (check : Check) (file : List ℕ) →
+            AreHeld check file self.now.slots.items →
+            IsKnownOf check file expression.now known.now) }
+    {
+        let slot = self.slots.get(place)?;
         if slot.is_used && *slot.expression == *expression {
-            Some(&slot.found)
+            Some(&slot.known)
         } else {
             None
         }
     }
 
-    /// Remembers what was found of an expression, if it isn't long and memory is there.
-    pub(crate) fn keep(&mut self, alloc: Global, expression: &[u8], found: Option<Refusal<'c>>)
-        ensures { (check : Check) → AreKnown check self.old.slots.items →
-            option_map wrong_of found.entry ≡
-            finding_of check.catalogue.now (heirs_in check) check.mode expression.now →
-            AreKnown check self.new.slots.items }
+    fn is_free(&self, place: usize) -> bool {
+        self.slots.get(place).is_some_and(|slot| !slot.is_used)
+    }
+
+    // The slot that an expression takes.
+    fn place_for(&self, expression: &[u8]) -> usize {
+        let (first, second) = places_of(expression);
+        if self.is_free(first) || !self.is_free(second) {
+            first
+        } else {
+            second
+        }
+    }
+
+    // Makes the slots where there are none, and says whether memory was there.
+    fn has_slots(&mut self, alloc: Global) -> bool
+        ensures { (check : Check) (file : List ℕ) → AreHeld check file self.old.slots.items →
+            AreHeld check file self.new.slots.items }
+    {
+        if !self.slots.is_empty() {
+            return true;
+        }
+        match empty_slots(alloc) {
+            Ok(slots) => {
+                self.slots = slots;
+                true
+            }
+            Err(AllocError) => false,
+        }
+    }
+
+    /// Remembers what is known of an expression, if it isn't long and memory is there.
+    pub(crate) fn keep(&mut self, alloc: Global, expression: &[u8], known: Known<'c>)
+        ensures { (check : Check) (file : List ℕ) → AreHeld check file self.old.slots.items →
+            IsKnownOf check file expression.now known.entry →
+            AreHeld check file self.new.slots.items }
     {
         if expression.len() > LONGEST {
             return;
         }
-        if self.slots.is_empty() {
-            match empty_slots(alloc) {
-                Ok(slots) => self.slots = slots,
-                Err(AllocError) => return,
-            }
+        if !self.has_slots(alloc) {
+            return;
         }
-        if let Some(slot) = self.slots.get_mut(place_of(expression)) {
-            slot.fill(expression, found);
+        let place = self.place_for(expression);
+        if let Some(slot) = self.slots.get_mut(place) {
+            slot.fill(expression, known);
         }
     }
 }

@@ -21,4 +21,4 @@ returns-in_err-summary g c = record {
 }
 
 pub invariant_of-lines : goal.invariant_of-lines
-invariant_of-lines g c = record { known = c.new.ensures c.args.check.now }
+invariant_of-lines g c = record { known = c.new.ensures c.args.check.now c.args.file.now }
