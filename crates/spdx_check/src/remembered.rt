@@ -45,14 +45,38 @@ impl<'c> Slot<'c> {
     }
 }
 
+// One more part of a hash.
+fn mixed(hash: u64, part: u64) -> u64 {
+    (hash.rotate_left(5) ^ part).wrapping_mul(0x9e37_79b9_7f4a_7c15)
+}
+
+// Up to seven bytes as one part.
+fn part_of(bytes: &[u8]) -> u64 {
+    let mut part = 0u64;
+    for byte in bytes {
+        part = part.wrapping_mul(256) ^ u64::from(*byte);
+    }
+    part
+}
+
+// By eight bytes at a time, since each line is hashed.
+fn hash_of(expression: &[u8]) -> u64 {
+    let (parts, rest) = expression.as_chunks::<8>();
+    let mut hash = part_of(rest);
+    for part in parts {
+        hash = mixed(hash, u64::from_le_bytes(*part));
+    }
+    mixed(hash, expression.len() as u64)
+}
+
 // The two slots that an expression may stand in.
 fn places_of(expression: &[u8]) -> (usize, usize) {
-    let mut hash = 0u64;
-    for byte in expression {
-        hash = hash.wrapping_mul(31).wrapping_add(u64::from(*byte));
-    }
+    let hash = hash_of(expression);
     let slots = SLOTS as u64;
-    ((hash % slots) as usize, (hash / slots % slots) as usize)
+    (
+        ((hash >> 32) % slots) as usize,
+        ((hash >> 48) % slots) as usize,
+    )
 }
 
 fn empty_slots<'c>(alloc: Global) -> Result<Vec<Slot<'c>>, AllocError>
