@@ -7,7 +7,7 @@ use std::alloc::{AllocError, Global};
 
 /// Where a text goes, which says what may stand in it.
 #[derive(Clone, Copy)]
-pub(crate) enum Escape {
+pub enum Escape {
     /// Each character may stand.
     Raw,
     /// A terminal, or one line: a tab is a blank, and what a terminal would obey is named by its number, as `\u{1b}`.
@@ -23,7 +23,11 @@ pub(crate) enum Escape {
 }
 
 /// The text, escaped.
-pub(crate) fn escaped_text(alloc: Global, how: Escape, text: &str) -> Result<String, AllocError>
+///
+/// # Errors
+///
+/// Memory was refused.
+pub fn escaped_text(alloc: Global, how: Escape, text: &str) -> Result<String, AllocError>
     ensures { IfOk result (λ line. string_bytes line ≡ escaped how text.now) }
 {
     let mut line = String::new(alloc);
@@ -32,7 +36,11 @@ pub(crate) fn escaped_text(alloc: Global, how: Escape, text: &str) -> Result<Str
 }
 
 /// Appends the text, escaped.
-pub(crate) fn put_escaped(line: &mut String, how: Escape, text: &str) -> Result<(), AllocError>
+///
+/// # Errors
+///
+/// Memory was refused, and of the escaped text a beginning may stand in the line.
+pub fn put_escaped(line: &mut String, how: Escape, text: &str) -> Result<(), AllocError>
     ensures { OnOk result (
         string_bytes line.new ≡ string_bytes line.old ++ escaped how text.now) }
 {

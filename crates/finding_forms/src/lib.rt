@@ -14,6 +14,7 @@ mod sarif_form;
 mod total_line;
 
 pub use carets::put_human;
+pub use escapes::{Escape, escaped_text, put_escaped};
 pub use findings::{Finding, Help, Place};
 pub use forms::{Form, Style, put_beginning, put_ending, put_finding};
 pub use frames::{Frame, frame_of};

@@ -3,7 +3,7 @@ use Rattle.std.proofs.Common.{◌≡◌, ◌≢◌, ℕ, List, [], ◌∷◌, �
 use Rattle.std.proofs.lemmas.Bool.Decides.{nat_tests}
 use Rattle.html_text.specs.Text.{HasNoMarkup, is_mark, page_text}
 use Rattle.html_text.proofs.Laws.{no_markup}
-use Rattle.gate_forms.specs.declared.escapes.Escape.TheVariants.{Raw}
+use Rattle.finding_forms.specs.declared.escapes.Escape.TheVariants.{Raw}
 use Rattle.gate_forms.specs.declared.reports.Node.{Node}
 use Rattle.gate_forms.specs.declared.reports.Verdict.{Verdict}
 use Rattle.gate_forms.specs.declared.reports.Verdict.TheVariants.{Allowed, ByException, Refused, Unstated}

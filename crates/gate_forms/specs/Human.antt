@@ -5,13 +5,13 @@ use Rattle.unicode_width.specs.Width.{str_width}
 use Rattle.finding_forms.specs.declared.forms.Style.{Style}
 use Rattle.finding_forms.specs.Finding.{place_in}
 use Rattle.finding_forms.specs.Forms.{bold, red, painted}
-use Rattle.gate_forms.specs.declared.escapes.Escape.TheVariants.{Shown}
+use Rattle.finding_forms.specs.declared.escapes.Escape.TheVariants.{Shown}
 use Rattle.gate_forms.specs.declared.reports.Leaf.{Leaf}
 use Rattle.gate_forms.specs.declared.reports.Node.{Node}
 use Rattle.gate_forms.specs.declared.reports.Why.{Why}
 use Rattle.gate_forms.specs.declared.reports.Why.TheVariants.{Nothing, Fault, Missing}
 use Rattle.gate_forms.specs.declared.reports.Report.{Report}
-use Rattle.gate_forms.specs.Escapes.{escaped}
+use Rattle.finding_forms.specs.Escapes.{escaped}
 use Rattle.gate_forms.specs.Report.{advice_text, is_part_accepted, is_refused, leaf_decided, package_text, part_text, verdict_text}
 
 -- ---- carets

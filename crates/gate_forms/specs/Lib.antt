@@ -1,4 +1,3 @@
-pub mod Escapes
 pub mod Report
 pub mod Lines
 pub mod Human

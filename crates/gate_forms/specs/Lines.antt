@@ -1,8 +1,8 @@
 -- A refused package as a line.
 use Rattle.std.specs.Prelude.{ℕ, List, [], ◌∷◌, ◌++◌, codes, if◌then◌else◌}
-use Rattle.gate_forms.specs.declared.escapes.Escape.TheVariants.{Shown, Data, Property}
+use Rattle.finding_forms.specs.declared.escapes.Escape.TheVariants.{Shown, Data, Property}
 use Rattle.gate_forms.specs.declared.reports.Report.{Report}
-use Rattle.gate_forms.specs.Escapes.{escaped}
+use Rattle.finding_forms.specs.Escapes.{escaped}
 use Rattle.gate_forms.specs.Report.{is_refused, message_text}
 
 abbrev pub short_line : Report → List ℕ

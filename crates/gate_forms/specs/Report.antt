@@ -1,7 +1,7 @@
 -- A verdict, and what is said of it in words.
 use Rattle.std.specs.Prelude.{ℕ, List, [], ◌∷◌, ◌++◌, Bool, true, false, Option, None, Some, codes, flat_map, if◌then◌else◌}
 use Rattle.std.specs.Borrow.{Bor}
-use Rattle.gate_forms.specs.declared.escapes.Escape.{Escape}
+use Rattle.finding_forms.specs.declared.escapes.Escape.{Escape}
 use Rattle.gate_forms.specs.declared.reports.Mark.{Mark}
 use Rattle.gate_forms.specs.declared.reports.Mark.TheVariants.{Accepted, Denied, Open}
 use Rattle.gate_forms.specs.declared.reports.Leaf.{Leaf}
@@ -12,7 +12,7 @@ use Rattle.gate_forms.specs.declared.reports.Verdict.TheVariants.{Allowed, ByExc
 use Rattle.gate_forms.specs.declared.reports.Why.{Why}
 use Rattle.gate_forms.specs.declared.reports.Why.TheVariants.{Nothing, Fault, Missing}
 use Rattle.gate_forms.specs.declared.reports.Report.{Report}
-use Rattle.gate_forms.specs.Escapes.{escaped}
+use Rattle.finding_forms.specs.Escapes.{escaped}
 
 abbrev pub is_refused : Verdict → Bool
 is_refused Allowed = false

@@ -4,9 +4,9 @@ use Rattle.json.specs.Json.{Json, string, array, object, document, Items, no_ite
 use Rattle.json.specs.Print.{print}
 use Rattle.json.specs.Tree.{json_tokens}
 use Rattle.finding_forms.specs.Sarif.{artifact, text_object, tool, sarif_beginning, sarif_closing}
-use Rattle.gate_forms.specs.declared.escapes.Escape.TheVariants.{Raw, Path}
+use Rattle.finding_forms.specs.declared.escapes.Escape.TheVariants.{Raw, Path}
 use Rattle.gate_forms.specs.declared.reports.Report.{Report}
-use Rattle.gate_forms.specs.Escapes.{escaped}
+use Rattle.finding_forms.specs.Escapes.{escaped}
 use Rattle.gate_forms.specs.Json.{verdict_word}
 use Rattle.gate_forms.specs.Report.{is_refused, message_text}
 

@@ -1,9 +1,9 @@
 -- How many packages there are, and of which verdict.
 use Rattle.std.specs.Prelude.{ℕ, List, [], ◌∷◌, ◌++◌, codes, decimal}
 use Rattle.finding_forms.specs.Totals.{counted}
-use Rattle.gate_forms.specs.declared.escapes.Escape.TheVariants.{Shown}
+use Rattle.finding_forms.specs.declared.escapes.Escape.TheVariants.{Shown}
 use Rattle.gate_forms.specs.declared.reports.Totals.{Totals}
-use Rattle.gate_forms.specs.Escapes.{escaped}
+use Rattle.finding_forms.specs.Escapes.{escaped}
 
 -- so many, and words behind it
 abbrev pub number_words : ℕ → List ℕ → List ℕ

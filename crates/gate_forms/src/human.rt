@@ -5,11 +5,10 @@ ghost use Rattle.finding_forms.specs.Forms.{bold, painted};
 ghost use Rattle.gate_forms.specs.Report.{package_text};
 ghost use Rattle.gate_forms.specs.Human.{advice_line, expression_line, fault_line, head_line, human_text, leaf_line, leaf_lines, more_line, package_line, reasons_text, refused_lines};
 
-use crate::escapes::{Escape, put_escaped};
 use crate::messages::{put_advice, put_decided, put_package, put_verdict};
 use crate::paint::{begin_paint, end_paint, put_carets, put_painted};
 use crate::reports::{Leaf, Report, Why};
-use finding_forms::Style;
+use finding_forms::{Escape, Style, put_escaped};
 use std::alloc::{AllocError, Global};
 
 /// Appends a refused package as people read it: the package and the verdict, the expression, carets under each part that

@@ -2,7 +2,6 @@
 //! log of SARIF, and as a page of HTML. It knows nothing of licences.
 #![tactic(auto)]
 
-mod escapes;
 mod human;
 mod json_form;
 mod lines;

@@ -3,9 +3,9 @@
 ghost use Rattle.std.specs.Prelude.{◌≡◌, ◌++◌, OnOk, OnErr, IfOk, string_bytes};
 ghost use Rattle.gate_forms.specs.Lines.{short_line, short_text, github_line, github_text};
 
-use crate::escapes::{Escape, put_escaped};
 use crate::messages::put_message;
 use crate::reports::Report;
+use finding_forms::{Escape, put_escaped};
 use std::alloc::{AllocError, Global};
 
 /// Appends a refused package as one line: `Cargo.lock: ring 0.17: refused by policy.toml: OpenSSL not allowed; ..`.

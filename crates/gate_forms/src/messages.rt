@@ -2,11 +2,11 @@
 
 ghost use Rattle.std.specs.Prelude.{◌≡◌, ◌++◌, ◌∷◌, ℕ, List, OnOk, map, flat_map, codes, string_bytes};
 ghost use Rattle.std.specs.Borrow.{Bor};
-ghost use Rattle.gate_forms.specs.Escapes.{escaped};
+ghost use Rattle.finding_forms.specs.Escapes.{escaped};
 ghost use Rattle.gate_forms.specs.Report.{advice_text, by_text, decided_text, leaf_decided, leaf_text, message_text, name_text, package_text, separated, verdict_by, verdict_text, version_text, why_text};
 
-use crate::escapes::{Escape, put_escaped};
 use crate::reports::{Leaf, Mark, Report, Verdict, Why};
+use finding_forms::{Escape, put_escaped};
 use std::alloc::AllocError;
 
 /// Appends the package, the verdict and why.

@@ -5,8 +5,7 @@ ghost use Rattle.finding_forms.specs.Finding.{place_in};
 ghost use Rattle.finding_forms.specs.Forms.{paint_begins, paint_ends, painted};
 ghost use Rattle.gate_forms.specs.Human.{before_of, marked_of, caret_part, shown_width};
 
-use crate::escapes::{Escape, escaped_text};
-use finding_forms::Style;
+use finding_forms::{Escape, Style, escaped_text};
 use std::alloc::{AllocError, Global};
 use unicode_width::UnicodeWidthStr;
 

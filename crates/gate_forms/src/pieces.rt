@@ -5,10 +5,10 @@ ghost use Rattle.html_text.specs.Text.{page_text};
 ghost use Rattle.gate_forms.specs.Report.{advice_text, package_text, part_text, verdict_text};
 ghost use Rattle.gate_forms.specs.Page.{depth_part, element, node_begins, node_part, sign_part};
 
-use crate::escapes::Escape;
 use crate::messages::{put_advice, put_package, put_verdict};
 use crate::reports::{Node, Part, Report};
 use crate::tree::put_part;
+use finding_forms::Escape;
 use html_text::put_text;
 use std::alloc::{AllocError, Global};
 

@@ -6,9 +6,9 @@ ghost use Rattle.finding_forms.specs.Sarif.{artifact, text_object, sarif_beginni
 ghost use Rattle.gate_forms.specs.Report.{message_text};
 ghost use Rattle.gate_forms.specs.Sarif.{LogReadsBack, location, result_of, sarif_result, sarif_text};
 
-use crate::escapes::{Escape, escaped_text};
 use crate::messages::put_message;
 use crate::reports::Report;
+use finding_forms::{Escape, escaped_text};
 use json::Writer;
 use std::alloc::{AllocError, Global};
 

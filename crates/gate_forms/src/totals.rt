@@ -4,8 +4,8 @@ ghost use Rattle.std.specs.Prelude.{◌≡◌, ◌++◌, OnOk, OnErr, IfOk, stri
 ghost use Rattle.finding_forms.specs.Totals.{counted};
 ghost use Rattle.gate_forms.specs.Totals.{number_words, totals_words, totals_text, unused_text};
 
-use crate::escapes::{Escape, put_escaped};
 use crate::reports::Totals;
+use finding_forms::{Escape, put_escaped};
 use std::alloc::{AllocError, Global};
 
 /// Appends the line of totals: `312 packages: 309 allowed (2 by exception), 2 refused, 1 without a licence`.

@@ -4,12 +4,11 @@ ghost use Rattle.std.specs.Prelude.{◌≡◌, ◌++◌, OnOk, OnErr, IfOk, flat
 ghost use Rattle.gate_forms.specs.Report.{part_text};
 ghost use Rattle.gate_forms.specs.Human.{explained_text, closing_text, indent, node_line, sign};
 
-use crate::escapes::{Escape, put_escaped};
 use crate::human::{put_advice_line, put_expression, put_fault, put_package_line};
 use crate::messages::put_decided;
 use crate::paint::{put_copies, put_painted};
 use crate::reports::{Node, Part, Report, Why};
-use finding_forms::Style;
+use finding_forms::{Escape, Style, put_escaped};
 use std::alloc::{AllocError, Global};
 
 /// Appends any package's verdict, the expression, the expression's parts as a tree, and what would help. A part stands in
