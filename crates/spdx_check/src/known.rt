@@ -1,7 +1,6 @@
 // What is known of an expression in the lines of a file.
 
 ghost use Rattle.std.specs.Prelude.{◌≡◌, ◌++◌, IfOk, OnOk, option_map};
-ghost use Rattle.finding_forms.specs.Finding.{told};
 ghost use Rattle.spdx_check.specs.Checking.{spot_of};
 ghost use Rattle.spdx_check.specs.Known.{is_refused, known_text, Tells};
 ghost use Rattle.spdx_check.specs.Refusals.{wrong_of};
