@@ -10,3 +10,4 @@ pub mod Folded
 pub mod Shown
 pub mod Seen
 pub mod Loop
+pub mod Heard

@@ -192,7 +192,7 @@ module _ (c : Rows) (m : ParseMode) (text : List ℕ) where
         omega (arith, r.frames_fit.0, all, length-map read (λ (q : Placed). let i : Item = Ok q in i), long, lt)
 
     module _ (last : left ≡ []) where
-      all_read : reading c m 0 text ≡ map Ok read
+      pub all_read : reading c m 0 text ≡ map Ok read
       all_read = r.so_far ∙ ap (λ xs. map Ok read ++ xs) last ∙ append-nil (map Ok read)
 
       -- no word at all

@@ -9,3 +9,4 @@ pub mod Code
 pub mod State
 pub mod ParserModel
 pub mod Nodes
+pub mod Heard

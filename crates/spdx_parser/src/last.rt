@@ -1,6 +1,6 @@
 // What was read last, and what may come behind it.
 
-ghost use Rattle.std.specs.Prelude.{◌≡◌};
+ghost use Rattle.std.specs.Prelude.{◌≡◌, option_map};
 ghost use Rattle.spdx_requirement.specs.Ids.{id_row};
 ghost use Rattle.spdx_requirement.specs.Endings as Endings;
 ghost use Rattle.spdx_lexer.specs.Code.{word_of};
@@ -8,6 +8,7 @@ ghost use Rattle.spdx_lexer.specs.Faults.{fault_of, terms_of};
 ghost use Rattle.spdx_parser.specs.Code.{last_in};
 ghost use Rattle.spdx_parser.specs.Last as words;
 ghost use Rattle.spdx_parser.specs.Grammar as Grammar;
+ghost use Rattle.spdx_parser.specs.Heard.{listed_last};
 ghost use Rattle.spdx_parser.specs.Faults.{fault_behind, plus_fault};
 
 use spdx_catalogue::LicenseId;
@@ -31,6 +32,16 @@ pub enum Last<'c> {
     Added,
     /// `)`.
     Closed,
+}
+
+/// The listed licence that was read last.
+pub fn listed(last: Last<'_>) -> Option<LicenseId<'_>>
+    ensures { option_map id_row result ≡ listed_last (last_in last.entry) }
+{
+    match last {
+        Last::Listed(id) => Some(id),
+        _ => None,
+    }
 }
 
 /// Whether a listed licence may stand in an expression.

@@ -3,11 +3,13 @@
 
 mod last;
 pub mod law;
+pub mod listener;
 mod name;
 pub mod node;
 mod nodes;
 pub mod parser;
 mod step;
 
+pub use crate::listener::Listener;
 pub use crate::node::{ExprNode, ExpressionReq, NodeList, Operator};
-pub use crate::parser::parse_nodes;
+pub use crate::parser::{parse_heard, parse_nodes};

@@ -1,16 +1,20 @@
 // The parser of a text.
 
-ghost use Rattle.std.specs.Prelude.{◌≡◌, List, All, map, IfOk, IfErr, OnOk};
+ghost use Rattle.std.specs.Prelude.{◌≡◌, List, All, Ok, map, IfOk, IfErr, OnOk};
 ghost use Rattle.spdx_requirement.specs.declared.failure.Failure.TheVariants.{Refused};
 ghost use Rattle.spdx_requirement.specs.Failures.{IfRefused};
 ghost use Rattle.spdx_lexer.specs.Layout.{IsPlace};
+ghost use Rattle.spdx_lexer.specs.Reading.{reading};
+ghost use Rattle.spdx_lexer.specs.Words.{Placed, words};
+ghost use Rattle.spdx_parser.specs.Heard.{HearsAll};
 ghost use Rattle.spdx_parser.specs.Meaning.{IsParsed, IsRefused};
 ghost use Rattle.spdx_parser.specs.Nodes.{placed_node};
 ghost use Rattle.spdx_parser.specs.Spans.{requirement_spans};
 ghost use Rattle.spdx_parser.specs.State.{start};
 ghost use Rattle.spdx_parser.specs.declared.node.ExprNode.{ExprNode};
 
-use crate::last::{Last, is_closing, reason, terms};
+use crate::last::{Last, is_closing, listed, reason, terms};
+use crate::listener::{Deaf, Listener};
 use crate::name::Name;
 use crate::node::NodeList;
 use smallvec::SmallVec;
@@ -62,11 +66,12 @@ impl<'c, 't> Model for Parser<'c, 't> {
 
 impl<'c, 't> Parser<'c, 't> {
     // Takes the tokens of a text, which have to be an expression, and all of it.
-    fn read_text(
+    fn read_text<L: Listener>(
         &mut self,
         catalogue: &'c Catalogue,
         text: &'t str,
         mode: ParseMode,
+        listener: &mut L,
     ) -> Result<(), Failure<ParseError<'t>>>
         requires { self.old ≡ start }
         ensures ok { OnOk result ((nodes : List ExprNode) → map placed_node nodes ≡ self.new.nodes
@@ -76,6 +81,9 @@ impl<'c, 't> Parser<'c, 't> {
         ensures spans { OnOk result ((nodes : List ExprNode) →
             map placed_node nodes ≡ self.new.nodes
             → All (IsPlace text.now) (requirement_spans nodes)) }
+        ensures heard { OnOk result ((read : List Placed) →
+            reading catalogue.now mode 0 text.now ≡ map Ok read
+            → HearsAll L.Hears listener.old (words read) listener.new) }
     {
         catalogue.is_well_formed();
         let end = text.len();
@@ -91,6 +99,7 @@ impl<'c, 't> Parser<'c, 't> {
             if !self.read(catalogue, mode, token, span.start..span.end)? {
                 return Err(refusal(text, span, reason(mode, last, none_open, token)));
             }
+            listener.hear(self.alloc, listed(last), Some(token))?;
             is_empty = false;
         }
         if is_empty {
@@ -102,6 +111,7 @@ impl<'c, 't> Parser<'c, 't> {
         if let Some(opened) = self.opened.pop() {
             return Err(refusal(text, opened.place, Reason::UnclosedParens));
         }
+        listener.hear(self.alloc, listed(self.last), None)?;
         self.finish()?;
         Ok(())
     }
@@ -138,6 +148,29 @@ pub fn parse_nodes<'c, 't>(
     ensures err { IfErr result (IfRefused (λ error. IsRefused catalogue.now mode text.now error)) }
     ensures spans { IfOk result (λ nodes. All (IsPlace text.now) (requirement_spans nodes.items)) }
 {
+    parse_heard(alloc, catalogue, text, mode, &mut Deaf)
+}
+
+/// The nodes of [`parse_nodes`], where the listener hears each token of the expression as it is
+/// taken, and then the end.
+///
+/// # Errors
+///
+/// Those of [`parse_nodes`], and the listener's want of memory; it may have heard some tokens.
+pub fn parse_heard<'c, 't, L: Listener>(
+    alloc: Global,
+    catalogue: &'c Catalogue,
+    text: &'t str,
+    mode: ParseMode,
+    listener: &mut L,
+) -> Result<NodeList<'c>, Failure<ParseError<'t>>>
+    ensures ok { IfOk result (λ nodes. IsParsed catalogue.now mode text.now nodes.items) }
+    ensures err { IfErr result (IfRefused (λ error. IsRefused catalogue.now mode text.now error)) }
+    ensures spans { IfOk result (λ nodes. All (IsPlace text.now) (requirement_spans nodes.items)) }
+    ensures heard { OnOk result ((read : List Placed) →
+        reading catalogue.now mode 0 text.now ≡ map Ok read
+        → HearsAll L.Hears listener.old (words read) listener.new) }
+{
     let mut parser = Parser {
         alloc,
         nodes: SmallVec::new(alloc),
@@ -147,6 +180,6 @@ pub fn parse_nodes<'c, 't>(
         license: None,
         place: 0..0,
     };
-    parser.read_text(catalogue, text, mode)?;
+    parser.read_text(catalogue, text, mode, listener)?;
     Ok(parser.nodes)
 }
