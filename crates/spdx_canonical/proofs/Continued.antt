@@ -32,7 +32,7 @@ bare_name : (r : LicenseRow) → written_name false r ≡ license_and_plus false
 bare_name r = refl
 
 -- what a word adds, behind a licence or none
-adds : (before : Option LicenseRow) (w : Word) (ws : List Word) → is_misplaced (is_some before) w ≡ false → text_behind false (waiting_words before (w ∷ ws)) ≡ (decided_text before (is_plus_word w) ++ own_text w) ++ text_behind false (waiting_words (waiting w) ws)
+pub adds : (before : Option LicenseRow) (w : Word) (ws : List Word) → is_misplaced (is_some before) w ≡ false → text_behind false (waiting_words before (w ∷ ws)) ≡ (decided_text before (is_plus_word w) ++ own_text w) ++ text_behind false (waiting_words (waiting w) ws)
 adds None (Plus) ws h = absurd cc
 adds None (Spdx r) ws h = refl
 adds None w ws h = refl

@@ -15,3 +15,5 @@ pub mod Laws
 pub mod Drafts
 pub mod Pushed
 pub mod Continued
+pub mod Laxer
+pub mod Heard

@@ -30,7 +30,7 @@ use Rattle.spdx_canonical.proofs.Keeps.{Keeps, EachKept, keeps}
 
 -- ---- where no plus is misplaced
 
-placed : (last w : Word) → may_follow last w ≡ true → is_misplaced (is_spdx last) w ≡ false
+pub placed : (last w : Word) → may_follow last w ≡ true → is_misplaced (is_spdx last) w ≡ false
 placed last Plus h = ap not h
 placed last _ h = refl
 

@@ -37,3 +37,8 @@ waiting _ = None
 -- what is written at the word
 abbrev pub next_text : Option LicenseRow → Word → List ℕ
 next_text before w = decided_text before (is_plus_word w) ++ own_text w
+
+-- and what is written at the next word or the end
+abbrev pub heard_text : Option LicenseRow → Option Word → List ℕ
+heard_text before (Some w) = next_text before w
+heard_text before None = decided_text before false

@@ -2,6 +2,8 @@
 #![tactic(auto)]
 
 mod draft;
+pub mod parsed;
 pub mod text;
 
+pub use crate::parsed::parse_canonical;
 pub use crate::text::canonical;

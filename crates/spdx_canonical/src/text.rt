@@ -31,7 +31,7 @@ fn without_only(name: &str) -> &str
 }
 
 // Writes a licence, which a `+` follows or not.
-fn push_license(
+pub(crate) fn push_license(
     draft: &mut Draft<'_>,
     alloc: Global,
     id: LicenseId<'_>,
@@ -142,7 +142,7 @@ fn waiting<'c>(token: Token<'c, '_>) -> Option<LicenseId<'c>>
 }
 
 // Writes what the next token decides: the licence that waits before it, and the token itself.
-fn push_next(
+pub(crate) fn push_next(
     draft: &mut Draft<'_>,
     alloc: Global,
     before: Option<LicenseId<'_>>,
