@@ -1,11 +1,14 @@
 //! Expressions read from texts.
 
-ghost use Rattle.std.specs.Prelude.{◌≡◌, All, IfOk, IfErr};
+ghost use Rattle.std.specs.Prelude.{◌≡◌, ◌⊎◌, List, All, Ok, IfOk, IfErr, map, option_map, string_bytes};
 ghost use Rattle.spdx_lexer.specs.Code.{span_of};
 ghost use Rattle.spdx_lexer.specs.Layout.{IsPlace};
-ghost use Rattle.spdx_lexer.specs.Modes.{strict};
+ghost use Rattle.spdx_lexer.specs.Modes.{strict, lax};
+ghost use Rattle.spdx_lexer.specs.Reading.{reading};
+ghost use Rattle.spdx_lexer.specs.Words.{Placed, words};
 ghost use Rattle.spdx_requirement.specs.Failures.{IfRefused};
 ghost use Rattle.spdx_parser.specs.Meaning.{IsRefused};
+ghost use Rattle.spdx_canonical.specs.Canonical.{canonical_of, canonical_text, answer_to};
 ghost use Rattle.spdx_normal.specs.Law.{EachLeaf, IsStrict};
 ghost use Rattle.spdx.specs.Meaning.{IsReadFrom, ReadsBack};
 
@@ -63,5 +66,37 @@ impl<'c> Expression<'c> {
         let nodes = parse_nodes(alloc, cat, text, mode)?;
         let original = String::from_str(alloc, text)?;
         Ok(Expression::from_nodes(original, nodes))
+    }
+
+    /// The expression of [`Expression::parse_mode`], and the canonical text of its tokens, or `None`
+    /// where that is the text itself. By `STRICT` and `LAX` it is what [`Expression::canonicalize`]
+    /// answers; the text is read once for both.
+    ///
+    /// # Errors
+    ///
+    /// Those of [`Expression::parse_mode`]: every text that means an expression has a canonical text.
+    pub fn parse_canonical<'t>(
+        alloc: Global,
+        cat: &'c Catalogue,
+        text: &'t str,
+        mode: ParseMode,
+    ) -> Result<(Expression<'c>, Option<String>), Failure<ParseError<'t>>>
+        ensures ok { IfOk result (λ both. IsReadFrom cat.now mode text.now both.0) }
+        ensures err { IfErr result (IfRefused (λ error. IsRefused cat.now mode text.now error)) }
+        ensures place { IfErr result (IfRefused (λ error. IsPlace text.now (span_of error.span))) }
+        ensures spans { IfOk result (λ both. All (IsPlace text.now) both.0.spans) }
+        ensures written { IfOk result (λ both. (read : List Placed) →
+            reading cat.now mode 0 text.now ≡ map Ok read →
+            answer_to text.now (Ok (canonical_text (words read)))
+            ≡ Ok (option_map string_bytes both.1)) }
+        ensures canonical { IfOk result (λ both. (mode ≡ strict) ⊎ (mode ≡ lax) →
+            answer_to text.now (canonical_of cat.now text.now)
+            ≡ Ok (option_map string_bytes both.1)) }
+    {
+        cat.is_well_formed();
+        cat.has_text_prefixes();
+        let (nodes, canonical) = spdx_canonical::parse_canonical(alloc, cat, text, mode)?;
+        let original = String::from_str(alloc, text)?;
+        Ok((Expression::from_nodes(original, nodes), canonical))
     }
 }
