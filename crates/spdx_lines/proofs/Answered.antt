@@ -55,9 +55,6 @@ module _ (c : Rows) (mode : LineMode) (line text : List ℕ) (m : ParseMode) (sa
       let k : Parses (parse_mode mode) line t = subst (λ x. Parses x line t) same_mode (subst (λ x. Parses m x t) same h) in
       accepted_is c mode line t k.0 u k.1 k.2
 
-  pub has_canonical : (t : Tree) → Parses m text t → (canonical : List ℕ) × (canonical_of c text ≡ Ok canonical)
-  has_canonical t h = let k = known t h in (k.canonical, ap (canonical_of c) same ∙ k.written)
-
   pub accepts_so : (t : Tree) → Parses m text t → IsOfRows c t → (old first new : List ℕ) → first ≡ old ++ (codes "accepted" ++ 9 ∷ []) →
       ((x : List ℕ) → IsColumn c mode text t x → new ≡ first ++ x) → AcceptsSo c mode line old new t
   accepts_so t h rows old first new e w =

@@ -1,21 +1,19 @@
 // The texts of verdicts.
 
-ghost use Rattle.std.specs.Prelude.{◌≡◌, ℕ, ◌++◌, List, Ok, OnOk, codes, map};
+ghost use Rattle.std.specs.Prelude.{◌≡◌, ℕ, ◌++◌, List, OnOk, codes, map};
 ghost use Rattle.std.specs.List.{flat_map, join_by};
 ghost use Rattle.std.specs.Fmt.{decimal};
 ghost use Rattle.spdx_requirement.specs.Items.{requirement_of};
 ghost use Rattle.spdx_requirement.specs.Texts.{requirement_text};
 ghost use Rattle.spdx_lexer.specs.Code.{span_of};
 ghost use Rattle.spdx_lexer.specs.Faults.{fault_of};
-ghost use Rattle.spdx_canonical.specs.Canonical.{canonical_of};
 ghost use Rattle.spdx_parser.specs.Tree.{Tree};
 ghost use Rattle.spdx_minimize.specs.Choice.{choice_of};
 ghost use Rattle.spdx.specs.Value.{trees_of};
-ghost use Rattle.spdx_lines.specs.Verdict.{Refused, IsColumn, choice_text, refusal_text, verdict_text};
+ghost use Rattle.spdx_lines.specs.Verdict.{Refused, choice_text, refusal_text, verdict_text};
 
-use crate::lines::LineMode;
 use spdx::expression::{MinimizeError, minimized_for_all};
-use spdx::{Catalogue, Expression, Failure, LicenseReq, Licensee, ParseError};
+use spdx::{Expression, Failure, LicenseReq, Licensee, ParseError};
 use std::alloc::{AllocError, Global};
 use std::io::Write;
 
@@ -40,50 +38,6 @@ pub(crate) fn put_refused(text: &mut Vec<u8>, error: &ParseError<'_>) -> Result<
     put_refusal(text, error)?;
     text.push(b'\n')?;
     Ok(())
-}
-
-/// Appends the second column of an accepted line: its canonical text, or by `Normal` the normal text of its tree. Every
-/// accepted line has a canonical text.
-pub(crate) fn put_column(
-    alloc: Global,
-    text: &mut Vec<u8>,
-    cat: &Catalogue,
-    mode: LineMode,
-    line: &str,
-    expression: &Expression<'_>,
-) -> Result<(), AllocError>
-    requires { (canonical : List ℕ) × (canonical_of cat.now line.now ≡ Ok canonical) }
-    ensures { OnOk result ((column : List ℕ) →
-        IsColumn cat.now mode line.now expression.now.tree column →
-        text.new.items ≡ text.old.items ++ column) }
-{
-    match mode {
-        LineMode::Strict | LineMode::Lax => put_canonical(alloc, text, cat, line),
-        LineMode::Normal => {
-            let normal = expression.normal_text(alloc)?;
-            text.extend_from_slice(normal.as_bytes())
-        }
-    }
-}
-
-// The canonical text, which is the line where there is no other.
-fn put_canonical(
-    alloc: Global,
-    text: &mut Vec<u8>,
-    cat: &Catalogue,
-    line: &str,
-) -> Result<(), AllocError>
-    requires { (canonical : List ℕ) × (canonical_of cat.now line.now ≡ Ok canonical) }
-    ensures { OnOk result ((canonical : List ℕ) →
-        canonical_of cat.now line.now ≡ Ok canonical →
-        text.new.items ≡ text.old.items ++ canonical) }
-{
-    match Expression::canonicalize(alloc, cat, line) {
-        Ok(None) => text.extend_from_slice(line.as_bytes()),
-        Ok(Some(canonical)) => text.extend_from_slice(canonical.as_bytes()),
-        Err(Failure::Refused(_)) => unreachable!(),
-        Err(Failure::Memory(error)) => Err(error),
-    }
 }
 
 /// Appends the least choice among the accepted licensees for all of the expressions, or why there is none.
