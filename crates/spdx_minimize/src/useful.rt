@@ -1,9 +1,10 @@
 //! The licensees among which the choice is.
 
-ghost use Rattle.std.specs.Prelude.{◌≡◌, map, IfOk};
+ghost use Rattle.std.specs.Prelude.{◌≡◌, false, map, IfOk};
 ghost use Rattle.std.specs.List.{list_any};
 ghost use Rattle.spdx_parser.specs.Tree.{leaves, node_of};
 ghost use Rattle.spdx_requirement.specs.Equality.{same_requirement};
+ghost use Rattle.spdx_requirement.specs.Items.{license_of, requirement_of};
 ghost use Rattle.spdx_licensee.specs.Satisfies as spec;
 ghost use Rattle.spdx_evaluation.specs.Postfix.{IsPostfix, tree_in};
 ghost use Rattle.spdx_evaluation.specs.Requirements.{nows};
@@ -11,6 +12,7 @@ ghost use Rattle.spdx_minimize.specs.Choice.{satisfies_some, useful};
 ghost use Rattle.spdx_minimize.specs.Trees.{trees_in};
 
 use crate::nodes::TreeNodes;
+use spdx_catalogue::{LicenseItem, LicenseReq};
 use spdx_licensee::Licensee;
 use spdx_parser::node::ExprNode;
 use std::alloc::{AllocError, Global};
@@ -60,10 +62,36 @@ fn satisfies_one(licensee: &Licensee<'_>, nodes: &[ExprNode<'_>]) -> bool
 {
     for node in nodes {
         if let ExprNode::Req(requirement) = node
-            && licensee.satisfies(&requirement.req)
+            && satisfies(licensee, &requirement.req)
         {
             return true;
         }
     }
     false
+}
+
+// Whether the licensee satisfies the requirement. Of most pairs the rows alone say that it does not.
+fn satisfies(licensee: &Licensee<'_>, requirement: &LicenseReq<'_>) -> bool
+    ensures { result ≡ spec.satisfies licensee.now (requirement_of requirement.now) }
+{
+    may_cover(&licensee.req().license, &requirement.license) && licensee.satisfies(requirement)
+}
+
+// Whether the licence that is held may cover the required one: where both are listed, another one can only where later
+// versions may be meant.
+fn may_cover(held: &LicenseItem<'_>, required: &LicenseItem<'_>) -> bool
+    ensures { result ≡ false →
+        spec.covers (license_of held.now) (license_of required.now) ≡ false }
+{
+    match (held, required) {
+        (
+            LicenseItem::Spdx { id: held, .. },
+            LicenseItem::Spdx {
+                id: required,
+                or_later,
+            },
+        ) => held == required || *or_later || required.is_gnu(),
+        (LicenseItem::Other(_), LicenseItem::Other(_)) => true,
+        _ => false,
+    }
 }
