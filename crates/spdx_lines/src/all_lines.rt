@@ -9,7 +9,7 @@ use crate::kept::Kept;
 use crate::lines::LineMode;
 use crate::text::put_choice;
 use line_engine::verdicts::Verdicts;
-use spdx::{Catalogue, Licensee};
+use spdx::{Catalogue, Licensee, minimized_for_all};
 use std::alloc::{AllocError, Global};
 
 /// Answers each line without a choice, and at the end gives one for all accepted lines.
@@ -46,7 +46,7 @@ impl Verdicts for AllLines<'_, '_> {
     fn close(&mut self, alloc: Global, text: &mut Vec<u8>) -> Result<(), AllocError> {
         let kept = self.kept.all(alloc)?;
         text.extend_from_slice(b"all\t")?;
-        put_choice(alloc, text, &kept, self.accepted)?;
+        put_choice(text, minimized_for_all(alloc, &kept, self.accepted))?;
         text.push(b'\n')?;
         Ok(())
     }

@@ -11,7 +11,6 @@ use crate::text::put_choice;
 use line_engine::verdicts::Verdicts;
 use spdx::{Catalogue, Licensee};
 use std::alloc::{AllocError, Global};
-use std::slice;
 
 /// Answers each line by itself. A line that came lately is answered as it was then.
 #[derive(Drop)]
@@ -61,7 +60,7 @@ fn put_answer<'c>(
         None => Ok(true),
         Some(expression) => {
             text.push(b'\t')?;
-            put_choice(alloc, text, slice::from_ref(&&expression), accepted)?;
+            put_choice(text, expression.minimized_requirements(alloc, accepted))?;
             text.push(b'\n')?;
             Ok(false)
         }

@@ -1,20 +1,21 @@
 // The texts of verdicts.
 
-ghost use Rattle.std.specs.Prelude.{◌≡◌, ℕ, ◌++◌, List, OnOk, codes, map};
+ghost use Rattle.std.specs.Prelude.{◌≡◌, ℕ, ◌++◌, List, IfOk, IfErr, OnOk, codes, map};
 ghost use Rattle.std.specs.List.{flat_map, join_by};
 ghost use Rattle.std.specs.Fmt.{decimal};
+ghost use Rattle.spdx_requirement.specs.Failures.{IfRefused};
 ghost use Rattle.spdx_requirement.specs.Items.{requirement_of};
 ghost use Rattle.spdx_requirement.specs.Texts.{requirement_text};
 ghost use Rattle.spdx_lexer.specs.Code.{span_of};
 ghost use Rattle.spdx_lexer.specs.Faults.{fault_of};
 ghost use Rattle.spdx_parser.specs.Tree.{Tree};
-ghost use Rattle.spdx_minimize.specs.Choice.{choice_of};
-ghost use Rattle.spdx.specs.Value.{trees_of};
+ghost use Rattle.spdx_minimize.specs.Choice.{Choice, chosen};
+ghost use Rattle.spdx_minimize.specs.MinimizeFaults.{refused_choice};
 ghost use Rattle.spdx_lines.specs.Verdict.{Refused, choice_text, refusal_text, verdict_text};
 
-use spdx::expression::{MinimizeError, minimized_for_all};
-use spdx::{Expression, Failure, LicenseReq, Licensee, ParseError};
-use std::alloc::{AllocError, Global};
+use spdx::expression::MinimizeError;
+use spdx::{Failure, LicenseReq, ParseError};
+use std::alloc::AllocError;
 use std::io::Write;
 
 /// Appends the place of a fault, and what it says.
@@ -40,17 +41,17 @@ pub(crate) fn put_refused(text: &mut Vec<u8>, error: &ParseError<'_>) -> Result<
     Ok(())
 }
 
-/// Appends the least choice among the accepted licensees for all of the expressions, or why there is none.
-pub(crate) fn put_choice<'c>(
-    alloc: Global,
+/// Appends what was found of a choice: the requirements that are chosen, or why there is none.
+pub(crate) fn put_choice(
     text: &mut Vec<u8>,
-    expressions: &[&Expression<'c>],
-    accepted: &[Licensee<'c>],
+    found: Result<Vec<LicenseReq<'_>>, Failure<MinimizeError>>,
 ) -> Result<(), AllocError>
-    ensures { OnOk result (text.new.items ≡
-        text.old.items ++ choice_text (choice_of (trees_of expressions.now) accepted.now)) }
+    ensures { OnOk result ((choice : Choice) →
+        IfOk found.entry (λ reqs. choice ≡ chosen (map requirement_of reqs.items)) →
+        IfErr found.entry (IfRefused (λ e. choice ≡ refused_choice e)) →
+        text.new.items ≡ text.old.items ++ choice_text choice) }
 {
-    match minimized_for_all(alloc, expressions, accepted) {
+    match found {
         Ok(requirements) => put_requirements(text, &requirements),
         Err(Failure::Refused(MinimizeError::TooManyRequirements(count))) => put_count(text, count),
         Err(Failure::Refused(MinimizeError::RequirementsUnmet)) => text.extend_from_slice(b"unmet"),
