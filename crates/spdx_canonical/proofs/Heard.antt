@@ -1,5 +1,5 @@
 -- What a draft comes to that hears the words of an expression.
-use Rattle.std.proofs.Common.{◌≡◌, ℕ, Bool, true, false, List, [], ◌∷◌, ◌++◌, Option, Some, None, Result, Ok, refl, sym, ◌∙◌, ap, append_assoc, append-nil, is_some, bytes_eq, cond}
+use Rattle.std.proofs.Common.{◌≡◌, ℕ, false, List, [], ◌∷◌, ◌++◌, Option, Some, None, Result, Ok, refl, sym, ◌∙◌, ap, append_assoc, append-nil, is_some}
 use Rattle.spdx_requirement.specs.Rows.{LicenseRow}
 use Rattle.spdx_lexer.specs.Words.{Word, Spdx, Unknown, OpenParen, Fault, Span}
 use Rattle.spdx_parser.specs.Last as last

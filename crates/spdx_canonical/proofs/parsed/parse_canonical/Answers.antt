@@ -1,5 +1,5 @@
-use Rattle.std.proofs.Common.{◌≡◌, List, Result, Ok, option_map, string_bytes, sym, ◌∙◌, ap, subst}
-use Rattle.spdx_lexer.specs.Words.{Placed, OpenParen, Fault, Span, words}
+use Rattle.std.proofs.Common.{◌≡◌, List, option_map, string_bytes, sym, ◌∙◌, ap, subst}
+use Rattle.spdx_lexer.specs.Words.{Placed, OpenParen, words}
 use Rattle.spdx_parser.proofs.Loop.{same_words}
 use Rattle.spdx_parser.specs.Heard.{HearsAll}
 use Rattle.spdx_canonical.specs.Canonical.{answer_to}
