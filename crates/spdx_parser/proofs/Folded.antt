@@ -1,24 +1,16 @@
 -- The nodes of frames and of trees, and the places of nodes.
-use Rattle.std.proofs.Common.{◌≡◌, ℕ, zero, suc, ◌+◌, ◌≤◌, Bool, true, false, not, ◌&&◌, List, [], ◌∷◌, ◌++◌, length, map, Option, Some, None, option_map, refl, sym, ◌∙◌, ap, subst, arith, replicate, append_assoc, append-nil}
-use Rattle.std.specs.Prelude.{if◌then◌else◌}
+use Rattle.std.proofs.Common.{◌≡◌, ℕ, zero, suc, List, [], ◌∷◌, ◌++◌, length, map, Some, None, refl, sym, ◌∙◌, ap, replicate, append_assoc, append-nil}
 use Rattle.std.proofs.lemmas.List.{map-append}
-use Rattle.spdx_requirement.specs.Rows.{Rows, LicenseRow}
-use Rattle.spdx_requirement.specs.Flags.{is_gnu}
-use Rattle.spdx_requirement.specs.Endings.{ends_or_later}
-use Rattle.spdx_requirement.specs.Items.{LicenseTerm, listed, referred, Addition, excepted, added}
-use Rattle.spdx_lexer.specs.declared.token.ParseMode.{ParseMode}
 use Rattle.spdx_lexer.specs.Code.{span_of}
-use Rattle.spdx_lexer.specs.Words.{Word, Spdx, LicenseRef, Exception, AdditionRef, Unknown, Plus, OpenParen, CloseParen, With, And, Or, Span}
+use Rattle.spdx_lexer.specs.Words.{Span}
 use Rattle.spdx_parser.specs.declared.node.ExprNode.{ExprNode}
 use Rattle.spdx_parser.specs.declared.node.Operator.{Operator}
 use Rattle.spdx_parser.specs.declared.parser.Frame.{Frame}
-use Rattle.spdx_parser.specs.Tree.{Tree, Leaf, Join, Node, Op, Req, postfix, node_of}
+use Rattle.spdx_parser.specs.Tree.{Tree, Join, Node, Op, postfix, node_of}
 use Rattle.spdx_parser.specs.Nodes.{PlacedNode, placed_node}
 use Rattle.spdx_parser.specs.Spans.{requirement_spans}
-use Rattle.spdx_parser.specs.Grammar.{may_stand, later_row, reference}
-use Rattle.spdx_parser.specs.Last.{Last, Due, Listed, Unlisted, Named, Joined, Added, Closed, next_last, is_license, is_closing}
 use Rattle.spdx_parser.specs.Machine as machine
-use Rattle.spdx_parser.specs.State.{State, start, operators, all_joined, leaf_of, require, name_as, operate, after_license, read_due, marked, read_listed, read_joined, read_behind, step, close}
+use Rattle.spdx_parser.specs.State.{operators}
 
 -- ---- the nodes of frames
 

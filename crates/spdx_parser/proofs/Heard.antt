@@ -1,5 +1,5 @@
 -- One more word that is heard.
-use Rattle.std.proofs.Common.{◌≡◌, List, [], ◌∷◌, ◌++◌, Option, Some, None, refl, sym, subst}
+use Rattle.std.proofs.Common.{List, [], ◌∷◌, ◌++◌, Option, Some, refl, sym, subst}
 use Rattle.spdx_requirement.specs.Rows.{LicenseRow}
 use Rattle.spdx_lexer.specs.Words.{Word}
 use Rattle.spdx_parser.specs.Last.{Last, next_last, last_behind}

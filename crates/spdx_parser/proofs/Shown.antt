@@ -1,5 +1,5 @@
 -- The parser's states show those of the machine, whose frames hold trees, and go where it goes.
-use Rattle.std.proofs.Common.{◌≡◌, ℕ, zero, suc, ◌+◌, ◌≤◌, Bool, true, false, not, ◌&&◌, List, [], ◌∷◌, ◌++◌, length, map, Option, Some, None, option_map, refl, sym, ◌∙◌, ap, subst, arith, replicate, append_assoc, append-nil}
+use Rattle.std.proofs.Common.{◌≡◌, ℕ, ◌+◌, ◌≤◌, Bool, true, false, not, ◌&&◌, List, [], ◌∷◌, ◌++◌, length, map, Option, Some, None, option_map, refl, sym, ◌∙◌, ap, subst, arith, replicate, append_assoc, append-nil}
 use Rattle.std.specs.Prelude.{if◌then◌else◌}
 use Rattle.std.proofs.lemmas.List.{map-append}
 use Rattle.spdx_requirement.specs.Rows.{Rows, LicenseRow}
@@ -7,14 +7,11 @@ use Rattle.spdx_requirement.specs.Flags.{is_gnu}
 use Rattle.spdx_requirement.specs.Endings.{ends_or_later}
 use Rattle.spdx_requirement.specs.Items.{LicenseTerm, listed, referred, Addition, excepted, added}
 use Rattle.spdx_lexer.specs.declared.token.ParseMode.{ParseMode}
-use Rattle.spdx_lexer.specs.Code.{span_of}
 use Rattle.spdx_lexer.specs.Words.{Word, Spdx, LicenseRef, Exception, AdditionRef, Unknown, Plus, OpenParen, CloseParen, With, And, Or, Span}
-use Rattle.spdx_parser.specs.declared.node.ExprNode.{ExprNode}
 use Rattle.spdx_parser.specs.declared.node.Operator.{Operator}
 use Rattle.spdx_parser.specs.declared.parser.Frame.{Frame}
-use Rattle.spdx_parser.specs.Tree.{Tree, Leaf, Join, Node, Op, Req, postfix, node_of}
-use Rattle.spdx_parser.specs.Nodes.{PlacedNode, placed_node}
-use Rattle.spdx_parser.specs.Spans.{requirement_spans}
+use Rattle.spdx_parser.specs.Tree.{Tree, Leaf, Op, Req, postfix}
+use Rattle.spdx_parser.specs.Nodes.{PlacedNode}
 use Rattle.spdx_parser.specs.Grammar.{may_stand, later_row, reference}
 use Rattle.spdx_parser.specs.Last.{Last, Due, Listed, Unlisted, Named, Joined, Added, Closed, next_last, is_license, is_closing}
 use Rattle.spdx_parser.specs.Machine as machine

@@ -1,4 +1,4 @@
-use Rattle.std.proofs.Common.{◌≡◌, ◌<◌, ◌≤◌, true, false, None, Some, map, Ok, Err, [], ◌∷◌, ◌++◌, length, refl, sym, ◌∙◌, ap, subst, arith}
+use Rattle.std.proofs.Common.{◌≡◌, ◌<◌, ◌≤◌, true, false, None, Some, Ok, Err, [], ◌∷◌, ◌++◌, length, refl, sym, ◌∙◌, ap, subst, arith}
 use Rattle.std.specs.List.{All}
 use Rattle.std.specs.Prelude.{◌==◌}
 use Rattle.spdx_lexer.specs.Words.{Unexpected, words}
