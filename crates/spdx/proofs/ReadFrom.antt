@@ -1,5 +1,5 @@
 -- An expression that is made of the nodes of a text, and the place of a text's fault.
-use Rattle.std.proofs.Common.{◌≡◌, ℕ, List, map, Result, sym, ◌∙◌, ap, subst, IfErr, IsTrue, IsUtf8}
+use Rattle.std.proofs.Common.{◌≡◌, ℕ, List, map, sym, ◌∙◌, ap, subst}
 use Rattle.spdx_requirement.specs.Rows.{Rows}
 use Rattle.spdx_lexer.specs.declared.token.ParseMode.{ParseMode}
 use Rattle.spdx_lexer.specs.Words.{words}
