@@ -9,7 +9,6 @@ use Rattle.spdx_parser.specs.Tree.{Tree}
 use Rattle.spdx_parser.specs.Grammar.{IsTheTree}
 use Rattle.spdx_parser.specs.Faults.{IsFaultOf}
 use Rattle.spdx_parser.specs.Meaning.{IsOfRows}
-use Rattle.spdx_canonical.specs.Canonical.{canonical_of}
 use Rattle.spdx_lines.specs.declared.lines.LineMode.{LineMode}
 use Rattle.spdx_lines.specs.Verdict.{Verdict, Refused, BadUtf8, parse_mode, IsColumn, verdict_text, counts_as_refused, tree_in}
 use Rattle.spdx_lines.specs.Found.{column, verdict}
