@@ -21,6 +21,7 @@ use std::{env, fs, io};
 const CALLS: &str = "\
 from_json
 parse_mode
+parse_canonical
 try_clone
 canonicalize
 fix
@@ -42,6 +43,7 @@ fn answer(alloc: Global, json: &[u8], call: &str) -> Answer {
     let catalogue = Catalogue::from_json(alloc, json)?;
     match call {
         "parse_mode" => reading::parse_mode(alloc, &catalogue, reading::REFERENCES),
+        "parse_canonical" => reading::parse_canonical(alloc, &catalogue, reading::LAX),
         "try_clone" => reading::try_clone(alloc, &catalogue),
         "canonicalize" => reading::canonicalize(alloc, &catalogue, reading::LAX),
         "fix" => reading::fix(alloc, &catalogue, reading::LAX),

@@ -28,6 +28,18 @@ pub(crate) fn parse_mode(alloc: Global, catalogue: &Catalogue, text: &str) -> An
     }
 }
 
+/// Reads a text that isn't its own canonical text, for its tree and that one.
+pub(crate) fn parse_canonical(alloc: Global, catalogue: &Catalogue, text: &str) -> Answer {
+    match Expression::parse_canonical(alloc, catalogue, text, ParseMode::LAX) {
+        Ok((expression, canonical)) => match canonical {
+            Some(canonical) => Ok(format!(in alloc; "{expression:?}, {canonical}")?),
+            None => Err(End::Otherwise("the text stays")),
+        },
+        Err(Failure::Memory(_)) => Err(End::InTheCall),
+        Err(Failure::Refused(_)) => Err(End::Otherwise("refused")),
+    }
+}
+
 /// Copies the expression of the references.
 pub(crate) fn try_clone(alloc: Global, catalogue: &Catalogue) -> Answer {
     let expression = Expression::parse(alloc, catalogue, REFERENCES)?;

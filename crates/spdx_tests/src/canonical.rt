@@ -15,8 +15,13 @@ pub fn text(alloc: Global, catalogue: &Catalogue, text: &str) -> Answer {
 
 /// What strict parsing makes of the canonical text of a text that the lax mode accepts.
 pub fn read_strictly(alloc: Global, catalogue: &Catalogue, text: &str) -> Answer {
-    let _accepted = Expression::parse_mode(alloc, catalogue, text, ParseMode::LAX)?;
-    let canonical = match Expression::canonicalize(alloc, catalogue, text)? {
+    let (_accepted, canonical) = Expression::parse_canonical(
+        alloc,
+        catalogue,
+        text,
+        ParseMode::LAX,
+    )?;
+    let canonical = match canonical {
         Some(canonical) => canonical,
         None => text.to_string(alloc)?,
     };
