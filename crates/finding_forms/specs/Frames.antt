@@ -22,7 +22,7 @@ framed frame line = string_bytes frame.before ++ (decimal line ++ string_bytes f
 abbrev pub IsFrame : Form → Told → Frame → Type 0
 IsFrame form t frame = (is_first : Bool) (line : ℕ) → finding_text form is_first (on_line t line) ≡ framed frame line
 
--- the forms in which the number stands once, and as plain text
+-- the forms whose findings have a frame
 abbrev pub has_frame : Form → Bool
 has_frame (Human style) = true
 has_frame Short = true
