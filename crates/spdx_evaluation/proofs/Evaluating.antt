@@ -11,6 +11,7 @@ use Rattle.spdx_parser.specs.Tree.{Tree, Node, Op, postfix, leaves, node_of}
 use Rattle.spdx_evaluation.specs.Truth.{joined, truth_of}
 use Rattle.spdx_evaluation.specs.Requirements.{requirements_in}
 use Rattle.spdx_evaluation.specs.Calls.{CallsGive, AsksFor, Evaluates}
+use Rattle.spdx_evaluation.specs.Postfix.{tree_in}
 use Rattle.spdx_evaluation.proofs.Nodes.{requirement_at, requirements_of_tree, requirements_in-append}
 use Rattle.spdx_evaluation.proofs.Machine.{stack_behind, LeavesOne, length-join_newest, stack_behind_postfix, leaves_one_postfix}
 
@@ -143,3 +144,10 @@ asks_of_tree S f g nodes t answers tree calls =
 -- as callers are told it
 pub evaluates : {F : Type 0} (S : F → LicenseReq → Bool → F → Type 0) (f g : F) (nodes : List ExprNode) (t : Tree) (truth : Bool) → map node_of nodes ≡ postfix t → Evaluated (CallsOn S) f nodes t g truth → Evaluates S f t truth g
 evaluates S f g nodes t truth tree v = (v.answers, asks_of_tree S f g nodes t v.answers tree v.calls, v.value)
+
+-- one requirement is its leaf, whose truth is the one answer
+pub evaluates_one : {F : Type 0} (S : F → LicenseReq → Bool → F → Type 0) (f g : F) (nodes : List ExprNode) (d : ExprNode) (r : ExpressionReq) (b : Bool)
+    → length nodes ≡ 1 → get_or nodes 0 d ≡ ExprNode.Req r → S f r.req b g → Evaluates S f (tree_in nodes) b g
+evaluates_one {F} S f g (n ∷ []) d r b one node called = subst (λ (z : ExprNode). Evaluates S f (tree_in (z ∷ [])) b g) (sym node) (b ∷ [], (g, (r.req, refl, called), refl), refl)
+evaluates_one S f g [] d r b one node called = cc
+evaluates_one S f g (n ∷ m ∷ ms) d r b one node called = absurd (omega (arith, one))
