@@ -1,6 +1,7 @@
 -- Truths in words: what a push and a pop do.
-use Rattle.std.proofs.Common.{◌≡◌, ℕ, zero, suc, ◌+◌, ◌-◌, ◌*◌, ◌/◌, ◌%◌, ◌<◌, ◌==◌, Bool, true, false, List, [], ◌∷◌, ◌++◌, length, refl, sym, ◌∙◌, ap, arith, add-one}
+use Rattle.std.proofs.Common.{◌≡◌, ℕ, zero, suc, ◌+◌, ◌-◌, ◌*◌, ◌/◌, ◌%◌, ◌^◌, ◌<◌, ◌≤◌, ◌==◌, Bool, true, false, List, [], ◌∷◌, ◌++◌, length, refl, sym, ◌∙◌, ap, arith, add-one}
 use Rattle.bit_stack.specs.Truths.{bits, word_bits, words_bits}
+use Rattle.std.proofs.Math.Nat.{pow-suc}
 use mir.Val.{bool_byte}
 
 pub length-bits : (n w : ℕ) (rest : List Bool) → length (bits n w rest) ≡ n + length rest
@@ -39,3 +40,18 @@ push_bit n w false rest =
     let e : (w * 2 + 0) % 2 ≡ 0 = omega arith in
     let d : (w * 2 + 0) / 2 ≡ w = omega arith in
     rw (add-one, e, d) refl
+
+pub pop_two_bits : (n w : ℕ) (rest : List Bool) → 2 ≤ n → bits n w rest ≡ (w % 2 == 1) ∷ (w / 2 % 2 == 1) ∷ bits (n - 2) (w / 4) rest
+pop_two_bits n w rest h =
+    let fewer : n - 1 - 1 ≡ n - 2 = omega arith in
+    let fourth : w / 2 / 2 ≡ w / 4 = omega arith in
+    pop_bit n w rest (omega arith)
+    ∙ ap (λ (z : List Bool). (w % 2 == 1) ∷ z) (pop_bit (n - 1) (w / 2) rest (omega arith))
+    ∙ ap (λ (m : ℕ). (w % 2 == 1) ∷ (w / 2 % 2 == 1) ∷ bits m (w / 2 / 2) rest) fewer
+    ∙ ap (λ (v : ℕ). (w % 2 == 1) ∷ (w / 2 % 2 == 1) ∷ bits (n - 2) v rest) fourth
+
+pub fourth_fits : (n w : ℕ) → 2 ≤ n → w < 2 ^ n → w / 4 < 2 ^ (n - 2)
+fourth_fits n w h fits =
+    let k : n ≡ suc (suc (n - 2)) = omega arith in
+    let more : 2 ^ n ≡ 2 ^ (n - 2) * 2 * 2 = ap (λ (m : ℕ). 2 ^ m) k ∙ pow-suc 2 (suc (n - 2)) ∙ ap (λ (m : ℕ). m * 2) (pow-suc 2 (n - 2)) in
+    omega (arith, more, fits)

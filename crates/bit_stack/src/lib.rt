@@ -92,6 +92,23 @@ impl Truths {
         }
     }
 
+    // Takes off the two newest truths, which nearly always lie in one word: the older one and the newer.
+    fn take_two(&mut self) -> (bool, bool)
+        requires { 2 ≤ length self.old.items }
+        ensures items { self.old.items ≡ result.1 ∷ result.0 ∷ self.new.items }
+        ensures room { self.new.room ≡ self.old.room }
+    {
+        if self.used < 2 {
+            let right = self.take();
+            return (self.take(), right);
+        }
+        let right = self.top % 2 == 1;
+        let left = self.top / 2 % 2 == 1;
+        self.top /= 4;
+        self.used -= 2;
+        (left, right)
+    }
+
     /// Puts in place of the two newest truths whether both hold.
     pub fn both(&mut self)
         requires two { 2 ≤ length self.old.items }
@@ -99,8 +116,7 @@ impl Truths {
         ensures items { self.new.items ≡ join_newest (λ left right. left && right) self.old.items }
         ensures room { self.new.room ≡ self.old.room }
     {
-        let right = self.take();
-        let left = self.take();
+        let (left, right) = self.take_two();
         self.push(left && right);
     }
 
@@ -111,8 +127,7 @@ impl Truths {
         ensures items { self.new.items ≡ join_newest (λ left right. left || right) self.old.items }
         ensures room { self.new.room ≡ self.old.room }
     {
-        let right = self.take();
-        let left = self.take();
+        let (left, right) = self.take_two();
         self.push(left || right);
     }
 

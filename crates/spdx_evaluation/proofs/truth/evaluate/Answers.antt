@@ -11,7 +11,7 @@ use Rattle.spdx_evaluation.proofs.truth.evaluate.Goals as goal
 pub returns-clause-ok : goal.returns-clause-ok
 returns-clause-ok g c =
     evaluates_one (CalledAt g.F.FnMut) c.args.f.now c.f.new.self c.args.nodes.now _ _ c.f.result
-        (omega (arith, c.in-len1.len_at_least, c.in-len1.len_below)) (sym c.node-item.is ∙ c.in-Req.is) (record { shown = _; shows = refl; called = c.f.ensures })
+    (omega (arith, c.in-len1.len_at_least, c.in-len1.len_below)) (sym c.node-item.is ∙ c.in-Req.is) (record { shown = _; shows = refl; called = c.f.ensures })
 
 pub returns-clause-by : goal.returns-clause-by
 returns-clause-by g c = λ h by. holds_by (CalledAt g.F.FnMut) c.args.f.now h by (tree_in c.args.nodes.now) c.f.result c.f.new.self (returns-clause-ok g c)
