@@ -1,5 +1,7 @@
-mod Tokens
+pub mod Tokens
 mod Names
+pub mod JsonLines
 mod JsonLaws
+pub mod SarifLogLaw
 mod SarifLaw
 mod OneLine

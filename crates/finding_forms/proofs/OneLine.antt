@@ -10,7 +10,7 @@ use Rattle.finding_forms.specs.Escapes.{is_obeyed, shown_char, escaped_char, esc
 use Rattle.finding_forms.specs.Finding.{Aid, nothing, write, names, Told, fault_column}
 use Rattle.finding_forms.specs.Forms.{IsOneLine, short_text, github_place, github_text}
 use Rattle.finding_forms.specs.Message.{helps, named, other_names, help_text, message_text, place_text}
-use Rattle.finding_forms.proofs.JsonLaws.{joined, one_line-digits_onto, one_line-decimal}
+use Rattle.finding_forms.proofs.JsonLines.{joined, one_line-digits_onto, one_line-decimal}
 
 when : (b : Bool) (xs ys : List ℕ) → (b ≡ true → HasNoNewline xs) → (b ≡ false → HasNoNewline ys) → HasNoNewline (cond b xs ys)
 when true xs ys h k = h refl

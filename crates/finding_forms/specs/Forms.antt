@@ -10,7 +10,8 @@ use Rattle.finding_forms.specs.Escapes.{escaped}
 use Rattle.finding_forms.specs.Finding.{Aid, Told, before_of, fault_of, fault_column}
 use Rattle.finding_forms.specs.Message.{helps, help_text, message_text, place_text}
 use Rattle.finding_forms.specs.Json.{HasNoNewline, json_line}
-use Rattle.finding_forms.specs.Sarif.{sarif_beginning, sarif_result, sarif_ending}
+use Rattle.finding_forms.specs.SarifLog.{sarif_beginning, sarif_ending}
+use Rattle.finding_forms.specs.Sarif.{sarif_result}
 
 -- ---- for people
 

@@ -3,6 +3,7 @@ pub mod Escapes
 pub mod Message
 pub mod Json
 pub mod JsonTokens
+pub mod SarifLog
 pub mod Sarif
 pub mod Forms
 pub mod Frames

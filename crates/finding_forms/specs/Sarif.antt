@@ -1,5 +1,5 @@
 -- Findings as a log of SARIF 2.1.0.
-use Rattle.std.specs.Prelude.{◌≡◌, ℕ, ◌^◌, ◌<◌, List, [], ◌∷◌, ◌++◌, Bool, true, false, if◌then◌else◌, Some, ⊤, codes, decimal}
+use Rattle.std.specs.Prelude.{◌≡◌, ℕ, ◌^◌, ◌<◌, List, [], ◌∷◌, ◌++◌, map, Some, ⊤, codes, decimal}
 use Rattle.json.specs.Json.{Json, number, string, array, object, document, Items, no_items, item, Members, no_members, member}
 use Rattle.json.specs.Token.{Token}
 use Rattle.json.specs.Print.{print}
@@ -8,9 +8,7 @@ use Rattle.finding_forms.specs.declared.escapes.Escape.TheVariants.{Raw, Path, R
 use Rattle.finding_forms.specs.Escapes.{escaped}
 use Rattle.finding_forms.specs.Finding.{Aid, nothing, write, names, Told, column_behind, fault_column, fault_of}
 use Rattle.finding_forms.specs.Message.{message_text}
-
-abbrev pub text_object : List ℕ → Json
-text_object text = object (member (codes "text") (string text) no_members)
+use Rattle.finding_forms.specs.SarifLog.{text_object, artifact, log_of, log_text}
 
 -- a part of a line, from its first column up to the column behind it
 abbrev pub region_members : ℕ → ℕ → List ℕ → Members → Members
@@ -23,9 +21,6 @@ region_members line column text more =
 abbrev pub region : ℕ → ℕ → List ℕ → Json
 region line column text =
     object (region_members line column text (member (codes "snippet") (text_object text) no_members))
-
-abbrev pub artifact : List ℕ → Json
-artifact path = object (member (codes "uri") (string path) no_members)
 
 -- the fault, within the whole expression
 abbrev pub location : List ℕ → Told → Json
@@ -76,55 +71,7 @@ region_tokens line column text =
     Token.key (codes "startLine") ∷ Token.number (decimal line) ∷ Token.key (codes "startColumn") ∷ Token.number (decimal column) ∷
     Token.key (codes "endColumn") ∷ Token.number (decimal (column_behind column text)) ∷ []
 
-abbrev pub tool_tokens : List ℕ → List Token
-tool_tokens version =
-    Token.key (codes "tool") ∷ Token.begin_object ∷ Token.key (codes "driver") ∷ Token.begin_object ∷
-    Token.key (codes "name") ∷ Token.string (codes "spdx") ∷ Token.key (codes "version") ∷ Token.string version ∷ Token.end_object ∷ Token.end_object ∷ []
-
--- up to the first result; columns count characters
-abbrev pub beginning_tokens : List ℕ → List Token
-beginning_tokens version =
-    (Token.begin_object ∷ Token.key (codes "$schema") ∷ Token.string (codes "https://json.schemastore.org/sarif-2.1.0.json") ∷ Token.key (codes "version") ∷ Token.string (codes "2.1.0") ∷
-    Token.key (codes "runs") ∷ Token.begin_array ∷ Token.begin_object ∷ []) ++ (tool_tokens version ++
-    (Token.key (codes "columnKind") ∷ Token.string (codes "unicodeCodePoints") ∷ Token.key (codes "results") ∷ Token.begin_array ∷ []))
-
-abbrev pub sarif_beginning : List ℕ → List ℕ
-sarif_beginning version = print (beginning_tokens version)
-
--- behind the last result
-abbrev pub sarif_closing : List ℕ
-sarif_closing = codes "]}]}"
-
-abbrev pub sarif_ending : List ℕ
-sarif_ending = sarif_closing ++ 10 ∷ []
-
 -- ---- the log as a whole
-
--- the findings as results
-abbrev pub results_of : List Told → Items
-results_of [] = no_items
-results_of (t ∷ ts) = item (result_of t) (results_of ts)
-
-abbrev pub tool : List ℕ → Json
-tool version =
-    object (member (codes "driver") (object
-    (member (codes "name") (string (codes "spdx")) (member (codes "version") (string version) no_members))) no_members)
-
--- the log of one run of a tool in this version, with these findings
-abbrev pub sarif_of : List ℕ → List Told → Json
-sarif_of version findings =
-    object
-    (member (codes "$schema") (string (codes "https://json.schemastore.org/sarif-2.1.0.json"))
-    (member (codes "version") (string (codes "2.1.0"))
-    (member (codes "runs") (array (item (object
-    (member (codes "tool") (tool version)
-    (member (codes "columnKind") (string (codes "unicodeCodePoints"))
-    (member (codes "results") (array (results_of findings)) no_members)))) no_items)) no_members)))
-
--- the results, as they are put one behind the other
-abbrev pub results_text : Bool → List Told → List ℕ
-results_text is_first [] = []
-results_text is_first (t ∷ ts) = ((if is_first then [] else 44 ∷ []) ++ sarif_result t) ++ results_text false ts
 
 -- the numbers of a finding are those of 64 bits
 pub record IsNumbered (t : Told) : Type 0 where
@@ -139,4 +86,4 @@ AreNumbered (t ∷ ts) = IsNumbered t × AreNumbered ts
 abbrev pub LogReadsBack : Type 0
 LogReadsBack =
     (version : List ℕ) (findings : List Told) → AreNumbered findings →
-    document (sarif_beginning version ++ (results_text true findings ++ sarif_closing)) ≡ Some (sarif_of version findings)
+    document (log_text version (map result_of findings)) ≡ Some (log_of version (map result_of findings))

@@ -4,7 +4,8 @@ ghost use Rattle.std.specs.Prelude.{◌≡◌, ◌++◌, ◌∷◌, [], OnOk, On
 ghost use Rattle.json.specs.Tree.{json_tokens, members_tokens};
 ghost use Rattle.finding_forms.specs.Finding.{told};
 ghost use Rattle.finding_forms.specs.Message.{message_text};
-ghost use Rattle.finding_forms.specs.Sarif.{LogReadsBack, artifact, fix, fix_members, location, region, region_tokens, replacement, result_of, sarif_beginning, sarif_ending, sarif_result, text_object, tool_tokens};
+ghost use Rattle.finding_forms.specs.Sarif.{LogReadsBack, fix, fix_members, location, region, region_tokens, replacement, result_of, sarif_result};
+ghost use Rattle.finding_forms.specs.SarifLog.{artifact, sarif_beginning, sarif_ending, text_object, tool_tokens};
 
 use crate::escapes::{Escape, escaped_text};
 use crate::findings::{Finding, Help, Place, column_behind};

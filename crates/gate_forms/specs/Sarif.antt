@@ -1,9 +1,9 @@
 -- Refused packages as a log of SARIF 2.1.0.
-use Rattle.std.specs.Prelude.{◌≡◌, ℕ, List, [], ◌∷◌, ◌++◌, Bool, true, false, if◌then◌else◌, Some, codes}
+use Rattle.std.specs.Prelude.{◌≡◌, ℕ, List, [], ◌∷◌, ◌++◌, Bool, if◌then◌else◌, map, Some, codes}
 use Rattle.json.specs.Json.{Json, string, array, object, document, Items, no_items, item, no_members, member}
 use Rattle.json.specs.Print.{print}
 use Rattle.json.specs.Tree.{json_tokens}
-use Rattle.finding_forms.specs.Sarif.{artifact, text_object, tool, sarif_beginning, sarif_closing}
+use Rattle.finding_forms.specs.SarifLog.{artifact, text_object, log_of, log_text}
 use Rattle.finding_forms.specs.declared.escapes.Escape.TheVariants.{Raw, Path}
 use Rattle.gate_forms.specs.declared.reports.Report.{Report}
 use Rattle.finding_forms.specs.Escapes.{escaped}
@@ -32,30 +32,8 @@ abbrev pub sarif_text : Bool → Report → List ℕ
 sarif_text is_first r =
     if is_refused r.verdict then (if is_first then [] else 44 ∷ []) ++ sarif_result r else []
 
--- ---- the log as a whole
-
-abbrev pub results_of : List Report → Items
-results_of [] = no_items
-results_of (r ∷ rs) = item (result_of r) (results_of rs)
-
--- the log of one run of a tool in this version, with these results
-abbrev pub sarif_of : List ℕ → List Report → Json
-sarif_of version reports =
-    object
-    (member (codes "$schema") (string (codes "https://json.schemastore.org/sarif-2.1.0.json"))
-    (member (codes "version") (string (codes "2.1.0"))
-    (member (codes "runs") (array (item (object
-    (member (codes "tool") (tool version)
-    (member (codes "columnKind") (string (codes "unicodeCodePoints"))
-    (member (codes "results") (array (results_of reports)) no_members)))) no_items)) no_members)))
-
--- the results, as they are put one behind the other
-abbrev pub results_text : Bool → List Report → List ℕ
-results_text is_first [] = []
-results_text is_first (r ∷ rs) = ((if is_first then [] else 44 ∷ []) ++ sarif_result r) ++ results_text false rs
-
 -- what is put for refused packages, but for the newline, reads back as their log
 abbrev pub LogReadsBack : Type 0
 LogReadsBack =
     (version : List ℕ) (refused : List Report) →
-    document (sarif_beginning version ++ (results_text true refused ++ sarif_closing)) ≡ Some (sarif_of version refused)
+    document (log_text version (map result_of refused)) ≡ Some (log_of version (map result_of refused))

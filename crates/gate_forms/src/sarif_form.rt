@@ -2,7 +2,7 @@
 
 ghost use Rattle.std.specs.Prelude.{◌≡◌, ◌++◌, ◌∷◌, [], OnOk, OnErr, IfOk, if◌then◌else◌};
 ghost use Rattle.json.specs.Tree.{json_tokens};
-ghost use Rattle.finding_forms.specs.Sarif.{artifact, text_object, sarif_beginning, sarif_ending};
+ghost use Rattle.finding_forms.specs.SarifLog.{artifact, text_object, sarif_beginning, sarif_ending};
 ghost use Rattle.gate_forms.specs.Report.{message_text};
 ghost use Rattle.gate_forms.specs.Sarif.{LogReadsBack, location, result_of, sarif_result, sarif_text};
 

@@ -1,6 +1,6 @@
 use Rattle.std.proofs.Common.{rules, ◌≡◌}
 use Rattle.json.specs.Print.{print}
-use Rattle.finding_forms.specs.Sarif.{beginning_tokens}
+use Rattle.finding_forms.specs.SarifLog.{beginning_tokens}
 use Rattle.finding_forms.proofs.Tokens.{begun, written}
 use Rattle.finding_forms.proofs.sarif_form.beginning.Goals as goal
 

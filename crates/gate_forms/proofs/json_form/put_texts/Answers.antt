@@ -1,5 +1,5 @@
 use Rattle.std.proofs.Common.{◌≤◌, length, arith}
-use Rattle.gate_forms.proofs.Tokens.{begun, written, texts_tokens_all}
+use Rattle.finding_forms.proofs.Tokens.{begun, written, texts_tokens_all}
 use Rattle.gate_forms.proofs.json_form.put_texts.Goals as goal
 
 pub returns-clause-tokens : goal.returns-clause-tokens

@@ -1,4 +1,4 @@
-use Rattle.gate_forms.proofs.Tokens.{begun, written}
+use Rattle.finding_forms.proofs.Tokens.{begun, written}
 use Rattle.gate_forms.proofs.json_form.put_verdict_members.Goals as goal
 
 pub returns-clause-tokens : goal.returns-clause-tokens

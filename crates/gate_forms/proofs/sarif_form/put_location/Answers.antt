@@ -1,9 +1,9 @@
 use Rattle.std.proofs.Common.{◌≡◌, ℕ, List, ◌++◌, ◌∙◌, subst}
 use Rattle.json.specs.Tree.{json_tokens}
-use Rattle.finding_forms.specs.Sarif.{artifact}
+use Rattle.finding_forms.specs.SarifLog.{artifact}
 use Rattle.finding_forms.specs.Escapes.{escaped}
 use Rattle.finding_forms.specs.declared.escapes.Escape.TheVariants.{Path}
-use Rattle.gate_forms.proofs.Tokens.{begun, written}
+use Rattle.finding_forms.proofs.Tokens.{begun, written}
 use Rattle.gate_forms.proofs.sarif_form.put_location.Goals as goal
 
 pub returns-clause-tokens : goal.returns-clause-tokens
