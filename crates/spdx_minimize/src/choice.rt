@@ -4,7 +4,7 @@ ghost use Rattle.std.specs.Prelude.{◌≡◌, IfOk, IfErr, length, map};
 ghost use Rattle.spdx_requirement.specs.Failures.{IfRefused};
 ghost use Rattle.spdx_requirement.specs.Items.{requirement_of};
 ghost use Rattle.spdx_evaluation.specs.Requirements.{nows};
-ghost use Rattle.spdx_minimize.specs.Choice.{useful, chosen, chosen_of, choice_of, IsLeastChoice};
+ghost use Rattle.spdx_minimize.specs.Choice.{useful, chosen, chosen_of, choice_of, choice_among, IsLeastChoice};
 ghost use Rattle.spdx_minimize.specs.MinimizeFaults.{refused_choice};
 ghost use Rattle.spdx_minimize.specs.Trees.{trees_in};
 
@@ -48,6 +48,23 @@ pub fn least_choice<'a, 'c: 'a>(
         (map requirement_of reqs.items)) }
 {
     let members = useful_members(alloc, lists, accepted)?;
+    choice_among_members(alloc, lists, members.as_slice())
+}
+
+// The same choice among these members, which are the useful licensees.
+pub(crate) fn choice_among_members<'a, 'c: 'a>(
+    alloc: Global,
+    lists: &[TreeNodes<'a, 'c>],
+    members: &[&'a Licensee<'c>],
+) -> Result<Vec<LicenseReq<'c>>, Failure<MinimizeError>>
+    ensures ok { IfOk result (λ reqs.
+        choice_among (trees_in lists.now) (nows members.now)
+        ≡ chosen (map requirement_of reqs.items)) }
+    ensures err { IfErr result (IfRefused (λ e.
+        choice_among (trees_in lists.now) (nows members.now) ≡ refused_choice e)) }
+    ensures least { IfOk result (λ reqs.
+        IsLeastChoice (trees_in lists.now) (nows members.now) (map requirement_of reqs.items)) }
+{
     let count = members.len();
     if count == 0 && !lists.is_empty() {
         return Err(Failure::Refused(MinimizeError::RequirementsUnmet));
@@ -55,13 +72,13 @@ pub fn least_choice<'a, 'c: 'a>(
     if count > 1024 {
         return Err(Failure::Refused(MinimizeError::TooManyRequirements(count)));
     }
-    let mut judge = NodesJudge::new(alloc, lists, members.as_slice())?;
+    let mut judge = NodesJudge::new(alloc, lists, members)?;
     let mut selection = Vec::from_elem(alloc, false, count)?;
     let places = selection.as_mut_slice();
     if !least_selection(&mut judge, places) {
         return Err(Failure::Refused(MinimizeError::RequirementsUnmet));
     }
-    Ok(chosen_requirements(alloc, members.as_slice(), places)?)
+    Ok(chosen_requirements(alloc, members, places)?)
 }
 
 // The requirements of the chosen members.

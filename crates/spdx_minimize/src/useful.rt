@@ -71,7 +71,7 @@ fn satisfies_one(licensee: &Licensee<'_>, nodes: &[ExprNode<'_>]) -> bool
 }
 
 // Whether the licensee satisfies the requirement. Of most pairs the rows alone say that it does not.
-fn satisfies(licensee: &Licensee<'_>, requirement: &LicenseReq<'_>) -> bool
+pub(crate) fn satisfies(licensee: &Licensee<'_>, requirement: &LicenseReq<'_>) -> bool
     ensures { result ≡ spec.satisfies licensee.now (requirement_of requirement.now) }
 {
     may_cover(&licensee.req().license, &requirement.license) && licensee.satisfies(requirement)
