@@ -1,9 +1,10 @@
 -- The places of the members that satisfy a requirement, against the members themselves.
-use Rattle.std.proofs.Common.{◌≡◌, ℕ, zero, suc, ◌+◌, ◌<◌, ◌≤◌, Bool, true, false, ◌&&◌, ◌||◌, cond, List, [], ◌∷◌, ◌++◌, length, drop, map, refl, ◌∙◌, ap, arith, get_or}
+use Rattle.std.proofs.Common.{◌≡◌, ℕ, zero, suc, ◌+◌, ◌<◌, ◌≤◌, Bool, true, false, ◌&&◌, ◌||◌, cond, List, [], ◌∷◌, ◌++◌, ◌-◌, length, take, drop, map, refl, ◌∙◌, ap, arith, get_or}
 use native.Mathlib.Numerals.{unary_clauses}
 use Rattle.std.specs.List.{list_all}
-use Rattle.std.proofs.lemmas.List.{length-map}
-use Rattle.std.specs.Global.{Vec}
+use Rattle.std.proofs.lemmas.List.{length-map, map-append, length-append, length-drop, drop-append-le, take-append-le, drop_all, take_all}
+use Rattle.std.specs.List.{All}
+use Rattle.std.proofs.lemmas.List.Elements.{All-head, All-tail, All-same, All-push, All-weaker}
 use Rattle.spdx_requirement.specs.Items.{Requirement, requirement_of}
 use Rattle.spdx_parser.specs.declared.node.ExpressionReq.{ExpressionReq}
 use Rattle.spdx_parser.specs.declared.node.ExprNode.{ExprNode}
@@ -13,8 +14,9 @@ use Rattle.spdx_evaluation.specs.Requirements.{requirements_in}
 use Rattle.spdx_evaluation.specs.Truth.{truth_of}
 use Rattle.spdx_minimize.specs.Choice.{any_chosen, suffices_for}
 use Rattle.spdx_evaluation.specs.Truth.{holds}
+use Rattle.spdx_minimize.specs.declared.question.Part.{Part}
 use Rattle.spdx_minimize.specs.declared.question.Question.{Question}
-use Rattle.spdx_minimize.specs.Places.{places_from, places, places_in, any_at, question_tree, met_by, IsOver, answered, longest}
+use Rattle.spdx_minimize.specs.Places.{places_from, places, places_in, any_at, question_tree, part_of, met_by, IsOver, answered, longest}
 use Rattle.spdx_evaluation.proofs.Nodes.{requirement_at, requirements_of_tree}
 
 none_chosen : (ms : List Requirement) (r : Requirement) → any_chosen ms [] r ≡ false
@@ -68,13 +70,51 @@ places_of_tree ms nodes t e = placed_each ms (requirements_in nodes) ∙ ap (λ 
 
 -- one answer for each requirement
 pub each_answer : (selection : List Bool) (q : Question) → length (map (any_at selection) (met_by q)) ≡ length (leaves (question_tree q))
-each_answer selection q = length-map (met_by q) (any_at selection) ∙ length-map q.met_by.items (λ v. v.items) ∙ q.each
+each_answer selection q = length-map (met_by q) (any_at selection) ∙ length-map q.parts.items (part_of q.places.items) ∙ q.each
 
 -- the answer at one place
-pub answer_at : (selection : List Bool) (vs : List (Vec ℕ)) (i : ℕ) (d : Vec ℕ) → i < length vs → any_at selection (get_or vs i d).items ≡ get_or (map (any_at selection) (map (λ v. v.items) vs)) i false
-answer_at selection [] i d h = absurd (omega arith)
-answer_at selection (v ∷ vs) zero d h = refl
-answer_at selection (v ∷ vs) (suc i) d h = answer_at selection vs i d (omega arith)
+pub answer_at : (selection : List Bool) (ks : List ℕ) (ps : List Part) (i : ℕ) (d : Part) → i < length ps → any_at selection (part_of ks (get_or ps i d)) ≡ get_or (map (any_at selection) (map (part_of ks) ps)) i false
+answer_at selection ks [] i d h = absurd (omega arith)
+answer_at selection ks (p ∷ ps) zero d h = refl
+answer_at selection ks (p ∷ ps) (suc i) d h = answer_at selection ks ps i d (omega arith)
+
+-- a part lies within so many places
+abbrev pub IsWithin : ℕ → Part → Type 0
+IsWithin n p = (p.start ≤ p.end) × (p.end ≤ n)
+
+-- it is the same where more places follow
+part_more : (ks more : List ℕ) (p : Part) → IsWithin (length ks) p → part_of (ks ++ more) p ≡ part_of ks p
+part_more ks more p h =
+    ap (take (p.end - p.start)) (drop-append-le p.start ks more (omega (arith, h.0, h.1)))
+    ∙ take-append-le (p.end - p.start) (drop p.start ks) more (omega (arith, h.0, h.1, length-drop p.start ks))
+
+parts_more : (ks more : List ℕ) (ps : List Part) → All (IsWithin (length ks)) ps → map (part_of (ks ++ more)) ps ≡ map (part_of ks) ps
+parts_more ks more [] h = refl
+parts_more ks more (p ∷ ps) h =
+    ap (λ (z : List ℕ). z ∷ map (part_of (ks ++ more)) ps) (part_more ks more p (All-head (IsWithin (length ks)) p ps h))
+    ∙ ap (λ (z : List (List ℕ)). part_of ks p ∷ z) (parts_more ks more ps (All-tail (IsWithin (length ks)) p ps h))
+
+-- the places that are new are the last part
+last_part : (ks more : List ℕ) (p : Part) → p.start ≡ length ks → p.end ≡ length (ks ++ more) → part_of (ks ++ more) p ≡ more
+last_part ks more p start end =
+    let from : drop p.start (ks ++ more) ≡ more = ap (λ (n : ℕ). drop n (ks ++ more)) start ∙ drop-append-le (length ks) ks more (omega arith) ∙ ap (λ (z : List ℕ). z ++ more) (drop_all (length ks) ks (omega arith)) in
+    ap (take (p.end - p.start)) from ∙ take_all (p.end - p.start) more (omega (arith, start, end, length-append ks more))
+
+pub one_part : (ks more new : List ℕ) (ps parts : List Part) (p : Part) → new ≡ ks ++ more → parts ≡ ps ++ p ∷ [] → p.start ≡ length ks → p.end ≡ length new → All (IsWithin (length ks)) ps
+    → map (part_of new) parts ≡ map (part_of ks) ps ++ more ∷ []
+one_part ks more new ps parts p longer added start end within =
+    ap (λ (z : List ℕ). map (part_of z) parts) longer
+    ∙ ap (map (part_of (ks ++ more))) added
+    ∙ map-append (part_of (ks ++ more)) ps (p ∷ [])
+    ∙ ap (λ (z : List (List ℕ)). z ++ part_of (ks ++ more) p ∷ []) (parts_more ks more ps within)
+    ∙ ap (λ (z : List ℕ). map (part_of ks) ps ++ z ∷ []) (last_part ks more p start (end ∙ ap length longer))
+
+pub each_within : (ks more new : List ℕ) (ps parts : List Part) (p : Part) → new ≡ ks ++ more → parts ≡ ps ++ p ∷ [] → p.start ≡ length ks → p.end ≡ length new → All (IsWithin (length ks)) ps
+    → All (IsWithin (length new)) parts
+each_within ks more new ps parts p longer added start end within =
+    let grown : length ks ≤ length new = omega (arith, ap length longer, length-append ks more) in
+    All-same (IsWithin (length new)) parts (ps ++ p ∷ []) added
+    (All-push (IsWithin (length new)) ps p (All-weaker (IsWithin (length ks)) (IsWithin (length new)) (λ q h. (h.0, omega (arith, h.1, grown))) ps within) (omega (arith, start, end, grown), omega (arith, end)))
 
 -- each question fits where the longest does
 pub each_fits : (qs : List Question) (i : ℕ) (d : Question) → i < length qs → length (get_or qs i d).nodes.now ≤ longest qs

@@ -1,5 +1,5 @@
 -- What a judge of selections keeps of expressions and members.
-use Rattle.std.specs.Prelude.{◌≡◌, ℕ, ◌+◌, Bool, false, cond, List, [], ◌∷◌, ◌++◌, length, map, max, slice_index_or}
+use Rattle.std.specs.Prelude.{◌≡◌, ℕ, ◌+◌, Bool, false, cond, List, [], ◌∷◌, ◌++◌, length, map, max, slice_index_or, slice_range}
 use Rattle.std.specs.List.{list_any}
 use Rattle.spdx_requirement.specs.Items.{Requirement, requirement_of}
 use Rattle.spdx_parser.specs.declared.node.ExprNode.{ExprNode}
@@ -8,6 +8,7 @@ use Rattle.spdx_licensee.specs.Satisfies.{satisfies}
 use Rattle.spdx_evaluation.specs.Postfix.{tree_in}
 use Rattle.spdx_evaluation.specs.Requirements.{requirements_in}
 use Rattle.spdx_evaluation.specs.Truth.{truth_of}
+use Rattle.spdx_minimize.specs.declared.question.Part.{Part}
 use Rattle.spdx_minimize.specs.declared.question.Question.{Question}
 
 -- the places, counted from k, of those that pass the test
@@ -30,9 +31,13 @@ any_at selection ks = list_any (λ k. slice_index_or selection k false) ks
 abbrev pub question_tree : Question → Tree
 question_tree q = tree_in q.nodes.now
 
--- the places that a question keeps
+-- a part of some places
+abbrev pub part_of : List ℕ → Part → List ℕ
+part_of ks p = slice_range ks p.start p.end
+
+-- the places that a question keeps for each requirement
 abbrev pub met_by : Question → List (List ℕ)
-met_by q = map (λ v. v.items) q.met_by.items
+met_by q = map (part_of q.places.items) q.parts.items
 
 -- they are those of the members that satisfy each requirement
 abbrev pub IsOver : List Requirement → List Question → Type 0

@@ -1,16 +1,17 @@
 //! Judging selections of licensees.
 
-ghost use Rattle.std.specs.Prelude.{◌≡◌, ◌≤◌, IfOk, length, map};
+ghost use Rattle.std.specs.Prelude.{◌≡◌, ◌≤◌, ◌++◌, IfOk, OnOk, length, map};
 ghost use Rattle.std.specs.List.{list_all};
 ghost use Rattle.spdx_requirement.specs.Items.{requirement_of};
 ghost use Rattle.spdx_parser.specs.Tree.{leaves, node_of};
 ghost use Rattle.spdx_evaluation.specs.Postfix.{IsPostfix, tree_in};
 ghost use Rattle.spdx_evaluation.specs.Requirements.{nows};
 ghost use Rattle.spdx_minimize.specs.Trees.{trees_in};
-ghost use Rattle.spdx_minimize.specs.Places.{places, places_in, met_by, any_at, question_tree, IsOver, answered, longest};
+ghost use Rattle.spdx_minimize.specs.Places.{places, met_by, any_at, question_tree, IsOver, answered, longest};
 
 use crate::nodes::TreeNodes;
-use crate::question::Question;
+use crate::question::{Part, PartList, PlaceList, Question};
+use crate::useful::satisfies;
 use bit_stack::Truths;
 use spdx_catalogue::LicenseReq;
 use spdx_licensee::Licensee;
@@ -122,44 +123,38 @@ fn question_of<'a, 'c>(
     ensures met_by { IfOk result (λ question.
         met_by question ≡ map (places (nows members.now)) (leaves (tree_in nodes.now))) }
 {
-    let met_by = members_by_node(alloc, members, nodes)?;
-    Ok(Question { nodes, met_by })
-}
-
-// For each requirement among the nodes the places of the members that satisfy it.
-fn members_by_node(
-    alloc: Global,
-    members: &[&Licensee<'_>],
-    nodes: &[ExprNode<'_>],
-) -> Result<Vec<Vec<usize>>, AllocError>
-    ensures { IfOk result (λ met_by.
-        map (λ v. v.items) met_by.items ≡ places_in (nows members.now) nodes.now) }
-{
-    let mut met_by = Vec::new(alloc);
+    let mut places = PlaceList::new(alloc);
+    let mut parts = PartList::new(alloc);
     for node in nodes {
         if let ExprNode::Req(requirement) = node {
-            met_by.push(places_of(alloc, members, &requirement.req)?)?;
+            let start = places.len();
+            push_places(&mut places, members, &requirement.req)?;
+            let end = places.len();
+            parts.push(Part { start, end })?;
         }
     }
-    Ok(met_by)
+    Ok(Question {
+        nodes,
+        places,
+        parts,
+    })
 }
 
-// The places of the members that satisfy the requirement.
-fn places_of(
-    alloc: Global,
+// Appends the places of the members that satisfy the requirement.
+fn push_places(
+    found: &mut PlaceList,
     members: &[&Licensee<'_>],
     requirement: &LicenseReq<'_>,
-) -> Result<Vec<usize>, AllocError>
-    ensures { IfOk result (λ found.
-        found.items ≡ places (nows members.now) (requirement_of requirement.now)) }
+) -> Result<(), AllocError>
+    ensures { OnOk result (found.new.items
+        ≡ found.old.items ++ places (nows members.now) (requirement_of requirement.now)) }
 {
-    let mut found = Vec::new(alloc);
     for place in 0..members.len() {
-        if members[place].satisfies(requirement) {
+        if satisfies(members[place], requirement) {
             found.push(place)?;
         }
     }
-    Ok(found)
+    Ok(())
 }
 
 // The nodes of the longest.
@@ -194,13 +189,16 @@ fn is_true(truths: &mut Truths, question: &Question<'_, '_>, selection: &[bool])
     ensures room { truths.new.room ≡ truths.old.room }
 {
     let nodes = question.nodes;
-    let met_by = question.met_by.as_slice();
+    let places = question.places.as_slice();
+    let parts = question.parts.as_slice();
     let mut leaf = 0;
     truths.clear();
     for node in nodes {
         match node {
             ExprNode::Req(_) => {
-                truths.push(is_any_chosen(met_by[leaf].as_slice(), selection));
+                let part = &parts[leaf];
+                let meeting = &places[part.start..part.end];
+                truths.push(is_any_chosen(meeting, selection));
                 leaf += 1;
             }
             ExprNode::Op(Operator::And) => truths.both(),

@@ -1,8 +1,8 @@
 use Rattle.std.proofs.Common.{rules, arith, sym, ◌∙◌, ap, ◌≡◌, ◌<◌, ℕ, Bool, List, ◌∷◌, length, map, get_or, false}
-use Rattle.std.specs.Global.{Vec}
+use Rattle.spdx_minimize.specs.declared.question.Part.{Part}
 use Rattle.spdx_parser.specs.declared.node.Operator.TheVariants.{And, Or}
 use Rattle.spdx_parser.specs.declared.node.ExprNode.TheVariants.{Op}
-use Rattle.spdx_minimize.specs.Places.{met_by, any_at, question_tree}
+use Rattle.spdx_minimize.specs.Places.{part_of, met_by, any_at, question_tree}
 use Rattle.spdx_minimize.proofs.Asking.{begins, leaf_there, reads_requirement, reads_operator, finishes}
 use Rattle.spdx_minimize.proofs.Places.{each_answer, answer_at}
 use Rattle.spdx_minimize.proofs.judge.is_true.Goals as goal
@@ -21,12 +21,14 @@ loop-node-preserved c = elim c.match-node.branch [
   | in-Req w ↦
       let node = sym c.node-item.is ∙ w.in-Req.is in
       let there = leaf_there _ _ _ _ _ _ _ c.loop-node.invariant.so_far c.loop-node-test.true node in
-      let here : any_at c.args.selection.now w.as_slice.result.now ≡ get_or (map (any_at c.args.selection.now) (met_by c.args.question.now)) c.loop-node.leaf false =
       let q = c.args.question.now in
-      let within : c.loop-node.leaf < length q.met_by.items = omega (arith, there, each_answer c.args.selection.now q, q.each) in
-      let list : w.as_slice.result.now ≡ (get_or q.met_by.items c.loop-node.leaf w.index-met_by-leaf.result).items =
-      w.as_slice.ensures.value ∙ ap (λ (v : Vec ℕ). v.items) (w.index-met_by-leaf.is ∙ ap (λ (z : List (Vec ℕ)). get_or z c.loop-node.leaf w.index-met_by-leaf.result) c.as_slice-met_by.ensures.value) in
-      ap (any_at c.args.selection.now) list ∙ answer_at c.args.selection.now q.met_by.items c.loop-node.leaf _ within in
+      let within : c.loop-node.leaf < length q.parts.items = omega (arith, there, each_answer c.args.selection.now q, q.each) in
+      let none : Part = record { start = 0; end = 0 } in
+      let leaf = c.loop-node.leaf in
+      let here : any_at c.args.selection.now (part_of c.as_slice-places.result.now (get_or c.as_slice-parts.result.now leaf none)) ≡ get_or (map (any_at c.args.selection.now) (met_by q)) leaf false =
+      ap (λ (z : List ℕ). any_at c.args.selection.now (part_of z (get_or c.as_slice-parts.result.now leaf none))) c.as_slice-places.ensures
+      ∙ ap (λ (z : List Part). any_at c.args.selection.now (part_of q.places.items (get_or z leaf none))) c.as_slice-parts.ensures
+      ∙ answer_at c.args.selection.now q.places.items q.parts.items leaf none within in
       rw (w.leaf-is, w.truths-is) record {
         so_far = reads_requirement _ _ _ _ _ _ _ _ c.loop-node.invariant.so_far c.loop-node-test.true node
             (w.push.ensures.items ∙ ap (λ (b : Bool). b ∷ c.loop-node.truths.items) (w.is_any_chosen.ensures ∙ here)) w.push.ensures.room;
