@@ -96,7 +96,7 @@ impl<'a, 'c: 'a> Sufficiency for NodesJudge<'a, 'c> {
 }
 
 // The questions of these expressions to these members.
-fn questions_of<'a, 'c>(
+pub(crate) fn questions_of<'a, 'c>(
     alloc: Global,
     lists: &[TreeNodes<'a, 'c>],
     members: &[&Licensee<'_>],
@@ -113,7 +113,7 @@ fn questions_of<'a, 'c>(
 }
 
 // The question of this expression to these members.
-fn question_of<'a, 'c>(
+pub(crate) fn question_of<'a, 'c>(
     alloc: Global,
     nodes: &'a [ExprNode<'c>],
     members: &[&Licensee<'_>],
@@ -158,7 +158,7 @@ fn push_places(
 }
 
 // The nodes of the longest.
-fn longest_of(questions: &[Question<'_, '_>]) -> usize
+pub(crate) fn longest_of(questions: &[Question<'_, '_>]) -> usize
     ensures { result ≡ longest questions.now }
 {
     let mut most = 0;
@@ -169,7 +169,11 @@ fn longest_of(questions: &[Question<'_, '_>]) -> usize
 }
 
 // Whether the selection makes every expression true.
-fn are_all_true(truths: &mut Truths, questions: &[Question<'_, '_>], selection: &[bool]) -> bool
+pub(crate) fn are_all_true(
+    truths: &mut Truths,
+    questions: &[Question<'_, '_>],
+    selection: &[bool],
+) -> bool
     requires { longest questions.now ≤ truths.old.room }
     ensures answer { result ≡ list_all (answered selection.now) questions.now }
     ensures room { truths.new.room ≡ truths.old.room }

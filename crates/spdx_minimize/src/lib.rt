@@ -2,6 +2,7 @@
 #![tactic(auto)]
 
 pub mod choice;
+mod held;
 pub mod judge;
 pub mod laws;
 pub mod nodes;
