@@ -3,3 +3,4 @@ pub mod Asking
 pub mod Places
 pub mod Chosen
 pub mod Doubles
+pub mod FirstPlaces

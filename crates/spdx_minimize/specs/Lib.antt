@@ -6,3 +6,5 @@ pub mod MinimizeFaults
 pub mod Trees
 pub mod Places
 pub mod JudgeModel
+pub mod FirstPlaces
+pub mod AcceptedModel

@@ -37,7 +37,7 @@ pub(crate) fn useful_members<'a, 'c>(
 }
 
 // Whether one of these is the same licensee.
-fn is_among(licensee: &Licensee<'_>, others: &[Licensee<'_>]) -> bool
+pub(crate) fn is_among(licensee: &Licensee<'_>, others: &[Licensee<'_>]) -> bool
     ensures { result ≡ list_any (λ b. same_requirement b licensee.now) others.now }
 {
     others.iter().any(|other| other == licensee)
