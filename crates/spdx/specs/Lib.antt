@@ -56,6 +56,7 @@ pub use Rattle.spdx_evaluation.specs.Calls
 pub use Rattle.spdx_evaluation.specs.Postfix
 pub use Rattle.spdx_evaluation.specs.Requirements
 pub use Rattle.spdx_evaluation.specs.Truth
+pub use Rattle.spdx_minimize.specs.AcceptedModel
 pub use Rattle.spdx_minimize.specs.Choice
 pub use Rattle.spdx_minimize.specs.Doubles
 pub use Rattle.spdx_minimize.specs.GrowthLaws

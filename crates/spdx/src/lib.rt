@@ -22,4 +22,5 @@ pub use spdx_catalogue::{
 };
 pub use spdx_lexer::token::ParseMode;
 pub use spdx_licensee::Licensee;
+pub use spdx_minimize::AcceptedLicensees;
 pub use sufficiency::{Sufficiency, least_selection};

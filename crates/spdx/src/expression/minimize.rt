@@ -4,6 +4,7 @@ ghost use Rattle.std.specs.Prelude.{◌≡◌, [], ◌∷◌, IfOk, IfErr, map};
 ghost use Rattle.spdx_requirement.specs.Failures.{IfRefused};
 ghost use Rattle.spdx_requirement.specs.Items.{requirement_of};
 ghost use Rattle.spdx_minimize.specs.Choice.{useful, chosen, choice_of, IsLeastChoice};
+ghost use Rattle.spdx_minimize.specs.AcceptedModel.{licensees_of};
 ghost use Rattle.spdx_minimize.specs.MinimizeFaults.{refused_choice};
 ghost use Rattle.spdx.specs.Value.{trees_of};
 
@@ -12,7 +13,7 @@ use crate::expression::judge::nodes_of_all;
 use spdx_catalogue::{Failure, LicenseReq};
 use spdx_error::MinimizeError;
 use spdx_licensee::Licensee;
-use spdx_minimize::{TreeNodes, least_choice};
+use spdx_minimize::{AcceptedLicensees, TreeNodes, least_choice};
 use std::alloc::Global;
 use std::slice;
 
@@ -38,6 +39,32 @@ impl<'c> Expression<'c> {
     {
         let list = TreeNodes::new(self.nodes());
         least_choice(alloc, slice::from_ref(&list), accepted)
+    }
+
+    /// The same of the licensees of a run, which remember who satisfies which requirement.
+    ///
+    /// A requirement that is remembered costs what the licensees do that satisfy it, and not what all
+    /// of them do; another one is compared with each licensee, and remembered if it has no reference.
+    ///
+    /// # Errors
+    ///
+    /// Those of [`minimized_for_all`]. The licensees are as before, and may be used again.
+    pub fn minimized_among(
+        &self,
+        alloc: Global,
+        accepted: &mut AcceptedLicensees<'_, 'c>,
+    ) -> Result<Vec<LicenseReq<'c>>, Failure<MinimizeError>>
+        ensures ok { IfOk result (λ reqs. choice_of (self.now.tree ∷ []) (licensees_of accepted.old)
+            ≡ chosen (map requirement_of reqs.items)) }
+        ensures err { IfErr result (IfRefused (λ e.
+            choice_of (self.now.tree ∷ []) (licensees_of accepted.old) ≡ refused_choice e)) }
+        ensures least { IfOk result (λ reqs. IsLeastChoice (self.now.tree ∷ [])
+            (useful (self.now.tree ∷ []) (licensees_of accepted.old))
+            (map requirement_of reqs.items)) }
+        ensures licensees { licensees_of accepted.new ≡ licensees_of accepted.old }
+    {
+        let list = TreeNodes::new(self.nodes());
+        accepted.least_choice(alloc, slice::from_ref(&list))
     }
 }
 
