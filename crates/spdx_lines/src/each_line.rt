@@ -1,6 +1,7 @@
 // Answers to lines one by one.
 
 ghost use Rattle.std.specs.Prelude.{◌≡◌, [], ◌++◌, IfOk, OnOk};
+ghost use Rattle.spdx_minimize.specs.AcceptedModel.{licensees_of};
 ghost use Rattle.spdx_lines.specs.Found.{rule_of};
 ghost use Rattle.spdx_lines.specs.Remembered.{AreAnswers};
 
@@ -9,17 +10,19 @@ use crate::lines::LineMode;
 use crate::remembered::Remembered;
 use crate::text::put_choice;
 use line_engine::verdicts::Verdicts;
-use spdx::{Catalogue, Licensee};
+use spdx::{AcceptedLicensees, Catalogue, Licensee};
 use std::alloc::{AllocError, Global};
 
-/// Answers each line by itself. A line that came lately is answered as it was then.
+/// Answers each line by itself. A line that came lately is answered as it was then, and so are its
+/// requirements, as to which licensees satisfy them.
 #[derive(Drop)]
 pub(crate) struct EachLine<'r, 'c> {
     cat: &'c Catalogue,
     mode: LineMode,
-    accepted: &'r [Licensee<'c>],
+    accepted: AcceptedLicensees<'r, 'c>,
     remembered: Remembered,
-    ghost known: { AreAnswers (rule_of cat.now mode accepted.now) remembered.slots.items },
+    ghost known: { AreAnswers (rule_of cat.now mode (licensees_of accepted))
+        remembered.slots.items },
 }
 
 impl<'r, 'c> EachLine<'r, 'c> {
@@ -31,13 +34,15 @@ impl<'r, 'c> EachLine<'r, 'c> {
     ) -> EachLine<'r, 'c>
         ensures cat { result.cat.now ≡ cat.now }
         ensures mode { result.mode ≡ mode }
-        ensures accepted { result.accepted.now ≡ accepted.now }
+        ensures accepted { licensees_of result.accepted ≡ accepted.now }
     {
+        let accepted = AcceptedLicensees::new(alloc, accepted);
+        let remembered = Remembered::new(alloc);
         EachLine {
             cat,
             mode,
             accepted,
-            remembered: Remembered::new(alloc),
+            remembered,
         }
     }
 }
@@ -47,20 +52,21 @@ fn put_answer<'c>(
     alloc: Global,
     cat: &'c Catalogue,
     mode: LineMode,
-    accepted: &[Licensee<'c>],
+    accepted: &mut AcceptedLicensees<'_, 'c>,
     line: &[u8],
     text: &mut Vec<u8>,
 ) -> Result<bool, AllocError>
     ensures text { OnOk result (text.new.items
-        ≡ text.old.items ++ (rule_of cat.now mode accepted.now).text [] line.now) }
+        ≡ text.old.items ++ (rule_of cat.now mode (licensees_of accepted.old)).text [] line.now) }
     ensures refuses { IfOk result (λ refused.
-        refused ≡ (rule_of cat.now mode accepted.now).refuses line.now) }
+        refused ≡ (rule_of cat.now mode (licensees_of accepted.old)).refuses line.now) }
+    ensures licensees { licensees_of accepted.new ≡ licensees_of accepted.old }
 {
     match begin_answer(alloc, cat, mode, line, text)? {
         None => Ok(true),
         Some(expression) => {
             text.push(b'\t')?;
-            put_choice(text, expression.minimized_requirements(alloc, accepted))?;
+            put_choice(text, expression.minimized_among(alloc, accepted))?;
             text.push(b'\n')?;
             Ok(false)
         }
@@ -68,7 +74,8 @@ fn put_answer<'c>(
 }
 
 impl Verdicts for EachLine<'_, '_> {
-    ghost rule = { λ each. rule_of each.cat.now each.mode each.accepted.now };
+    ghost rule = { λ each.
+        rule_of each.cat.now each.mode (licensees_of each.accepted) };
 
     ghost HasAnswered = { λ _ _. Unit {0} };
 
@@ -83,7 +90,7 @@ impl Verdicts for EachLine<'_, '_> {
             return Ok(slot.is_refused());
         }
         let start = text.len();
-        let is_refused = put_answer(alloc, self.cat, self.mode, self.accepted, line, text)?;
+        let is_refused = put_answer(alloc, self.cat, self.mode, &mut self.accepted, line, text)?;
         self.remembered
             .keep(alloc, line, &text[start..], is_refused);
         Ok(is_refused)

@@ -2,6 +2,7 @@ use Rattle.std.proofs.Common.{◌≡◌, ◌∙◌, refl, ap, subst}
 use Rattle.line_engine.proofs.Splitting.{splits}
 use Rattle.line_engine.specs.Device.{devices}
 use Rattle.line_engine.specs.Runs.{Runs}
+use Rattle.spdx_minimize.specs.AcceptedModel.{licensees_of}
 use Rattle.spdx_lines.specs.Found.{rule_of, verdict}
 use Rattle.spdx_lines.proofs.Verdict.{the_verdict}
 use Rattle.spdx_lines.proofs.lines.run_in.Goals as goal
@@ -13,8 +14,8 @@ returns g c =
     let accepted = c.args.accepted.now in
     let each = c.new-each.result in
     let made = c.new-each.ensures in
-    let rule : rule_of each.cat.now each.mode each.accepted.now ≡ rule_of cat mode accepted =
-    ap (λ x. rule_of x each.mode each.accepted.now) made.cat ∙ ap (λ x. rule_of cat x each.accepted.now) made.mode ∙ ap (λ x. rule_of cat mode x) made.accepted in
+    let rule : rule_of each.cat.now each.mode (licensees_of each.accepted) ≡ rule_of cat mode accepted =
+    ap (λ x. rule_of x each.mode (licensees_of each.accepted)) made.cat ∙ ap (λ x. rule_of cat x (licensees_of each.accepted)) made.mode ∙ ap (λ x. rule_of cat mode x) made.accepted in
     let d = devices (g.I.Source.told c.args.input.now) (g.I.Source.told c.run_in.new.input) (g.O.Sink.told c.args.output.now) (g.O.Sink.told c.run_in.new.output) in
     record {
       verdict = verdict cat mode;
