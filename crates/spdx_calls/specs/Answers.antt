@@ -16,8 +16,8 @@ use Rattle.spdx_minimize.specs.Choice.{choice_of, chosen}
 use Rattle.spdx.specs.Meaning.{IsReadFrom}
 use Rattle.spdx.specs.Value.{Written}
 use Rattle.spdx_lines.specs.declared.lines.LineMode.{LineMode}
-use Rattle.spdx_lines.specs.Verdict.{Verdict}
-use Rattle.spdx_lines.specs.Lines.{AreTheVerdicts, rule_by}
+use Rattle.spdx_lines.specs.Verdict.{Verdict, IsTheVerdict}
+use Rattle.spdx_lines.specs.Lines.{rule_by}
 use Rattle.spdx_calls.specs.declared.buffer.Put.{Put}
 use Rattle.spdx_calls.specs.declared.texts.Answered.{Answered}
 use Rattle.spdx_calls.specs.Buffer.{IsPut}
@@ -74,6 +74,6 @@ pub record PutsLines (c : Rows) (mode : LineMode) (licensees input old new : Lis
   pub accepted : List Requirement
   pub named : AreNamed c (lines_of licensees) accepted
   pub verdict : List ℕ → Verdict
-  pub verdicts : AreTheVerdicts c mode verdict
+  pub verdicts : (line : List ℕ) → IsTheVerdict c mode line (verdict line)
   pub is_put : IsPut (output_of (rule_by verdict accepted) input) old new answer.put
   pub counts : answer.summary ≡ summary_of (rule_by verdict accepted) (lines_of input)

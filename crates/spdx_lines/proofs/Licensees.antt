@@ -5,7 +5,8 @@ use Rattle.spdx_requirement.specs.Rows.{Rows}
 use Rattle.spdx_requirement.specs.Items.{Requirement}
 use Rattle.spdx_lexer.specs.Words.{Fault, Span}
 use Rattle.spdx_licensee.specs.LicenseeText.{Names, IsLicenseeFault}
-use Rattle.spdx_lines.specs.Program.{Refusal, NoLicensee, texts_of, put_before, licensee_before, licensees_from}
+use Rattle.std.specs.Result.{result_map_both}
+use Rattle.spdx_lines.specs.Program.{Refusal, NoLicensee, texts_of, and_then, licensees_from}
 use Rattle.spdx_lines.specs.Found.{found, licensee_of}
 use Rattle.spdx_lines.proofs.Licensee.{the_licensee}
 
@@ -17,6 +18,14 @@ behind reqs (Err refusal) = Err refusal
 pub behind_none : (r : Result (List Requirement) Refusal) → r ≡ behind [] r
 behind_none (Ok others) = refl
 behind_none (Err refusal) = refl
+
+-- a licensee before the others
+abbrev put_before : Requirement → Result (List Requirement) Refusal → Result (List Requirement) Refusal
+put_before req r = and_then r (λ reqs. Ok (req ∷ reqs))
+
+-- the n-th licensee before the others, or its fault
+abbrev licensee_before : ℕ → Result Requirement (Fault × Span) → Result (List Requirement) Refusal → Result (List Requirement) Refusal
+licensee_before n r others = and_then (result_map_both (λ req. req) (λ fault. NoLicensee n fault.0 fault.1) r) (λ req. put_before req others)
 
 one_more : (reqs : List Requirement) (req : Requirement) (r : Result (List Requirement) Refusal) → behind reqs (put_before req r) ≡ behind (reqs ++ req ∷ []) r
 one_more reqs req (Ok others) = ap (λ (xs : List Requirement). let r : Result (List Requirement) Refusal = Ok xs in r) (sym (append_assoc reqs (req ∷ []) others))

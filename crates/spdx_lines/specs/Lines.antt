@@ -11,7 +11,7 @@ use Rattle.spdx_requirement.specs.Items.{Requirement}
 use Rattle.spdx_minimize.specs.Choice.{choice_of}
 use Rattle.spdx_minimize.specs.Doubles.{SameMembers}
 use Rattle.spdx_lines.specs.declared.lines.LineMode.{LineMode}
-use Rattle.spdx_lines.specs.Verdict.{Verdict, verdict_text, choice_column, no_column, counts_as_refused, trees_by, all_text, IsTheVerdict}
+use Rattle.spdx_lines.specs.Verdict.{Verdict, verdict_text, choice_column, counts_as_refused, trees_by, all_text, IsTheVerdict}
 
 -- each line gives the text of its verdict with its own choice, and nothing stands behind them all
 abbrev pub rule_by : (List ℕ → Verdict) → List Requirement → Rule
@@ -24,14 +24,10 @@ rule_by verdict accepted = record {
 -- each line gives the text of its verdict without a choice, and behind them all stands the one for all accepted ones
 abbrev pub rule_by_all : (List ℕ → Verdict) → List Requirement → Rule
 rule_by_all verdict accepted = record {
-  text = λ before line. verdict_text no_column (verdict line);
+  text = λ before line. verdict_text (λ t. []) (verdict line);
   refuses = λ line. counts_as_refused (verdict line);
   closing = λ lines. all_text (choice_of (trees_by verdict lines) accepted);
 }
-
--- these are the verdicts of lines, and there are no others
-abbrev pub AreTheVerdicts : Rows → LineMode → (List ℕ → Verdict) → Type 0
-AreTheVerdicts c mode verdict = (line : List ℕ) → IsTheVerdict c mode line (verdict line)
 
 -- what stands behind all lines sees which lines there are, and not how often or in what order
 abbrev pub ClosesAlike : Rule → Type 0
@@ -40,13 +36,13 @@ ClosesAlike rule = (lines others : List (List ℕ)) → SameMembers lines others
 -- the run answers each line by its verdict and its own choice; an input cut behind newlines is answered piece by piece
 pub record RunsByLine (c : Rows) (mode : LineMode) (accepted : List Requirement) (d : Devices) (result : Result Summary RunFault) : Type 0 where
   pub verdict : List ℕ → Verdict
-  pub verdicts : AreTheVerdicts c mode verdict
+  pub verdicts : (line : List ℕ) → IsTheVerdict c mode line (verdict line)
   pub splits : SplitsAtLines (rule_by verdict accepted)
   pub runs : Runs (rule_by verdict accepted) d result
 
 -- the run answers each line by its verdict, and gives one choice for all of them, doubled or not
 pub record RunsForAll (c : Rows) (mode : LineMode) (accepted : List Requirement) (d : Devices) (result : Result Summary RunFault) : Type 0 where
   pub verdict : List ℕ → Verdict
-  pub verdicts : AreTheVerdicts c mode verdict
+  pub verdicts : (line : List ℕ) → IsTheVerdict c mode line (verdict line)
   pub doubles : ClosesAlike (rule_by_all verdict accepted)
   pub runs : Runs (rule_by_all verdict accepted) d result

@@ -89,9 +89,6 @@ verdict_text behind BadUtf8 = codes "bad-utf8" ++ 10 ∷ []
 abbrev pub choice_column : List Requirement → Tree → List ℕ
 choice_column accepted t = 9 ∷ choice_text (choice_of (t ∷ []) accepted)
 
-abbrev pub no_column : Tree → List ℕ
-no_column t = []
-
 -- the line behind all others: the choice for all accepted ones
 abbrev pub all_text : Choice → List ℕ
 all_text choice = codes "all" ++ (9 ∷ (choice_text choice ++ 10 ∷ []))

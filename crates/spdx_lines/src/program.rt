@@ -1,13 +1,13 @@
 // The program, apart from its arguments and files.
 
-ghost use Rattle.std.specs.Prelude.{◌≡◌, ◌++◌, IfOk, IfErr, OnOk, Ok, is_some};
+ghost use Rattle.std.specs.Prelude.{◌≡◌, ◌++◌, if◌then◌else◌, IfOk, IfErr, OnOk, Ok, is_some};
 ghost use Rattle.line_engine.specs.Device.{devices};
 ghost use Rattle.line_engine.specs.Runs.{Runs};
 ghost use Rattle.spdx_lexer.specs.Code.{span_of};
 ghost use Rattle.spdx_lexer.specs.Faults.{fault_of};
-ghost use Rattle.spdx_lines.specs.Found.{found, verdict};
-ghost use Rattle.spdx_lines.specs.Program.{NoCatalogue, NoLicensee, texts_of, task_in, licensees_from, task_rule, with_licensees, plan_of, refusal_line};
-ghost use Rattle.spdx_lines.specs.Ending.{Ends, Serves, StopsAt, status_of, ending_line, stopped, ending_of};
+ghost use Rattle.spdx_lines.specs.Found.{found, rule_of, rule_of_all};
+ghost use Rattle.spdx_lines.specs.Program.{NoCatalogue, NoLicensee, texts_of, task_in, licensees_from, planned, plan_of, refusal_line};
+ghost use Rattle.spdx_lines.specs.Ending.{EndsBy, Serves, StopsAt, stop_status, stop_line};
 
 use crate::lines::{LineMode, run_all_found, run_found};
 use crate::text::put_refusal;
@@ -123,10 +123,9 @@ fn run_with<'w, I: Source, O: Sink>(
     input: &mut I,
     output: &mut O,
 ) -> Result<Summary, Stop<'w>>
-    ensures { Ends
-        (with_licensees found cat.now task (licensees_from found cat.now 1 (texts_of licensees.now)))
+    ensures { EndsBy (planned found cat.now task (texts_of licensees.now))
         (devices (I.told input.old) (I.told input.new) (O.told output.old) (O.told output.new))
-        (ending_of result) }
+        result }
 {
     let accepted = read_licensees(alloc, cat, licensees)?;
     match run_task(alloc, cat, &task, &accepted, input, output) {
@@ -143,7 +142,8 @@ fn run_task<'c, I: Source, O: Sink>(
     input: &mut I,
     output: &mut O,
 ) -> Result<Summary, RunFault>
-    ensures { Runs (task_rule (verdict cat.now task.now.mode) task.now accepted.now)
+    ensures { Runs (if task.now.is_joint then rule_of_all cat.now task.now.mode accepted.now
+        else rule_of cat.now task.now.mode accepted.now)
         (devices (I.told input.old) (I.told input.new) (O.told output.old) (O.told output.new))
         result }
 {
@@ -162,9 +162,9 @@ fn run_by<'w, I: Source, O: Sink>(
     input: &mut I,
     output: &mut O,
 ) -> Result<Summary, Stop<'w>>
-    ensures { Ends (plan_of found words.entry catalogue.entry)
+    ensures { EndsBy (plan_of found words.entry catalogue.entry)
         (devices (I.told input.old) (I.told input.new) (O.told output.old) (O.told output.new))
-        (ending_of result) }
+        result }
 {
     let Some(words) = words else {
         return Err(Stop::Usage);
@@ -184,7 +184,7 @@ fn run_by<'w, I: Source, O: Sink>(
 
 // The line that tells why there was no run, or why it broke off.
 fn line_of(alloc: Global, stop: &Stop<'_>) -> Result<Vec<u8>, AllocError>
-    ensures { IfOk result (λ text. text.items ≡ ending_line (stopped stop.now)) }
+    ensures { IfOk result (λ text. text.items ≡ stop_line stop.now) }
 {
     let mut text = Vec::new(alloc);
     match stop {
@@ -223,7 +223,7 @@ fn put_licensee(text: &mut Vec<u8>, place: usize, error: &ParseError<'_>) -> Res
 }
 
 fn status(stop: &Stop<'_>) -> u8
-    ensures { result ≡ status_of (stopped stop.now) }
+    ensures { result ≡ stop_status stop.now }
 {
     match stop {
         Stop::Run(_) => 3,

@@ -1,11 +1,11 @@
-use Rattle.std.proofs.Common.{rules, refl}
+use Rattle.std.proofs.Common.{rules, []}
 use Rattle.line_engine.specs.declared.lines.RunFault.TheVariants.{Memory}
 use Rattle.spdx_lines.specs.Program.{IsTheMeaning, plan_of}
-use Rattle.spdx_lines.specs.Ending.{Done, Broken, stopped}
+use Rattle.spdx_lines.specs.Ending.{fault_line, stop_line}
 use Rattle.spdx_lines.specs.Found.{found}
 use Rattle.spdx_lines.proofs.Licensee.{the_licensee}
 use Rattle.spdx_lines.proofs.Verdict.{the_verdict}
-use Rattle.spdx_lines.proofs.Ends.{appends_nothing, breaks_off, unless_failed}
+use Rattle.spdx_lines.proofs.Ends.{appends_nothing, falls_short, unless_failed}
 use Rattle.spdx_lines.proofs.program.serve.Goals as goal
 
 found_is_meant : IsTheMeaning found
@@ -15,9 +15,8 @@ pub returns-in-Ok : goal.returns-in-Ok
 returns-in-Ok g c = record {
   by = found;
   is_meant = found_is_meant;
-  ending = Done c.in-Ok.summary;
-  status_is = search rules;
-  ends = c.in-Ok.ensures;
+  line = [];
+  ends = search rules;
   tells = λ _. appends_nothing _;
 }
 
@@ -25,8 +24,7 @@ pub returns-in-Ok-line_of : goal.returns-in-Ok-line_of
 returns-in-Ok-line_of g c = record {
   by = found;
   is_meant = found_is_meant;
-  ending = stopped c.in-Err.stop;
-  status_is = search rules;
+  line = stop_line c.in-Err.stop;
   ends = search rules;
   tells = search rules;
 }
@@ -35,8 +33,7 @@ pub returns-in-Err-line_of : goal.returns-in-Err-line_of
 returns-in-Err-line_of g c = record {
   by = found;
   is_meant = found_is_meant;
-  ending = Broken Memory;
-  status_is = refl;
-  ends = breaks_off (plan_of found c.args.words c.args.catalogue) _ c.in-Err.stop c.in-Err.ensures;
+  line = fault_line Memory;
+  ends = falls_short (plan_of found c.args.words c.args.catalogue) _ _ _ c.in-Err.ensures;
   tells = unless_failed c.write_all-in-Err-line_of.result _ _ c.write_all-in-Err-line_of.ensures.all c.write_all-in-Err-line_of.ensures.failed;
 }
