@@ -1,5 +1,6 @@
 // Answers to lines of which one choice is for all.
 
+ghost use Rattle.std.specs.Prelude.{◌≡◌, []};
 ghost use Rattle.spdx_lines.specs.Answer.{AreKept};
 ghost use Rattle.spdx_lines.specs.Trees.{trees_in};
 ghost use Rattle.spdx_lines.specs.Found.{accepted_trees, rule_of_all};
@@ -15,10 +16,31 @@ use std::alloc::{AllocError, Global};
 /// Answers each line without a choice, and at the end gives one for all accepted lines.
 #[derive(Drop)]
 pub(crate) struct AllLines<'r, 'c> {
-    pub(crate) cat: &'c Catalogue,
-    pub(crate) mode: LineMode,
-    pub(crate) accepted: &'r [Licensee<'c>],
-    pub(crate) kept: Kept<'c>,
+    cat: &'c Catalogue,
+    mode: LineMode,
+    accepted: &'r [Licensee<'c>],
+    kept: Kept<'c>,
+}
+
+impl<'r, 'c> AllLines<'r, 'c> {
+    pub(crate) fn new(
+        alloc: Global,
+        cat: &'c Catalogue,
+        mode: LineMode,
+        accepted: &'r [Licensee<'c>],
+    ) -> AllLines<'r, 'c>
+        ensures cat { result.cat.now ≡ cat.now }
+        ensures mode { result.mode ≡ mode }
+        ensures accepted { result.accepted.now ≡ accepted.now }
+        ensures kept { trees_in result.kept ≡ [] }
+    {
+        AllLines {
+            cat,
+            mode,
+            accepted,
+            kept: Kept::new(alloc),
+        }
+    }
 }
 
 impl Verdicts for AllLines<'_, '_> {

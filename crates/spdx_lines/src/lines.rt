@@ -2,14 +2,11 @@
 
 ghost use Rattle.std.specs.Prelude.{◌≡◌, ◌<◌, length};
 ghost use Rattle.line_engine.specs.Device.{devices};
-ghost use Rattle.line_engine.specs.Runs.{Runs};
-ghost use Rattle.spdx_lines.specs.Found.{rule_of, rule_of_all};
 ghost use Rattle.spdx_lines.specs.Lines.{RunsByLine, RunsForAll};
 ghost use Rattle.spdx_lines.specs.Verdict as spec;
 
 use crate::all_lines::AllLines;
 use crate::each_line::EachLine;
-use crate::kept::Kept;
 use line_engine::device::{Sink, Source};
 use line_engine::lines as engine;
 use line_engine::lines::{RunFault, Summary};
@@ -80,22 +77,6 @@ pub fn run<'c, I: Source, O: Sink>(
         (devices (I.told input.old) (I.told input.new) (O.told output.old) (O.told output.new))
         result }
 {
-    run_found(alloc, cat, mode, accepted, input, output)
-}
-
-// `run`, by the verdicts that are found.
-pub(crate) fn run_found<'c, I: Source, O: Sink>(
-    alloc: Global,
-    cat: &'c Catalogue,
-    mode: LineMode,
-    accepted: &[Licensee<'c>],
-    input: &mut I,
-    output: &mut O,
-) -> Result<Summary, RunFault>
-    ensures { Runs (rule_of cat.now mode accepted.now)
-        (devices (I.told input.old) (I.told input.new) (O.told output.old) (O.told output.new))
-        result }
-{
     let mut each = EachLine::new(alloc, cat, mode, accepted);
     engine::run(alloc, &mut each, input, output)
 }
@@ -121,12 +102,7 @@ pub fn run_all_in<'c, I: Source, O: Sink>(
         (devices (I.told input.old) (I.told input.new) (O.told output.old) (O.told output.new))
         result }
 {
-    let mut all = AllLines {
-        cat,
-        mode,
-        accepted,
-        kept: Kept::new(alloc),
-    };
+    let mut all = AllLines::new(alloc, cat, mode, accepted);
     engine::run_in(alloc, &mut all, input, output, buffer)
 }
 
@@ -144,27 +120,6 @@ pub fn run_all<'c, I: Source, O: Sink>(
         (devices (I.told input.old) (I.told input.new) (O.told output.old) (O.told output.new))
         result }
 {
-    run_all_found(alloc, cat, mode, accepted, input, output)
-}
-
-// `run_all`, by the verdicts that are found.
-pub(crate) fn run_all_found<'c, I: Source, O: Sink>(
-    alloc: Global,
-    cat: &'c Catalogue,
-    mode: LineMode,
-    accepted: &[Licensee<'c>],
-    input: &mut I,
-    output: &mut O,
-) -> Result<Summary, RunFault>
-    ensures { Runs (rule_of_all cat.now mode accepted.now)
-        (devices (I.told input.old) (I.told input.new) (O.told output.old) (O.told output.new))
-        result }
-{
-    let mut all = AllLines {
-        cat,
-        mode,
-        accepted,
-        kept: Kept::new(alloc),
-    };
+    let mut all = AllLines::new(alloc, cat, mode, accepted);
     engine::run(alloc, &mut all, input, output)
 }

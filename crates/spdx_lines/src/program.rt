@@ -9,9 +9,12 @@ ghost use Rattle.spdx_lines.specs.Found.{found, rule_of, rule_of_all};
 ghost use Rattle.spdx_lines.specs.Program.{NoCatalogue, NoLicensee, texts_of, task_in, licensees_from, planned, plan_of, refusal_line};
 ghost use Rattle.spdx_lines.specs.Ending.{EndsBy, Serves, StopsAt, stop_status, stop_line};
 
-use crate::lines::{LineMode, run_all_found, run_found};
+use crate::all_lines::AllLines;
+use crate::each_line::EachLine;
+use crate::lines::LineMode;
 use crate::text::put_refusal;
 use line_engine::device::{Sink, Source};
+use line_engine::lines as engine;
 use line_engine::lines::{RunFault, Summary, write_all};
 use line_engine::stream::Output;
 use spdx::{Catalogue, Failure, Licensee, ParseError, ReadFault};
@@ -148,9 +151,11 @@ fn run_task<'c, I: Source, O: Sink>(
         result }
 {
     if task.is_joint {
-        run_all_found(alloc, cat, task.mode, accepted, input, output)
+        let mut all = AllLines::new(alloc, cat, task.mode, accepted);
+        engine::run(alloc, &mut all, input, output)
     } else {
-        run_found(alloc, cat, task.mode, accepted, input, output)
+        let mut each = EachLine::new(alloc, cat, task.mode, accepted);
+        engine::run(alloc, &mut each, input, output)
     }
 }
 

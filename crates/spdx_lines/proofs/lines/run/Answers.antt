@@ -1,13 +1,24 @@
-use Rattle.std.proofs.Common.{refl}
+use Rattle.std.proofs.Common.{◌≡◌, ◌∙◌, ap, subst, refl}
 use Rattle.line_engine.proofs.Splitting.{splits}
+use Rattle.line_engine.specs.Device.{devices}
+use Rattle.line_engine.specs.Runs.{Runs}
 use Rattle.spdx_lines.specs.Found.{rule_of, verdict}
 use Rattle.spdx_lines.proofs.Verdict.{the_verdict}
 use Rattle.spdx_lines.proofs.lines.run.Goals as goal
 
 pub returns : goal.returns
-returns g c = record {
-  verdict = verdict c.args.cat.now c.args.mode;
-  verdicts = the_verdict c.args.cat.now c.args.mode;
-  splits = splits (rule_of c.args.cat.now c.args.mode c.args.accepted.now) (λ before line. refl) (λ lines. refl);
-  runs = c.run_found.ensures;
-}
+returns g c =
+    let cat = c.args.cat.now in
+    let mode = c.args.mode in
+    let accepted = c.args.accepted.now in
+    let made = c.new-each.result in
+    let same = c.new-each.ensures in
+    let rule : rule_of made.cat.now made.mode made.accepted.now ≡ rule_of cat mode accepted =
+    ap (λ x. rule_of x made.mode made.accepted.now) same.cat ∙ ap (λ x. rule_of cat x made.accepted.now) same.mode ∙ ap (λ x. rule_of cat mode x) same.accepted in
+    let d = devices (g.I.Source.told c.args.input.now) (g.I.Source.told c.run.new.input) (g.O.Sink.told c.args.output.now) (g.O.Sink.told c.run.new.output) in
+    record {
+      verdict = verdict cat mode;
+      verdicts = the_verdict cat mode;
+      splits = splits (rule_of cat mode accepted) (λ before line. refl) (λ lines. refl);
+      runs = subst (λ r. Runs r d c.run.result) rule c.run.ensures.runs;
+    }

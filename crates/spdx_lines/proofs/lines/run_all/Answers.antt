@@ -1,12 +1,24 @@
-use Rattle.spdx_lines.specs.Found.{verdict}
+use Rattle.std.proofs.Common.{◌≡◌, ◌∙◌, ap, subst}
+use Rattle.line_engine.specs.Device.{devices}
+use Rattle.line_engine.specs.Runs.{Runs}
+use Rattle.spdx_lines.specs.Found.{rule_of_all, verdict}
 use Rattle.spdx_lines.proofs.Verdict.{the_verdict}
 use Rattle.spdx_lines.proofs.Keeping.{closes_alike}
 use Rattle.spdx_lines.proofs.lines.run_all.Goals as goal
 
 pub returns : goal.returns
-returns g c = record {
-  verdict = verdict c.args.cat.now c.args.mode;
-  verdicts = the_verdict c.args.cat.now c.args.mode;
-  doubles = closes_alike c.args.cat.now c.args.mode c.args.accepted.now;
-  runs = c.run_all_found.ensures;
-}
+returns g c =
+    let cat = c.args.cat.now in
+    let mode = c.args.mode in
+    let accepted = c.args.accepted.now in
+    let made = c.new-all.result in
+    let same = c.new-all.ensures in
+    let rule : rule_of_all made.cat.now made.mode made.accepted.now ≡ rule_of_all cat mode accepted =
+    ap (λ x. rule_of_all x made.mode made.accepted.now) same.cat ∙ ap (λ x. rule_of_all cat x made.accepted.now) same.mode ∙ ap (λ x. rule_of_all cat mode x) same.accepted in
+    let d = devices (g.I.Source.told c.args.input.now) (g.I.Source.told c.run.new.input) (g.O.Sink.told c.args.output.now) (g.O.Sink.told c.run.new.output) in
+    record {
+      verdict = verdict cat mode;
+      verdicts = the_verdict cat mode;
+      doubles = closes_alike cat mode accepted;
+      runs = subst (λ r. Runs r d c.run.result) rule c.run.ensures.runs;
+    }
