@@ -1,8 +1,9 @@
 /* SPDX licence expressions: read, refused with exact spans, mended, evaluated.
  *
  * Texts are UTF-8 bytes with a length; none needs a zero byte at its end, and none that is written has one. Every
- * place is a number of bytes from 0. A call keeps no pointer and has no state: any number of threads may call at
- * once. What it allocates, by malloc, it frees before it returns. See docs/C.md.
+ * place is a number of bytes from 0. spdx_open reads a list of licences into memory by malloc, which spdx_close frees;
+ * every other call keeps no pointer, and frees what it allocates before it returns. Any number of threads may ask the
+ * same open list at once. See docs/C.md.
  */
 #ifndef SPDX_H
 #define SPDX_H
@@ -32,8 +33,9 @@ enum {
     SPDX_TOO_MANY = 6,          /* `number` licensees are useful, more than 1,024 */
     SPDX_NO_FIX = 7,            /* the text has no fix, or needs none */
     SPDX_SHORT = 8,             /* the buffer is too short: it needs `length` bytes */
-    SPDX_ARGUMENT = 9,          /* a null pointer, an impossible length, a number that means nothing; or a wrong
-                                 * number of bits: the expression has `number` requirements */
+    SPDX_ARGUMENT = 9,          /* a null pointer, an impossible length, a number that means nothing, a list that is
+                                 * closed where it has to be open, or open where it has to be closed; or a wrong number
+                                 * of bits: the expression has `number` requirements */
     SPDX_LIST = 10,             /* the bytes are no list of licences */
     SPDX_MEMORY = 11            /* memory was refused */
 };
@@ -63,38 +65,51 @@ typedef struct {
     size_t length;
 } spdx_buffer;
 
-/* `list`, of every call: the list of licences, as JSON in the form of `spdx list make` (share/spdx/spdx.json). It is
- * read again in each call, which takes half a millisecond or more; for many texts, spdx_lines reads it once. */
+/* A list of licences that was read, or none: a handle. It begins as all zeroes, which is closed, and its fields are
+ * the library's own. A copy reads the same list, and is closed with it: of all copies close one, and ask none after.
+ * Open and close a list while no other call uses it. */
+typedef struct {
+    void *at;
+    uint32_t state;
+} spdx_list;
+
+/* Reads a list into a closed handle, which is left closed at any status but SPDX_OK. It is JSON in the form of
+ * `spdx list make` (share/spdx/spdx.json), and is not needed after. SPDX_LIST, SPDX_MEMORY, or SPDX_ARGUMENT where the
+ * handle is open. It takes half a millisecond or more. */
+spdx_report spdx_open(spdx_text json, spdx_list *list);
+
+/* Frees the list of an open handle, which is closed then; SPDX_ARGUMENT where it was closed. */
+spdx_report spdx_close(spdx_list *list);
 
 /* Whether the text is an expression. */
-spdx_report spdx_check(spdx_text list, uint32_t mode, spdx_text text);
+spdx_report spdx_check(const spdx_list *list, uint32_t mode, spdx_text text);
 
 /* Its canonical text: listed names, operators in capitals, `-only` and `-or-later` for GNU licences. */
-spdx_report spdx_canonical(spdx_text list, uint32_t mode, spdx_text text, spdx_buffer out);
+spdx_report spdx_canonical(const spdx_list *list, uint32_t mode, spdx_text text, spdx_buffer out);
 
 /* What to write in place of a text that SPDX_STRICT refuses and SPDX_LAX reads. */
-spdx_report spdx_fix(spdx_text list, spdx_text text, spdx_buffer out);
+spdx_report spdx_fix(const spdx_list *list, spdx_text text, spdx_buffer out);
 
 /* The one text of its tree, with as few parentheses as it allows. */
-spdx_report spdx_normal(spdx_text list, uint32_t mode, spdx_text text, spdx_buffer out);
+spdx_report spdx_normal(const spdx_list *list, uint32_t mode, spdx_text text, spdx_buffer out);
 
 /* SPDX_OK where those who hold these licences, one on each line, may use what comes under the expression; SPDX_UNMET
  * where not. */
-spdx_report spdx_evaluate(spdx_text list, uint32_t mode, spdx_text text, spdx_text licensees);
+spdx_report spdx_evaluate(const spdx_list *list, uint32_t mode, spdx_text text, spdx_text licensees);
 
 /* The requirements of an expression, from left to right, each with a newline. */
-spdx_report spdx_requirements(spdx_text list, uint32_t mode, spdx_text text, spdx_buffer out);
+spdx_report spdx_requirements(const spdx_list *list, uint32_t mode, spdx_text text, spdx_buffer out);
 
 /* SPDX_OK where the expression is true if requirement i, in the order of spdx_requirements, is met exactly where bit i
  * is set; SPDX_UNMET where it is false. Bit i is `(bits[i / 8] >> i % 8) & 1`, and there are `count` bits. */
-spdx_report spdx_evaluate_bits(spdx_text list, uint32_t mode, spdx_text text, const void *bits, size_t count);
+spdx_report spdx_evaluate_bits(const spdx_list *list, uint32_t mode, spdx_text text, const void *bits, size_t count);
 
 /* The requirements of the least choice among the licensees that makes the expression true, each with a newline. */
-spdx_report spdx_choose(spdx_text list, uint32_t mode, spdx_text text, spdx_text licensees, spdx_buffer out);
+spdx_report spdx_choose(const spdx_list *list, uint32_t mode, spdx_text text, spdx_text licensees, spdx_buffer out);
 
 /* A line for each line of the input, as `spdx_lines` writes them: `accepted`, its canonical (or normal) text and the
  * least choice, with tabs between; or `refused START..END FAULT`; or `bad-utf8`. */
-spdx_report spdx_lines(spdx_text list, uint32_t mode, spdx_text licensees, spdx_text input, spdx_buffer out);
+spdx_report spdx_lines(const spdx_list *list, uint32_t mode, spdx_text licensees, spdx_text input, spdx_buffer out);
 
 /* What a reason says, apart from the words that were expected. */
 spdx_report spdx_reason(uint32_t reason, spdx_buffer out);

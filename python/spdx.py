@@ -7,9 +7,9 @@
     licences.evaluate_bits("MIT OR Zlib", [False, True])    # True: requirement by requirement
     licences.lines(["MIT", "Apache2"], ["MIT"])             # a verdict for each, in one call
 
-Texts are str or bytes; places are in bytes of UTF-8. Nothing is shared between calls, so threads may call at once, and
-Python's lock is free meanwhile. Every call reads the list again, half a millisecond or more; `lines` reads it once for
-all.
+Texts are str or bytes; places are in bytes of UTF-8. `Licences` reads its list once, and any number of threads may ask it
+at once; Python's lock is free meanwhile. Its memory is given back with the object, or before by `close` or the end of a
+`with`, which are for when no other thread asks it.
 """
 
 from __future__ import annotations
@@ -72,6 +72,12 @@ class _Buffer(ctypes.Structure):
     _fields_ = [("bytes", ctypes.c_void_p), ("length", ctypes.c_size_t)]
 
 
+class _List(ctypes.Structure):
+    """A handle: all zeroes are a closed one."""
+
+    _fields_ = [("at", ctypes.c_void_p), ("state", ctypes.c_uint32)]
+
+
 _OK, _REFUSED, _NOT_TEXT, _LICENSEE, _LICENSEE_NOT_TEXT, _UNMET = range(6)
 _TOO_MANY, _NO_FIX, _SHORT, _ARGUMENT, _LIST, _MEMORY = range(6, 12)
 
@@ -79,15 +85,18 @@ _TOO_MANY, _NO_FIX, _SHORT, _ARGUMENT, _LIST, _MEMORY = range(6, 12)
 def _library() -> ctypes.CDLL:
     path = os.environ.get("SPDX_LIBRARY") or ctypes.util.find_library("spdx") or "libspdx.so"
     library = ctypes.CDLL(path)
+    handle = ctypes.POINTER(_List)
     texts = {"check": 1, "canonical": 1, "fix": 1, "normal": 1, "requirements": 1}
     texts |= {"evaluate": 2, "choose": 2, "lines": 2}
     for name, count in texts.items():
         call = getattr(library, f"spdx_{name}")
         mode = [] if name == "fix" else [ctypes.c_uint32]
         out = [] if name in ("check", "evaluate") else [_Buffer]
-        call.restype, call.argtypes = _Report, [_Bytes, *mode, *[_Bytes] * count, *out]
+        call.restype, call.argtypes = _Report, [handle, *mode, *[_Bytes] * count, *out]
     bits = library.spdx_evaluate_bits
-    bits.restype, bits.argtypes = _Report, [_Bytes, ctypes.c_uint32, _Bytes, ctypes.c_char_p, ctypes.c_size_t]
+    bits.restype, bits.argtypes = _Report, [handle, ctypes.c_uint32, _Bytes, ctypes.c_char_p, ctypes.c_size_t]
+    library.spdx_open.restype, library.spdx_open.argtypes = _Report, [_Bytes, handle]
+    library.spdx_close.restype, library.spdx_close.argtypes = _Report, [handle]
     library.spdx_reason.restype, library.spdx_reason.argtypes = _Report, [ctypes.c_uint32, _Buffer]
     return library
 
@@ -143,17 +152,30 @@ def _raise(report: _Report) -> None:
         _LICENSEE_NOT_TEXT: f"licensee {report.number} is not UTF-8",
         _TOO_MANY: f"{report.number} licensees are useful, more than 1,024",
         _LIST: "the bytes are no list of licences",
-        _ARGUMENT: "a number that means nothing",
+        _ARGUMENT: "a number that means nothing, or a list that is closed",
     }
     raise SpdxError(said.get(status, f"status {status}"))
 
 
 class Licences:
-    """A list of licences, in the JSON of `spdx list make`."""
+    """A list of licences, in the JSON of `spdx list make`. `SpdxError` where the bytes are none."""
 
     def __init__(self, json: bytes):
-        self._json = bytes(json)
-        self._list = _bytes(self._json)
+        self._list = _List()
+        _raise(_LIBRARY.spdx_open(_bytes(bytes(json)), self._list))
+
+    def close(self) -> None:
+        """Gives the list's memory back. The calls raise `SpdxError` from then on; a second close does nothing."""
+        _LIBRARY.spdx_close(self._list)
+
+    def __enter__(self) -> "Licences":
+        return self
+
+    def __exit__(self, *_) -> None:
+        self.close()
+
+    def __del__(self, close=_LIBRARY.spdx_close) -> None:
+        close(self._list)
 
     @classmethod
     def read(cls, path: Union[str, os.PathLike]) -> "Licences":

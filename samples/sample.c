@@ -48,7 +48,7 @@ static spdx_text line_of(spdx_text *rest) {
 }
 
 /* All lines by one call: first the length is asked, then a buffer one byte short is tried. */
-static void whole(spdx_text list, uint32_t mode, spdx_text corpus, spdx_text wanted, const char *name) {
+static void whole(const spdx_list *list, uint32_t mode, spdx_text corpus, spdx_text wanted, const char *name) {
     spdx_report told = spdx_lines(list, mode, held_text(), corpus, (spdx_buffer){NULL, 0});
     expect(told.status == SPDX_SHORT && told.length == wanted.length, name);
     char *out = malloc(told.length + 1);
@@ -63,7 +63,7 @@ static void whole(spdx_text list, uint32_t mode, spdx_text corpus, spdx_text wan
 }
 
 /* The verdict on one line, put together of calls of its own. */
-static size_t verdict(spdx_text list, uint32_t mode, spdx_text line, char *out, size_t room) {
+static size_t verdict(const spdx_list *list, uint32_t mode, spdx_text line, char *out, size_t room) {
     spdx_report report = spdx_check(list, mode, line);
     if (report.status == SPDX_NOT_TEXT) return snprintf(out, room, "bad-utf8");
     if (report.status == SPDX_REFUSED) {
@@ -85,7 +85,7 @@ static size_t verdict(spdx_text list, uint32_t mode, spdx_text line, char *out, 
     return at;
 }
 
-static void each(spdx_text list, uint32_t mode, spdx_text corpus, spdx_text wanted, int count) {
+static void each(const spdx_list *list, uint32_t mode, spdx_text corpus, spdx_text wanted, int count) {
     char out[2048];
     while (corpus.length && count--) {
         spdx_text line = line_of(&corpus), is = line_of(&wanted);
@@ -97,7 +97,7 @@ static void each(spdx_text list, uint32_t mode, spdx_text corpus, spdx_text want
 }
 
 /* The requirements of one line, and its truths over at most sixteen answers: samples/store_bits.py says which. */
-static size_t truths(spdx_text list, spdx_text line, char *out, size_t room) {
+static size_t truths(const spdx_list *list, spdx_text line, char *out, size_t room) {
     char text[512];
     spdx_report put = spdx_requirements(list, SPDX_STRICT, line, (spdx_buffer){text, sizeof text});
     if (put.status != SPDX_OK) return snprintf(out, room, "-");
@@ -115,7 +115,7 @@ static size_t truths(spdx_text list, spdx_text line, char *out, size_t room) {
     return at;
 }
 
-static void each_by_bits(spdx_text list, spdx_text corpus, spdx_text wanted, int count) {
+static void each_by_bits(const spdx_list *list, spdx_text corpus, spdx_text wanted, int count) {
     char out[2048];
     while (corpus.length && count--) {
         spdx_text line = line_of(&corpus), is = line_of(&wanted);
@@ -127,7 +127,7 @@ static void puts_text(spdx_report report, const char *out, const char *wanted, c
     expect(report.status == SPDX_OK && same(out, report.length, text_of(wanted)), what);
 }
 
-static void singles(spdx_text list) {
+static void singles(const spdx_list *list) {
     char out[256];
     spdx_buffer to = {out, sizeof out};
     puts_text(spdx_fix(list, text_of("mit/apache-2.0"), to), out, "MIT OR Apache-2.0", "a fix");
@@ -154,12 +154,14 @@ static void singles(spdx_text list) {
     expect(empty.status == SPDX_REFUSED && empty.reason == 6, "an empty text");
 }
 
-static void wrong(spdx_text list) {
+static void wrong(const spdx_list *list) {
     char out[64] = "MIT";
     spdx_buffer to = {out, sizeof out};
     expect(spdx_check(list, 7, text_of("MIT")).status == SPDX_ARGUMENT, "a mode");
     expect(spdx_check(list, SPDX_NORMAL, text_of("MIT")).status == SPDX_ARGUMENT, "a mode of lines");
-    expect(spdx_check((spdx_text){NULL, 9}, 0, text_of("MIT")).status == SPDX_ARGUMENT, "a null list");
+    expect(spdx_check(NULL, 0, text_of("MIT")).status == SPDX_ARGUMENT, "a null list");
+    spdx_buffer over = {(void *)list, sizeof *list};
+    expect(spdx_canonical(list, 0, text_of("MIT"), over).status == SPDX_ARGUMENT, "a buffer over a list");
     expect(spdx_check(list, 0, (spdx_text){NULL, 9}).status == SPDX_ARGUMENT, "a null text");
     expect(spdx_check(list, 0, (spdx_text){"MIT", SIZE_MAX}).status == SPDX_ARGUMENT, "a length");
     expect(spdx_fix(list, text_of("mit"), (spdx_buffer){NULL, 9}).status == SPDX_ARGUMENT, "a null buffer");
@@ -169,12 +171,39 @@ static void wrong(spdx_text list) {
         expect(bits == 2 || (told.status == SPDX_ARGUMENT && told.number == 2), "a number of bits");
     }
     expect(spdx_evaluate_bits(list, 0, text_of("MIT"), NULL, 1).status == SPDX_ARGUMENT, "null bits");
-    expect(spdx_check(text_of("{}"), 0, text_of("MIT")).status == SPDX_LIST, "no list");
     expect(spdx_reason(0, to).status == SPDX_ARGUMENT && spdx_reason(13, to).status == SPDX_ARGUMENT, "a reason");
 }
 
+/* A handle through its life; and every call over one that is closed. */
+static void handles(spdx_text json) {
+    char out[64];
+    spdx_buffer to = {out, sizeof out};
+    spdx_text text = text_of("MIT"), no = {NULL, 0};
+    spdx_list list = {0};
+    expect(spdx_open(text_of("{}"), &list).status == SPDX_LIST, "no list");
+    expect(spdx_open((spdx_text){NULL, 9}, &list).status == SPDX_ARGUMENT, "null bytes of a list");
+    expect(spdx_open(json, NULL).status == SPDX_ARGUMENT && spdx_close(NULL).status == SPDX_ARGUMENT, "a null handle");
+    for (int round = 0; round < 3; round++) {
+        expect(spdx_close(&list).status == SPDX_ARGUMENT, "closed twice");
+        expect(spdx_check(&list, 0, text).status == SPDX_ARGUMENT, "check, closed");
+        expect(spdx_canonical(&list, 0, text, to).status == SPDX_ARGUMENT, "canonical, closed");
+        expect(spdx_normal(&list, 0, text, to).status == SPDX_ARGUMENT, "normal, closed");
+        expect(spdx_fix(&list, text, to).status == SPDX_ARGUMENT, "fix, closed");
+        expect(spdx_requirements(&list, 0, text, to).status == SPDX_ARGUMENT, "requirements, closed");
+        expect(spdx_evaluate(&list, 0, text, no).status == SPDX_ARGUMENT, "evaluate, closed");
+        expect(spdx_evaluate_bits(&list, 0, text, "", 1).status == SPDX_ARGUMENT, "evaluate_bits, closed");
+        expect(spdx_choose(&list, 0, text, no, to).status == SPDX_ARGUMENT, "choose, closed");
+        expect(spdx_lines(&list, 0, no, text, to).status == SPDX_ARGUMENT, "lines, closed");
+        expect(spdx_open(json, &list).status == SPDX_OK, "open");
+        expect(spdx_open(json, &list).status == SPDX_ARGUMENT, "open twice");
+        expect(spdx_check(&list, 0, text).status == SPDX_OK, "check, open");
+        expect(spdx_close(&list).status == SPDX_OK, "close");
+    }
+}
+
 typedef struct {
-    spdx_text list, corpus, wanted;
+    const spdx_list *list;
+    spdx_text corpus, wanted;
     int holds;
 } job;
 
@@ -188,7 +217,7 @@ static void *in_thread(void *given) {
     return NULL;
 }
 
-static void threads(spdx_text list, spdx_text corpus, spdx_text wanted) {
+static void threads(const spdx_list *list, spdx_text corpus, spdx_text wanted) {
     pthread_t ids[4];
     job jobs[4];
     for (int i = 0; i < 4; i++) {
@@ -203,7 +232,11 @@ static void threads(spdx_text list, spdx_text corpus, spdx_text wanted) {
 
 int main(int count, char **words) {
     if (count != 8) return 2;
-    spdx_text list = file(words[1]), corpus = file(words[2]), wanted[3];
+    spdx_text json = file(words[1]), corpus = file(words[2]), wanted[3];
+    spdx_list opened = {0}, *list = &opened;
+    if (spdx_open(json, list).status != SPDX_OK) return 2;
+    handles(json);
+    free((void *)json.bytes);
     for (uint32_t mode = 0; mode < 3; mode++) {
         wanted[mode] = file(words[3 + mode]);
         whole(list, mode, corpus, wanted[mode], words[3 + mode]);
@@ -217,7 +250,7 @@ int main(int count, char **words) {
     wrong(list);
     threads(list, corpus, wanted[0]);
     for (int i = 0; i < 3; i++) free((void *)wanted[i].bytes);
-    free((void *)list.bytes);
+    expect(spdx_close(list).status == SPDX_OK, "close");
     free((void *)corpus.bytes);
     printf("%d passed, %d failed\n", passed, failed);
     return failed != 0;

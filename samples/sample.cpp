@@ -6,6 +6,7 @@
 #include <cstdio>
 #include <fstream>
 #include <iterator>
+#include <stdexcept>
 #include <string>
 #include <string_view>
 
@@ -25,6 +26,21 @@ spdx_report written(std::string &out, Call call) {
     return report;
 }
 
+// A list that was read, open for as long as this lives.
+class Licences {
+  public:
+    explicit Licences(std::string_view json) {
+        if (spdx_open(text_of(json), &list_).status != SPDX_OK) throw std::runtime_error("no list of licences");
+    }
+    Licences(const Licences &) = delete;
+    Licences &operator=(const Licences &) = delete;
+    ~Licences() { spdx_close(&list_); }
+    const spdx_list *get() const { return &list_; }
+
+  private:
+    spdx_list list_ = {};
+};
+
 std::string file(const char *path) {
     std::ifstream in(path, std::ios::binary);
     return {std::istreambuf_iterator<char>(in), {}};
@@ -34,7 +50,9 @@ std::string file(const char *path) {
 
 int main(int count, char **words) {
     if (count != 6) return 2;
-    const std::string list = file(words[1]), corpus = file(words[2]), held = "MIT\nApache-2.0\nBSD-3-Clause\n";
+    const Licences licences(file(words[1]));
+    const spdx_list *list = licences.get();
+    const std::string corpus = file(words[2]), held = "MIT\nApache-2.0\nBSD-3-Clause\n";
     int passed = 0, failed = 0;
     auto expect = [&](bool holds, const char *what) {
         holds ? ++passed : ++failed;
@@ -43,21 +61,27 @@ int main(int count, char **words) {
     for (uint32_t mode = SPDX_STRICT; mode <= SPDX_NORMAL; mode++) {
         std::string out(100, '\0');
         const spdx_report report = written(out, [&](spdx_buffer to) {
-            return spdx_lines(text_of(list), mode, text_of(held), text_of(corpus), to);
+            return spdx_lines(list, mode, text_of(held), text_of(corpus), to);
         });
         expect(report.status == SPDX_OK && out == file(words[3 + mode]), words[3 + mode]);
     }
     const std::string_view both = "MIT AND Zlib";
     std::string fix, needs;
     const spdx_report told =
-        written(needs, [&](spdx_buffer to) { return spdx_requirements(text_of(list), 0, text_of(both), to); });
+        written(needs, [&](spdx_buffer to) { return spdx_requirements(list, 0, text_of(both), to); });
     expect(told.status == SPDX_OK && needs == "MIT\nZlib\n", "requirements");
     const std::uint8_t met[] = {3}, half[] = {1};
-    expect(spdx_evaluate_bits(text_of(list), 0, text_of(both), met, 2).status == SPDX_OK, "met by bits");
-    expect(spdx_evaluate_bits(text_of(list), 0, text_of(both), half, 2).status == SPDX_UNMET, "unmet by bits");
+    expect(spdx_evaluate_bits(list, 0, text_of(both), met, 2).status == SPDX_OK, "met by bits");
+    expect(spdx_evaluate_bits(list, 0, text_of(both), half, 2).status == SPDX_UNMET, "unmet by bits");
     const spdx_report report =
-        written(fix, [&](spdx_buffer to) { return spdx_fix(text_of(list), text_of("apache 2.0"), to); });
+        written(fix, [&](spdx_buffer to) { return spdx_fix(list, text_of("apache 2.0"), to); });
     expect(report.status == SPDX_OK && fix == "Apache-2.0", "a fix");
+    try {
+        const Licences nothing("{}");
+        expect(false, "no list");
+    } catch (const std::runtime_error &) {
+        expect(true, "no list");
+    }
     std::printf("%d passed, %d failed\n", passed, failed);
     return failed != 0;
 }

@@ -83,12 +83,20 @@ def main(list_path, corpus_path, *wanted_paths):
     expect(refused_by(licences.evaluate, "MIT", ["MIT", "Nope"]) == (0, 4, 9, 1), "a licensee")
     expect(refused_by(licences.check, "") == (0, 0, 6, None), "an empty text")
     expect(refused_by(licences.check, "MIT\0") is not None, "a zero byte")
-    for wrong in ((licences, b"\xff", 0), (licences, "MIT", 7), (spdx.Licences(b"{}"), "MIT", 0)):
+    with spdx.Licences.read(list_path) as closed:
+        expect(closed.evaluate("MIT", ["MIT"]), "a list of its own")
+    closed.close()
+    for wrong in ((licences, b"\xff", 0), (licences, "MIT", 7), (closed, "MIT", 0)):
         try:
             wrong[0].check(wrong[1], wrong[2])
             expect(False, "a wrong argument")
         except spdx.SpdxError as error:
             expect(not isinstance(error, spdx.Refused), "a wrong argument")
+    try:
+        spdx.Licences(b"{}")
+        expect(False, "no list")
+    except spdx.SpdxError:
+        expect(True, "no list")
     with ThreadPoolExecutor(4) as pool:
         answers = list(pool.map(lambda _: licences.lines(corpus, HELD).refused, range(4)))
     expect(len(set(answers)) == 1, "threads")

@@ -1,17 +1,22 @@
-//! The calls of `spdx_calls` as C makes them: slices cross as a pointer and a length, answers as one struct of numbers.
+//! The calls of `spdx_calls` as C makes them: slices cross as a pointer and a length, answers as one struct of numbers,
+//! and a list that was read as a handle.
 //!
-//! `c/spdx.c` stands before these exports and turns null pointers away; `c/spdx.h` says what each call does.
+//! `c/spdx.c` stands before these exports, turns null pointers away, and lends a copy of the handle to each call that
+//! reads its list; `c/spdx.h` says what each call does.
 #![tactic(auto)]
 
-ghost use Rattle.std.specs.Prelude.{◌≡◌, ◌≢◌};
+ghost use Rattle.std.specs.Prelude.{◌≡◌, ◌≢◌, None};
+ghost use Rattle.spdx_handle.specs.Lists.{rows_of, rows_lent};
+ghost use Rattle.spdx_c.specs.Modes.{IsOpening, IsClosing};
 ghost use Rattle.spdx_c.specs.Calls.{IsReasonCall, IsCheck, IsCanonicalCall, IsFixCall, IsNormalCall, IsEvaluation, IsBitsCall, IsRequirementsCall, IsChoiceCall, IsLinesCall};
 
 mod opening;
 pub mod report;
 
-use crate::opening::{open, open_lines};
+use crate::opening::{line_mode_of, mode_of, read};
 use crate::report::{Report, of_answered, of_check, of_fix, of_put, of_truth, plain};
 use spdx_calls::buffer::put_text;
+use spdx_handle::{ListHandle, ListLoan};
 use std::alloc::Global;
 
 /// Puts what the reason of this number says into the buffer.
@@ -26,156 +31,249 @@ pub extern "C" fn spdx_slices_reason(number: u32, out: &mut [u8]) -> Report
     }
 }
 
-/// Whether the text is an expression.
+/// Reads a list into a closed handle.
 #[unsafe(no_mangle)]
-pub extern "C" fn spdx_slices_check(alloc: Global, list: &[u8], mode: u32, text: &[u8]) -> Report
-    ensures { IsCheck list.now mode text.now result }
+pub extern "C" fn spdx_slices_open(alloc: Global, list: &[u8], handle: &mut ListHandle) -> Report
+    ensures { IsOpening list.now (rows_of handle.old) (rows_of handle.new) result }
 {
-    match open(alloc, list, mode) {
-        Ok((cat, mode)) => of_check(spdx_calls::check(alloc, &cat, mode, text)),
+    if handle.is_open() {
+        return plain(report::ARGUMENT);
+    }
+    match read(alloc, list) {
+        Ok(read) => {
+            handle.put(read);
+            plain(report::OK)
+        }
         Err(fault) => fault,
     }
+}
+
+/// Closes a handle, and gives the memory of its list back.
+#[unsafe(no_mangle)]
+pub extern "C" fn spdx_slices_close(alloc: Global, handle: &mut ListHandle) -> Report
+    ensures closed { rows_of handle.new ≡ None }
+    ensures answer { IsClosing (rows_of handle.old) result }
+{
+    match handle.take(alloc) {
+        Some(list) => {
+            drop(list);
+            plain(report::OK)
+        }
+        None => plain(report::ARGUMENT),
+    }
+}
+
+/// Whether the text is an expression.
+#[unsafe(no_mangle)]
+pub extern "C" fn spdx_slices_check(
+    alloc: Global,
+    list: &mut ListLoan,
+    mode: u32,
+    text: &[u8],
+) -> Report
+    ensures call { IsCheck (rows_lent list.old) mode text.now result }
+    ensures kept { rows_lent list.new ≡ rows_lent list.old }
+{
+    let Some(seen) = list.take() else {
+        return plain(report::ARGUMENT);
+    };
+    let report = match mode_of(mode) {
+        Some(mode) => of_check(spdx_calls::check(alloc, seen.get(), mode, text)),
+        None => plain(report::ARGUMENT),
+    };
+    list.put_back(seen);
+    report
 }
 
 /// Puts the canonical text of an expression into the buffer.
 #[unsafe(no_mangle)]
 pub extern "C" fn spdx_slices_canonical(
     alloc: Global,
-    list: &[u8],
+    list: &mut ListLoan,
     mode: u32,
     text: &[u8],
     out: &mut [u8],
 ) -> Report
-    ensures call { IsCanonicalCall list.now mode text.now out.old out.new result }
+    ensures call { IsCanonicalCall (rows_lent list.old) mode text.now out.old out.new result }
     ensures unwritten { result.status ≢ 0 → out.new ≡ out.old }
+    ensures kept { rows_lent list.new ≡ rows_lent list.old }
 {
-    match open(alloc, list, mode) {
-        Ok((cat, mode)) => of_put(spdx_calls::canonical(alloc, &cat, mode, text, out)),
-        Err(fault) => fault,
-    }
+    let Some(seen) = list.take() else {
+        return plain(report::ARGUMENT);
+    };
+    let report = match mode_of(mode) {
+        Some(mode) => of_put(spdx_calls::canonical(alloc, seen.get(), mode, text, out)),
+        None => plain(report::ARGUMENT),
+    };
+    list.put_back(seen);
+    report
 }
 
 /// Puts the fix of a text into the buffer.
 #[unsafe(no_mangle)]
-pub extern "C" fn spdx_slices_fix(alloc: Global, list: &[u8], text: &[u8], out: &mut [u8]) -> Report
-    ensures call { IsFixCall list.now text.now out.old out.new result }
+pub extern "C" fn spdx_slices_fix(
+    alloc: Global,
+    list: &mut ListLoan,
+    text: &[u8],
+    out: &mut [u8],
+) -> Report
+    ensures call { IsFixCall (rows_lent list.old) text.now out.old out.new result }
     ensures unwritten { result.status ≢ 0 → out.new ≡ out.old }
+    ensures kept { rows_lent list.new ≡ rows_lent list.old }
 {
-    match open(alloc, list, 0) {
-        Ok((cat, _)) => of_fix(spdx_calls::fix(alloc, &cat, text, out)),
-        Err(fault) => fault,
-    }
+    let Some(seen) = list.take() else {
+        return plain(report::ARGUMENT);
+    };
+    let report = of_fix(spdx_calls::fix(alloc, seen.get(), text, out));
+    list.put_back(seen);
+    report
 }
 
 /// Puts the normal text of an expression into the buffer.
 #[unsafe(no_mangle)]
 pub extern "C" fn spdx_slices_normal(
     alloc: Global,
-    list: &[u8],
+    list: &mut ListLoan,
     mode: u32,
     text: &[u8],
     out: &mut [u8],
 ) -> Report
-    ensures call { IsNormalCall list.now mode text.now out.old out.new result }
+    ensures call { IsNormalCall (rows_lent list.old) mode text.now out.old out.new result }
     ensures unwritten { result.status ≢ 0 → out.new ≡ out.old }
+    ensures kept { rows_lent list.new ≡ rows_lent list.old }
 {
-    match open(alloc, list, mode) {
-        Ok((cat, mode)) => of_put(spdx_calls::normal(alloc, &cat, mode, text, out)),
-        Err(fault) => fault,
-    }
+    let Some(seen) = list.take() else {
+        return plain(report::ARGUMENT);
+    };
+    let report = match mode_of(mode) {
+        Some(mode) => of_put(spdx_calls::normal(alloc, seen.get(), mode, text, out)),
+        None => plain(report::ARGUMENT),
+    };
+    list.put_back(seen);
+    report
 }
 
 /// Whether those who hold the licensees, one on each line, may use what comes under the expression.
 #[unsafe(no_mangle)]
 pub extern "C" fn spdx_slices_evaluate(
     alloc: Global,
-    list: &[u8],
+    list: &mut ListLoan,
     mode: u32,
     text: &[u8],
     licensees: &[u8],
 ) -> Report
-    ensures { IsEvaluation list.now mode text.now licensees.now result }
+    ensures call { IsEvaluation (rows_lent list.old) mode text.now licensees.now result }
+    ensures kept { rows_lent list.new ≡ rows_lent list.old }
 {
-    match open(alloc, list, mode) {
-        Ok((cat, mode)) => { of_truth(spdx_calls::evaluate(alloc, &cat, mode, text, licensees)) }
-        Err(fault) => fault,
-    }
+    let Some(seen) = list.take() else {
+        return plain(report::ARGUMENT);
+    };
+    let report = match mode_of(mode) {
+        Some(mode) => { of_truth(spdx_calls::evaluate(alloc, seen.get(), mode, text, licensees)) }
+        None => plain(report::ARGUMENT),
+    };
+    list.put_back(seen);
+    report
 }
 
 /// Whether the expression is true where bit `i` tells whether requirement `i`, from the left, is met.
 #[unsafe(no_mangle)]
 pub extern "C" fn spdx_slices_evaluate_bits(
     alloc: Global,
-    list: &[u8],
+    list: &mut ListLoan,
     mode: u32,
     text: &[u8],
     bits: &[u8],
     count: usize,
 ) -> Report
-    ensures { IsBitsCall list.now mode text.now bits.now count result }
+    ensures call { IsBitsCall (rows_lent list.old) mode text.now bits.now count result }
+    ensures kept { rows_lent list.new ≡ rows_lent list.old }
 {
-    match open(alloc, list, mode) {
-        Ok((cat, mode)) => {
-            of_truth(spdx_calls::evaluate_bits(alloc, &cat, mode, text, bits, count))
+    let Some(seen) = list.take() else {
+        return plain(report::ARGUMENT);
+    };
+    let report = match mode_of(mode) {
+        Some(mode) => {
+            of_truth(spdx_calls::evaluate_bits(alloc, seen.get(), mode, text, bits, count))
         }
-        Err(fault) => fault,
-    }
+        None => plain(report::ARGUMENT),
+    };
+    list.put_back(seen);
+    report
 }
 
 /// Puts the requirements of an expression into the buffer, from left to right, one on each line.
 #[unsafe(no_mangle)]
 pub extern "C" fn spdx_slices_requirements(
     alloc: Global,
-    list: &[u8],
+    list: &mut ListLoan,
     mode: u32,
     text: &[u8],
     out: &mut [u8],
 ) -> Report
-    ensures call { IsRequirementsCall list.now mode text.now out.old out.new result }
+    ensures call { IsRequirementsCall (rows_lent list.old) mode text.now out.old out.new result }
     ensures unwritten { result.status ≢ 0 → out.new ≡ out.old }
+    ensures kept { rows_lent list.new ≡ rows_lent list.old }
 {
-    match open(alloc, list, mode) {
-        Ok((cat, mode)) => of_put(spdx_calls::requirements(alloc, &cat, mode, text, out)),
-        Err(fault) => fault,
-    }
+    let Some(seen) = list.take() else {
+        return plain(report::ARGUMENT);
+    };
+    let report = match mode_of(mode) {
+        Some(mode) => of_put(spdx_calls::requirements(alloc, seen.get(), mode, text, out)),
+        None => plain(report::ARGUMENT),
+    };
+    list.put_back(seen);
+    report
 }
 
 /// Puts the requirements of the least choice among the licensees into the buffer, one on each line.
 #[unsafe(no_mangle)]
 pub extern "C" fn spdx_slices_choose(
     alloc: Global,
-    list: &[u8],
+    list: &mut ListLoan,
     mode: u32,
     text: &[u8],
     licensees: &[u8],
     out: &mut [u8],
 ) -> Report
-    ensures call { IsChoiceCall list.now mode text.now licensees.now out.old out.new result }
+    ensures call { IsChoiceCall (rows_lent list.old) mode text.now licensees.now out.old out.new result }
     ensures unwritten { result.status ≢ 0 → out.new ≡ out.old }
+    ensures kept { rows_lent list.new ≡ rows_lent list.old }
 {
-    match open(alloc, list, mode) {
-        Ok((cat, mode)) => { of_put(spdx_calls::choose(alloc, &cat, mode, text, licensees, out)) }
-        Err(fault) => fault,
-    }
+    let Some(seen) = list.take() else {
+        return plain(report::ARGUMENT);
+    };
+    let report = match mode_of(mode) {
+        Some(mode) => { of_put(spdx_calls::choose(alloc, seen.get(), mode, text, licensees, out)) }
+        None => plain(report::ARGUMENT),
+    };
+    list.put_back(seen);
+    report
 }
 
 /// Puts the verdicts of all lines of the input into the buffer: what `spdx_lines` writes.
 #[unsafe(no_mangle)]
 pub extern "C" fn spdx_slices_lines(
     alloc: Global,
-    list: &[u8],
+    list: &mut ListLoan,
     mode: u32,
     licensees: &[u8],
     input: &[u8],
     out: &mut [u8],
 ) -> Report
-    ensures call { IsLinesCall list.now mode licensees.now input.now out.old out.new result }
+    ensures call { IsLinesCall (rows_lent list.old) mode licensees.now input.now out.old out.new result }
     ensures unwritten { result.status ≢ 0 → out.new ≡ out.old }
+    ensures kept { rows_lent list.new ≡ rows_lent list.old }
 {
-    match open_lines(alloc, list, mode) {
-        Ok((cat, mode)) => {
-            of_answered(spdx_calls::lines(alloc, &cat, mode, licensees, input, out))
+    let Some(seen) = list.take() else {
+        return plain(report::ARGUMENT);
+    };
+    let report = match line_mode_of(mode) {
+        Some(mode) => {
+            of_answered(spdx_calls::lines(alloc, seen.get(), mode, licensees, input, out))
         }
-        Err(fault) => fault,
-    }
+        None => plain(report::ARGUMENT),
+    };
+    list.put_back(seen);
+    report
 }

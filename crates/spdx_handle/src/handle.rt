@@ -1,0 +1,103 @@
+//! The handle that C keeps, and what it hands in to read the list.
+//!
+//! Both are a pointer and a number, and all zeroes stand for a handle with no list.
+
+ghost use Rattle.std.specs.Prelude.{◌≡◌, ◌==◌, None, Some, IfSome, is_some};
+ghost use Rattle.spdx_handle.specs.Held.{IsHeld};
+
+use crate::loan::{Loan, Seen};
+use crate::parts::Parts;
+use crate::slot::Slot;
+use spdx_catalogue::catalogue::Catalogue;
+use std::alloc::Global;
+use std::mem::replace;
+
+/// A list that was read and is owned, or none.
+///
+/// Its drop forgets the list: `take` it first.
+#[repr(C)]
+#[derive(Drop)]
+pub struct ListHandle {
+    pub(crate) slot: Slot,
+    pub(crate) state: u32,
+    ghost tells: { (state == 1) ≡ is_some slot.held },
+}
+
+/// A list that is lent, or none.
+#[repr(C)]
+#[derive(Drop)]
+pub struct ListLoan {
+    pub(crate) loan: Loan,
+    pub(crate) state: u32,
+    ghost tells: { (state == 1) ≡ is_some loan.held },
+}
+
+impl ListHandle {
+    ghost use Rattle.spdx_handle.specs.Lists.{rows_of};
+
+    /// Whether there is a list.
+    pub fn is_open(&self) -> bool
+        ensures { result ≡ is_some (rows_of self.now) }
+    {
+        self.state == 1
+    }
+
+    /// Takes this list, where there was none.
+    pub fn put(&mut self, list: Box<Catalogue, Global>)
+        requires { rows_of self.old ≡ None }
+        ensures { rows_of self.new ≡ Some list.value }
+    {
+        *self = ListHandle {
+            slot: Slot::of_parts(Parts::of(list)),
+            state: 1,
+        };
+    }
+
+    /// Gives the list up, if there is one.
+    pub fn take(&mut self, alloc: Global) -> Option<Box<Catalogue, Global>>
+        ensures closed { rows_of self.new ≡ None }
+        ensures some { IfSome result (λ list. rows_of self.old ≡ Some list.value) }
+        ensures none { is_some result ≡ is_some (rows_of self.old) }
+    {
+        if self.state != 1 {
+            return None;
+        }
+        let none = ListHandle {
+            slot: Slot::empty(),
+            state: 0,
+        };
+        let ListHandle { slot, state: _ } = replace(self, none);
+        Some(slot.into_parts(alloc).into_box())
+    }
+}
+
+impl ListLoan {
+    ghost use Rattle.spdx_handle.specs.Lists.{rows_lent};
+
+    /// Takes the right to read the list, if there is one.
+    pub fn take(&mut self) -> Option<Seen>
+        ensures empty { rows_lent self.new ≡ None }
+        ensures some { IfSome result (λ seen. rows_lent self.old ≡ Some seen.rows) }
+        ensures none { is_some result ≡ is_some (rows_lent self.old) }
+    {
+        if self.state != 1 {
+            return None;
+        }
+        let none = ListLoan {
+            loan: Loan::empty(),
+            state: 0,
+        };
+        let ListLoan { loan, state: _ } = replace(self, none);
+        Some(loan.into_seen())
+    }
+
+    /// Puts the right to read the list back.
+    pub fn put_back(&mut self, seen: Seen)
+        ensures { rows_lent self.new ≡ Some seen.rows }
+    {
+        *self = ListLoan {
+            loan: Loan::of_seen(seen),
+            state: 1,
+        };
+    }
+}
