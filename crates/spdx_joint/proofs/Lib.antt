@@ -1,0 +1,4 @@
+pub mod Growing
+pub mod Meeting
+pub mod Passing
+pub mod Together

@@ -1,0 +1,6 @@
+pub mod Choice
+pub mod GrowthLaws
+pub mod JudgeModel
+pub mod Members
+pub mod Passes
+pub mod Questions
