@@ -2,11 +2,12 @@
 use Rattle.std.proofs.Common.{◌≡◌, ℕ, Bool, true, false, cond, List, [], ◌∷◌, ◌++◌, Option, Some, None, Result, Ok, Err, refl, sym, ◌∙◌, ap, append_assoc, append-nil, is_some, option_map, suc, arith}
 use Rattle.std.specs.Prelude.{codes}
 use Rattle.std.specs.List.{All}
+use Rattle.std.specs.Option.{option_map_or}
 use Rattle.spdx_lexer.specs.Layout.{IsPlace, place_of}
 use Rattle.spdx_requirement.specs.Rows.{LicenseRow}
 use Rattle.spdx_requirement.specs.Flags.{is_gnu}
 use Rattle.spdx_lexer.specs.Words.{Word, Spdx, Plus, Fault, Span, Item, Unexpected}
-use Rattle.spdx_canonical.specs.Canonical.{gnu_name, written_name, word_text, text_behind, is_spdx, is_misplaced, canonical_fault, words_of, unless}
+use Rattle.spdx_canonical.specs.Canonical.{gnu_name, written_name, word_text, text_behind, is_spdx, is_misplaced, canonical_fault, words_of}
 use Rattle.spdx_canonical.specs.Draft.{Drafted, extended, IsOff}
 use Rattle.spdx_canonical.proofs.Drafts.{not_off_text}
 use Rattle.spdx_canonical.specs.NextText.{marked_name, license_and_plus, is_plus_word, decided_text, own_text, next_text, waiting}
@@ -15,6 +16,10 @@ use Rattle.spdx_canonical.specs.NextText.{marked_name, license_and_plus, is_plus
 abbrev pub waiting_words : Option LicenseRow → List Word → List Word
 waiting_words None ws = ws
 waiting_words (Some r) ws = Spdx r ∷ ws
+
+-- the text, unless there is a fault
+abbrev pub unless : Option (Fault × Span) → List ℕ → Result (List ℕ) (Fault × Span)
+unless o text = option_map_or (λ fault. Err fault) o (Ok text)
 
 abbrev pub continued : Drafted → Option LicenseRow → List Item → Result (List ℕ) (Fault × Span)
 continued d before items = unless (canonical_fault (is_some before) items) (d.bytes ++ text_behind false (waiting_words before (words_of items)))

@@ -17,8 +17,8 @@ use Rattle.spdx_parser.specs.Tree.{Tree}
 use Rattle.spdx_parser.specs.Grammar.{may_stand, later_row}
 use Rattle.spdx_parser.proofs.Threaded.{LicenseOf, plain, marked}
 use Rattle.spdx_parser.proofs.Complete.{the_only}
-use Rattle.spdx_canonical.specs.Canonical.{is_spdx, is_misplaced, canonical_fault, words_of, unless, canonical_of, gnu_name, written_name, plus_follows, canonical_text, only_row, canonical_row, canonical_words}
-use Rattle.spdx_canonical.specs.Law.{EachName, is_good, only_license, only_tree, Accepts, IsSound, IsFaithful}
+use Rattle.spdx_canonical.specs.Canonical.{is_spdx, is_misplaced, canonical_fault, words_of, canonical_of, gnu_name, written_name, plus_follows, canonical_text, only_row, canonical_row, canonical_words}
+use Rattle.spdx_canonical.specs.Law.{EachName, is_good, only_license, tree_by, Accepts, IsSound, IsFaithful}
 use Rattle.spdx_canonical.proofs.Known.{license_named}
 use Rattle.spdx_canonical.proofs.Neighbours.{may_follow, AreApart, AreRead, apart}
 use Rattle.spdx_canonical.proofs.Terms.{license_term}
@@ -56,7 +56,7 @@ whole last (Ok x ∷ items) (w ∷ ws) e a =
 pub has_text : (c : Rows) (text : List ℕ) (ws : List Word) → Spells c lax text ws → AreApart OpenParen ws → canonical_of c text ≡ Ok (canonical_text ws)
 has_text c text ws e a =
     let w = whole OpenParen (reading c lax 0 text) ws e a in
-    ap (λ o. unless o (canonical_text (words_of (reading c lax 0 text)))) w.no_fault ∙ ap (λ (vs : List Word). let r : Result (List ℕ) _ = Ok (canonical_text vs) in r) w.words
+    ap (λ o. option_map_or (λ fault. Err fault) o (Ok (canonical_text (words_of (reading c lax 0 text))))) w.no_fault ∙ ap (λ (vs : List Word). let r : Result (List ℕ) _ = Ok (canonical_text vs) in r) w.words
 
 -- ---- each name is listed
 
@@ -161,8 +161,8 @@ module _ (c : Rows) (well : IsTrue (is_well_formed c)) where
       let written = again c well OpenParen ws a known names in
       record {
         read = spelt strict;
-        meant = the_only c strict (canonical_words c ws) (only_tree c t) derived;
-        again = has_text c (canonical_text ws) (canonical_words c ws) (spelt lax) (apart c strict (canonical_words c ws) (only_tree c t) derived) ∙ ap (λ (x : List ℕ). let r : Result (List ℕ) _ = Ok x in r) written;
+        meant = the_only c strict (canonical_words c ws) (tree_by (only_license c) t) derived;
+        again = has_text c (canonical_text ws) (canonical_words c ws) (spelt lax) (apart c strict (canonical_words c ws) (tree_by (only_license c) t) derived) ∙ ap (λ (x : List ℕ). let r : Result (List ℕ) _ = Ok x in r) written;
         written = written;
       }
 

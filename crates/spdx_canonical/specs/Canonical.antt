@@ -1,5 +1,6 @@
 -- The canonical text of a licence expression: what is written for each of its words, and where there is none.
 use Rattle.std.specs.Prelude.{ℕ, Bool, true, false, not, ◌&&◌, List, [], ◌∷◌, ◌++◌, Option, Some, None, Result, Ok, Err, if◌then◌else◌, codes, unwrap_or, bytes_eq}
+use Rattle.std.specs.Option.{option_map_or}
 use Rattle.spdx_requirement.specs.Rows.{Rows, LicenseRow}
 use Rattle.spdx_requirement.specs.Flags.{is_gnu}
 use Rattle.spdx_requirement.specs.Endings.{only, or_later, has_suffix, without_only}
@@ -100,11 +101,6 @@ words_of [] = []
 words_of (Err fault ∷ items) = words_of items
 words_of (Ok found ∷ items) = found.0 ∷ words_of items
 
--- the text, unless there is a fault
-abbrev pub unless : Option (Fault × Span) → List ℕ → Result (List ℕ) (Fault × Span)
-unless None text = Ok text
-unless (Some fault) text = Err fault
-
 -- the answer to a text: no other text where the canonical one is the text itself
 abbrev pub answer_to : List ℕ → Result (List ℕ) (Fault × Span) → Result (Option (List ℕ)) (Fault × Span)
 answer_to text (Ok canonical) = Ok (if bytes_eq canonical text then None else Some canonical)
@@ -112,4 +108,6 @@ answer_to text (Err fault) = Err fault
 
 -- The canonical text of a text, as a lax reader finds it, or the fault for which it has none.
 abbrev pub canonical_of : Rows → List ℕ → Result (List ℕ) (Fault × Span)
-canonical_of c text = let items : List Item = reading c lax 0 text in unless (canonical_fault false items) (canonical_text (words_of items))
+canonical_of c text =
+    let items : List Item = reading c lax 0 text in
+    option_map_or (λ fault. Err fault) (canonical_fault false items) (Ok (canonical_text (words_of items)))

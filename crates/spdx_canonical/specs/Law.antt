@@ -44,10 +44,6 @@ abbrev pub only_license : Rows → LicenseTerm → LicenseTerm
 only_license c (listed r marked) = listed (only_row c r) marked
 only_license c (referred r) = referred r
 
--- each bare GNU licence made `-only`
-abbrev pub only_tree : Rows → Tree → Tree
-only_tree c t = tree_by (only_license c) t
-
 -- ---- the laws
 
 -- a reader in this mode accepts the text: it finds these words, without a fault, and they mean this tree
@@ -64,7 +60,7 @@ pub record IsSound (c : Rows) (text : List ℕ) (ws : List Word) (t : Tree) : Ty
 -- the tree with each bare GNU licence made `-only`, and no other; it is its own canonical text, and that of the canonical words.
 pub record IsFaithful (c : Rows) (ws : List Word) (t : Tree) : Type 0 where
   pub read : Spells c strict (canonical_text ws) (canonical_words c ws)
-  pub meant : IsTheTree c strict (canonical_words c ws) (only_tree c t)
+  pub meant : IsTheTree c strict (canonical_words c ws) (tree_by (only_license c) t)
   pub again : canonical_of c (canonical_text ws) ≡ Ok (canonical_text ws)
   pub written : canonical_text (canonical_words c ws) ≡ canonical_text ws
 

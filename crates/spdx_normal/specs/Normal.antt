@@ -1,6 +1,6 @@
 -- The normal text of a tree: its requirements as they print, its operators in capitals, and parentheses where the tree
 -- needs them.
-use Rattle.std.specs.Prelude.{ℕ, Bool, true, false, not, List, ◌++◌, codes}
+use Rattle.std.specs.Prelude.{ℕ, Bool, true, false, List, ◌++◌, codes}
 use Rattle.spdx_requirement.specs.Texts.{requirement_text}
 use Rattle.spdx_parser.specs.declared.node.Operator.{Operator}
 use Rattle.spdx_parser.specs.declared.node.Operator.TheVariants.{And, Or}
@@ -11,10 +11,6 @@ abbrev pub root : Tree → Node
 root (Leaf r) = Req r
 root (Join o l r) = Op o
 
-abbrev pub is_leaf : Node → Bool
-is_leaf (Req r) = true
-is_leaf (Op o) = false
-
 abbrev pub is_or : Node → Bool
 is_or (Op Or) = true
 is_or (Op And) = false
@@ -22,7 +18,8 @@ is_or (Req r) = false
 
 -- whether an operand with this root has parentheses there: AND binds tighter, and chains of one operator lean right
 abbrev pub left_in_parens : Operator → Node → Bool
-left_in_parens And n = not (is_leaf n)
+left_in_parens And (Req r) = false
+left_in_parens And (Op o) = true
 left_in_parens Or n = is_or n
 
 abbrev pub right_in_parens : Operator → Node → Bool
