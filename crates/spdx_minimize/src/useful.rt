@@ -70,7 +70,9 @@ fn satisfies_one(licensee: &Licensee<'_>, nodes: &[ExprNode<'_>]) -> bool
     false
 }
 
-// Whether the licensee satisfies the requirement. Of most pairs the rows alone say that it does not.
+// Whether the licensee satisfies the requirement. Of most pairs the rows alone say that it does not, so that a pair costs
+// no call.
+#[inline(always)]
 pub(crate) fn satisfies(licensee: &Licensee<'_>, requirement: &LicenseReq<'_>) -> bool
     ensures { result ≡ spec.satisfies licensee.now (requirement_of requirement.now) }
 {
@@ -79,6 +81,7 @@ pub(crate) fn satisfies(licensee: &Licensee<'_>, requirement: &LicenseReq<'_>) -
 
 // Whether the licence that is held may cover the required one: where both are listed, another one can only where later
 // versions may be meant.
+#[inline(always)]
 fn may_cover(held: &LicenseItem<'_>, required: &LicenseItem<'_>) -> bool
     ensures { result ≡ false →
         spec.covers (license_of held.now) (license_of required.now) ≡ false }
