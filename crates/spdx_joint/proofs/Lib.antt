@@ -1,3 +1,4 @@
+pub mod Allowing
 pub mod Growing
 pub mod Meeting
 pub mod Passing

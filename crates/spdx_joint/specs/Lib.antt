@@ -4,3 +4,4 @@ pub mod JudgeModel
 pub mod Members
 pub mod Passes
 pub mod Questions
+pub mod Texts
