@@ -1,0 +1,103 @@
+// What packages are used under.
+
+use spdx_catalogue::Catalogue;
+use spdx_joint::{Allowed, Joint, Offer, Reading, allowed_text, joint_choices};
+use spdx_parser::node::ExprNode;
+use spdx_policy::Policy;
+use spdx_why::Remedy;
+use std::alloc::{AllocError, Global};
+
+/// The packages of some rows, in their order.
+#[derive(Drop)]
+pub(crate) struct Rows<'c> {
+    /// What each row asks.
+    pub asked: Vec<String>,
+    /// What it wants.
+    pub wanted: Vec<String>,
+    offers: Vec<Offer<'c>>,
+    own: Vec<Remedy>,
+}
+
+/// The rows of some lines; those that hold no expression are left out.
+pub(crate) fn read_rows<'c>(
+    alloc: Global,
+    catalogue: &'c Catalogue,
+    policy: &Policy<'_>,
+    lines: &str,
+) -> Result<Rows<'c>, AllocError> {
+    let mut rows = Rows {
+        asked: Vec::new(alloc),
+        wanted: Vec::new(alloc),
+        offers: Vec::new(alloc),
+        own: Vec::new(alloc),
+    };
+    for line in lines.lines() {
+        if line.is_empty() || line.starts_with('#') {
+            continue;
+        }
+        let (asked, wanted) = line.split_once(" => ").unwrap_or((line, ""));
+        if let Reading::Read(allowed) = read(alloc, catalogue, policy, asked)? {
+            let Allowed { offer, own } = allowed;
+            rows.offers.push(offer)?;
+            rows.own.push(own)?;
+            rows.asked.push(String::from_str(alloc, asked)?)?;
+            rows.wanted.push(String::from_str(alloc, wanted)?)?;
+        }
+    }
+    Ok(rows)
+}
+
+fn read<'c>(
+    alloc: Global,
+    catalogue: &'c Catalogue,
+    policy: &Policy<'_>,
+    asked: &str,
+) -> Result<Reading<'c>, AllocError> {
+    let (name, rest) = asked.split_once(" ").unwrap_or((asked, ""));
+    let (version, text) = rest.split_once(" ").unwrap_or((rest, ""));
+    let exceptions = policy.exceptions_for(alloc, name, Some(version))?;
+    allowed_text(alloc, catalogue, policy, &exceptions, text)
+}
+
+/// What each row is answered: what its package is used under alone, and by the one choice for all.
+pub(crate) fn answers(alloc: Global, rows: &Rows<'_>) -> Result<Vec<String>, AllocError> {
+    let together = together(alloc, rows)?;
+    let mut answers = Vec::new(alloc);
+    for place in 0..rows.offers.len() {
+        if let Some(offer) = rows.offers.get(place) {
+            let alone = told(alloc, offer, rows.own.get(place))?;
+            let joined = told(alloc, offer, together.get(place))?;
+            answers.push(format!(in alloc; "{alone} ; {joined}")?)?;
+        }
+    }
+    Ok(answers)
+}
+
+fn together(alloc: Global, rows: &Rows<'_>) -> Result<Vec<Remedy>, AllocError> {
+    match joint_choices(alloc, &rows.offers)? {
+        Joint::Together(choices) => Ok(choices),
+        Joint::Unmet | Joint::TooMany(_) => Ok(Vec::new(alloc)),
+    }
+}
+
+// The requirements of a choice; `-`, where there is none.
+fn told(alloc: Global, offer: &Offer<'_>, choice: Option<&Remedy>) -> Result<String, AllocError> {
+    let Some(Remedy::Accept(numbers)) = choice else {
+        return String::from_str(alloc, "-");
+    };
+    let mut text = String::new(alloc);
+    let mut number: usize = 0;
+    for node in offer.nodes() {
+        if let ExprNode::Req(requirement) = node {
+            if numbers.contains(&number) {
+                let name = format!(in alloc; "{}", requirement.req)?;
+                if !text.is_empty() {
+                    text.push_str(", ")?;
+                }
+                text.push_str(&name)?;
+            }
+            number = number.saturating_add(1);
+        }
+    }
+    Ok(text)
+}
