@@ -6,12 +6,19 @@ use crate::trouble::Trouble;
 use package_sources::{License, Package};
 use spdx::expression::ExprNode;
 use spdx::{Catalogue, Expression, Failure, LicenseReq, Licensee, ParseMode};
-use spdx_gate::{Judged, Outcome, judge_text};
-use spdx_notice::{RequirementTexts, Unmet, joint_choices, own_choices, texts_of};
+use spdx_joint::{Allowed, Joint, Offer, Reading, allowed_text};
+use spdx_notice::{RequirementTexts, Unmet, own_choices, texts_of};
 use spdx_policy::Policy;
 use spdx_why::Remedy;
 use spdx_words::{Accepted, NoticeRequest};
 use std::alloc::{AllocError, Global};
+
+// Whom one choice for all is for, and why there is none.
+const ALL: &str = "all packages together";
+
+const NOT_ALLOWED: &str = "not allowed by the policy";
+
+const TOO_MANY: &str = "more than 1,024 requirements";
 
 /// The requirements of a package's choice, with the texts that they want.
 pub(crate) type Choice = Vec<RequirementTexts>;
@@ -41,10 +48,9 @@ pub(crate) fn choices<R: System>(
                 request.one_for_all,
             )
         }
-        Accepted::Policy(_) if request.one_for_all => Err(Trouble::NotTogether),
         Accepted::Policy(path) => {
             let policy = policy(rt, catalogue, path)?;
-            allowed(alloc, catalogue, &policy, packages)
+            allowed(alloc, catalogue, &policy, packages, request.one_for_all)
         }
     }
 }
@@ -125,7 +131,7 @@ fn among<'c>(
 ) -> Result<Vec<Choice>, Trouble> {
     let lent: Vec<&Expression<'c>> = expressions.iter().collect(alloc)?;
     let chosen = if one_for_all {
-        joint_choices(alloc, &lent, accepted)
+        spdx_notice::joint_choices(alloc, &lent, accepted)
     } else {
         own_choices(alloc, &lent, accepted)
     };
@@ -151,7 +157,7 @@ fn unmet_trouble(
         }
         Unmet::Together(error) => {
             let why = format!(in alloc; "{error}")?;
-            Ok(Trouble::NoChoice(String::from_str(alloc, "all packages together")?, why))
+            Ok(Trouble::NoChoice(String::from_str(alloc, ALL)?, why))
         }
     }
 }
@@ -168,26 +174,61 @@ fn with_texts(alloc: Global, choices: &[Vec<LicenseReq<'_>>]) -> Result<Vec<Choi
     Ok(all)
 }
 
-// The least choice of each package among what the policy allows it.
+// The choice of each package among what the policy allows it.
 fn allowed(
     alloc: Global,
     catalogue: &Catalogue,
     policy: &Policy<'_>,
     packages: &[&Package],
+    one_for_all: bool,
 ) -> Result<Vec<Choice>, Trouble> {
+    let Offered { offers, own } = offered(alloc, catalogue, policy, packages)?;
+    let choices = if one_for_all {
+        together(alloc, &offers)?
+    } else {
+        own
+    };
     let mut all = Vec::new(alloc);
-    for package in packages {
-        all.push(allowed_choice(alloc, catalogue, policy, package)?)?;
+    for ((package, offer), choice) in packages.iter().zip(offers.iter()).zip(choices.iter()) {
+        let numbers = numbers_of(alloc, package, choice)?;
+        all.push(chosen(alloc, offer.nodes(), numbers)?)?;
     }
     Ok(all)
 }
 
-fn allowed_choice(
+// What a policy allows of packages, and what each is used under alone.
+#[derive(Drop)]
+struct Offered<'c> {
+    offers: Vec<Offer<'c>>,
+    own: Vec<Remedy>,
+}
+
+// What the policy allows of each package. One that has no choice of its own is a trouble.
+fn offered<'c>(
     alloc: Global,
-    catalogue: &Catalogue,
+    catalogue: &'c Catalogue,
+    policy: &Policy<'_>,
+    packages: &[&Package],
+) -> Result<Offered<'c>, Trouble> {
+    let mut offers = Vec::new(alloc);
+    let mut own = Vec::new(alloc);
+    for package in packages {
+        let allowed = allowed_package(alloc, catalogue, policy, package)?;
+        let Allowed { offer, own: choice } = allowed;
+        numbers_of(alloc, package, &choice)?;
+        offers.push(offer)?;
+        own.push(choice)?;
+    }
+    Ok(Offered { offers, own })
+}
+
+// What the policy allows of a package's expression.
+fn allowed_package<'c>(
+    alloc: Global,
+    catalogue: &'c Catalogue,
     policy: &Policy<'_>,
     package: &Package,
-) -> Result<Choice, Trouble> {
+) -> Result<Allowed<'c>, Trouble> {
     let name = package.name.as_str();
     let version = match &package.version {
         Some(version) => Some(version.as_str()),
@@ -202,25 +243,47 @@ fn allowed_choice(
         None => stated(alloc, package)?,
     };
     let exceptions = policy.exceptions_for(alloc, name, version)?;
-    let why = match judge_text(alloc, catalogue, policy, &exceptions, text)? {
-        Outcome::Judged(judged) => match &judged.choice {
-            Remedy::Accept(numbers) => return Ok(chosen(alloc, &judged, numbers)?),
-            Remedy::Unmet => String::from_str(alloc, "not allowed by the policy")?,
-            Remedy::TooMany(_) => String::from_str(alloc, "more than 1,024 requirements")?,
-        },
-        Outcome::Unreadable(fault) => {
+    match allowed_text(alloc, catalogue, policy, &exceptions, text)? {
+        Reading::Read(allowed) => Ok(allowed),
+        Reading::Unreadable(fault) => {
             let reason = fault.reason;
-            format!(in alloc; "{text}: {reason}")?
+            let why = format!(in alloc; "{text}: {reason}")?;
+            Err(without_choice(alloc, package, why)?)
         }
+    }
+}
+
+// The numbers of a package's choice, if there is one.
+fn numbers_of<'n>(
+    alloc: Global,
+    package: &Package,
+    choice: &'n Remedy,
+) -> Result<&'n [usize], Trouble> {
+    let why = match choice {
+        Remedy::Accept(numbers) => return Ok(numbers.as_slice()),
+        Remedy::Unmet => NOT_ALLOWED,
+        Remedy::TooMany(_) => TOO_MANY,
     };
+    let why = String::from_str(alloc, why)?;
     Err(without_choice(alloc, package, why)?)
 }
 
+// The choice of each package in the one choice for all.
+fn together(alloc: Global, offers: &[Offer<'_>]) -> Result<Vec<Remedy>, Trouble> {
+    let why = match spdx_joint::joint_choices(alloc, offers)? {
+        Joint::Together(choices) => return Ok(choices),
+        Joint::Unmet => NOT_ALLOWED,
+        Joint::TooMany(_) => TOO_MANY,
+    };
+    let why = String::from_str(alloc, why)?;
+    Err(Trouble::NoChoice(String::from_str(alloc, ALL)?, why))
+}
+
 // The requirements of these numbers, with the texts that they want.
-fn chosen(alloc: Global, judged: &Judged<'_>, numbers: &[usize]) -> Result<Choice, AllocError> {
+fn chosen(alloc: Global, nodes: &[ExprNode<'_>], numbers: &[usize]) -> Result<Choice, AllocError> {
     let mut choice = Vec::new(alloc);
     let mut number: usize = 0;
-    for node in judged.nodes.as_slice() {
+    for node in nodes {
         if let ExprNode::Req(requirement) = node {
             if numbers.contains(&number) {
                 choice.push(texts_of(alloc, &requirement.req)?)?;

@@ -32,8 +32,6 @@ pub(crate) enum Trouble {
     NoPackage(String),
     /// A package has no choice, and why.
     NoChoice(String, String),
-    /// One choice for all is asked for by a policy, which allows each package its own.
-    NotTogether,
     /// A licence's text can't be had, and why.
     Text(String, String),
     /// The list has no such name; and what is told of those that may be meant.
@@ -134,10 +132,6 @@ impl Trouble {
             Trouble::Accepted(name, why) => write!(text, "spdx: --accept: {name}: {why}\n"),
             Trouble::NoPackage(name) => write!(text, "spdx: --explain: no package {name}\n"),
             Trouble::NoChoice(package, why) => write!(text, "spdx: {package}: {why}\n"),
-            Trouble::NotTogether => write!(
-                text,
-                "spdx: --one-for-all goes with --accept: a policy may allow one package what it denies another\n"
-            ),
             Trouble::Text(name, why) => write!(text, "spdx: the text of {name}: {why}\n"),
             Trouble::Unlisted(name, meant) => {
                 write!(text, "spdx: {name}: not in the list{meant}\n")
