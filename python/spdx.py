@@ -7,9 +7,9 @@
     licences.evaluate_bits("MIT OR Zlib", [False, True])    # True: requirement by requirement
     licences.lines(["MIT", "Apache2"], ["MIT"])             # a verdict for each, in one call
 
-Texts are str or bytes; places are in bytes of UTF-8. `Licences` reads its list once, and any number of threads may ask it
-at once; Python's lock is free meanwhile. Its memory is given back with the object, or before by `close` or the end of a
-`with`, which are for when no other thread asks it.
+Texts are str or bytes; places are in bytes of UTF-8. `Licences` reads its list once, and any number of threads may ask
+it at once; Python's lock is free meanwhile. Its memory is given back with the object, or before, by `close` or the end
+of a `with`, which are for when no other thread asks it.
 """
 
 from __future__ import annotations

@@ -3,7 +3,6 @@
 //! Both are a pointer and a number, and all zeroes stand for a handle with no list.
 
 ghost use Rattle.std.specs.Prelude.{◌≡◌, ◌==◌, None, Some, IfSome, is_some};
-ghost use Rattle.spdx_handle.specs.Held.{IsHeld};
 
 use crate::loan::{Loan, Seen};
 use crate::parts::Parts;
@@ -12,8 +11,14 @@ use spdx_catalogue::catalogue::Catalogue;
 use std::alloc::Global;
 use std::mem::replace;
 
+// What the number of an open handle is. In one that C made, all zeroes, it is another.
+const OPEN: u32 = 1;
+
+const CLOSED: u32 = 0;
+
 /// A list that was read and is owned, or none.
 ///
+/// C hands it to one call at a time: as all zeroes, or as the last call left it, while no `ListLoan` of it is in use.
 /// Its drop forgets the list: `take` it first.
 #[repr(C)]
 #[derive(Drop)]
@@ -24,6 +29,9 @@ pub struct ListHandle {
 }
 
 /// A list that is lent, or none.
+///
+/// C hands in the copy of a `ListHandle` whose list stays until the call has ended. Many calls may have such copies at
+/// once.
 #[repr(C)]
 #[derive(Drop)]
 pub struct ListLoan {
@@ -39,7 +47,7 @@ impl ListHandle {
     pub fn is_open(&self) -> bool
         ensures { result ≡ is_some (rows_of self.now) }
     {
-        self.state == 1
+        self.state == OPEN
     }
 
     /// Takes this list, where there was none.
@@ -49,7 +57,7 @@ impl ListHandle {
     {
         *self = ListHandle {
             slot: Slot::of_parts(Parts::of(list)),
-            state: 1,
+            state: OPEN,
         };
     }
 
@@ -59,12 +67,12 @@ impl ListHandle {
         ensures some { IfSome result (λ list. rows_of self.old ≡ Some list.value) }
         ensures none { is_some result ≡ is_some (rows_of self.old) }
     {
-        if self.state != 1 {
+        if self.state != OPEN {
             return None;
         }
         let none = ListHandle {
             slot: Slot::empty(),
-            state: 0,
+            state: CLOSED,
         };
         let ListHandle { slot, state: _ } = replace(self, none);
         Some(slot.into_parts(alloc).into_box())
@@ -80,12 +88,12 @@ impl ListLoan {
         ensures some { IfSome result (λ seen. rows_lent self.old ≡ Some seen.rows) }
         ensures none { is_some result ≡ is_some (rows_lent self.old) }
     {
-        if self.state != 1 {
+        if self.state != OPEN {
             return None;
         }
         let none = ListLoan {
             loan: Loan::empty(),
-            state: 0,
+            state: CLOSED,
         };
         let ListLoan { loan, state: _ } = replace(self, none);
         Some(loan.into_seen())
@@ -97,7 +105,7 @@ impl ListLoan {
     {
         *self = ListLoan {
             loan: Loan::of_seen(seen),
-            state: 1,
+            state: OPEN,
         };
     }
 }

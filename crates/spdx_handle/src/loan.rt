@@ -37,6 +37,9 @@ impl Model for Seen {
     ghost also_shares = { λ s _ κ. seen_shares s.at s.rows κ };
 }
 
+// Threads may read the catalogue at once.
+unsafe impl Send for Loan {}
+
 impl Loan {
     pub(crate) fn empty() -> Loan
         ensures { result.held ≡ None }

@@ -24,6 +24,9 @@ impl Model for Slot {
     ghost also_owns = { λ s. slot_owns s.at s.held };
 }
 
+// The catalogue may go to another thread, and C's heap frees the block on any.
+unsafe impl Send for Slot {}
+
 impl Slot {
     pub(crate) fn empty() -> Slot
         ensures { result.held ≡ None }
