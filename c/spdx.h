@@ -73,9 +73,9 @@ typedef struct {
     uint32_t state;
 } spdx_list;
 
-/* Reads a list into a closed handle, which is left closed at any status but SPDX_OK. It is JSON in the form of
- * `spdx list make` (share/spdx/spdx.json), and is not needed after. SPDX_LIST, SPDX_MEMORY, or SPDX_ARGUMENT where the
- * handle is open. It takes half a millisecond or more. */
+/* Reads a list into a closed handle. It is JSON in the form of `spdx list make` (share/spdx/spdx.json), and is not
+ * needed after. SPDX_LIST, SPDX_MEMORY, or SPDX_ARGUMENT where the handle is open: it stays as it was then. It takes
+ * half a millisecond or more. */
 spdx_report spdx_open(spdx_text json, spdx_list *list);
 
 /* Frees the list of an open handle, which is closed then; SPDX_ARGUMENT where it was closed. */
