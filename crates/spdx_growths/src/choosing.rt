@@ -2,7 +2,8 @@
 
 use crate::end::{Answer, End, end_if};
 use spdx::{
-    Catalogue, Expression, ExpressionJudge, Failure, LicenseReq, Licensee, minimized_for_all,
+    AcceptedLicensees, Catalogue, Expression, ExpressionJudge, Failure, LicenseReq, Licensee,
+    MinimizeError, minimized_for_all,
 };
 use std::alloc::{AllocError, Global};
 
@@ -34,6 +35,7 @@ pub(crate) fn answer(alloc: Global, catalogue: &Catalogue, call: &str) -> Answer
     match call {
         "ExpressionJudge::new" => judge(alloc, catalogue),
         "minimized_requirements" => for_one(alloc, catalogue),
+        "minimized_among" => among(alloc, catalogue),
         "minimized_for_all" => for_two(alloc, catalogue),
         _ => Err(End::Otherwise("no call has that name")),
     }
@@ -65,6 +67,35 @@ fn for_one(alloc: Global, catalogue: &Catalogue) -> Answer {
         Ok(requirements) => joined(alloc, requirements.as_slice()),
         Err(Failure::Memory(_)) => Err(end_if(expression == before)),
         Err(Failure::Refused(_)) => Err(End::Otherwise("no choice")),
+    }
+}
+
+// What was chosen, or how a call ended that gave no choice.
+fn chosen<'c>(
+    choice: Result<Vec<LicenseReq<'c>>, Failure<MinimizeError>>,
+    is_as_before: bool,
+) -> Result<Vec<LicenseReq<'c>>, End> {
+    match choice {
+        Ok(requirements) => Ok(requirements),
+        Err(Failure::Memory(_)) => Err(end_if(is_as_before)),
+        Err(Failure::Refused(_)) => Err(End::Otherwise("no choice")),
+    }
+}
+
+// Twice, so that the second choice has what the first one left in memory, if there was some.
+fn among(alloc: Global, catalogue: &Catalogue) -> Answer {
+    let licensees = licensees(alloc, catalogue)?;
+    let expression = Expression::parse(alloc, catalogue, TEXT)?;
+    let before = expression.try_clone(alloc)?;
+    let mut accepted = AcceptedLicensees::new(alloc, licensees.as_slice());
+    let choice = expression.minimized_among(alloc, &mut accepted);
+    let first = chosen(choice, expression == before)?;
+    let choice = expression.minimized_among(alloc, &mut accepted);
+    let second = chosen(choice, expression == before)?;
+    if first == second {
+        joined(alloc, second.as_slice())
+    } else {
+        Err(End::Otherwise("another choice"))
     }
 }
 

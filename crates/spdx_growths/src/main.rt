@@ -30,6 +30,7 @@ evaluate_with_failures
 Licensee::parse
 ExpressionJudge::new
 minimized_requirements
+minimized_among
 minimized_for_all
 normal_text
 run

@@ -85,6 +85,9 @@ impl<'a, 'c> AcceptedLicensees<'a, 'c> {
             nows members.items ≡ useful (trees_in lists.now) (licensees_of self.old)) }
         ensures licensees { licensees_of self.new ≡ licensees_of self.old }
     {
+        if self.licensees.is_empty() {
+            return Ok(Vec::new(alloc));
+        }
         let mut places = Vec::new(alloc);
         for list in lists {
             self.put_places_for_all(alloc, list.nodes, &mut places)?;
