@@ -6,16 +6,21 @@ use denote.RawPtr.{Ptr}
 use denote.Struct.Lending.{lent_at}
 use Rattle.std.specs.Prelude.{ℕ, Option, None, Some}
 use Rattle.std.specs.Box.Ownership.{box_owns}
-use Rattle.libc.specs.Heap.{chunk}
+use Rattle.std.specs.declared.alloc.Global.{Global}
+use Rattle.std.specs.contracts.impls.GlobalAllocator.TheImpl.{ghosts}
 use Rattle.spdx_catalogue.specs.contracts.catalogue.Catalogue.{the_row}
 
 abbrev pub rows_coded : Coded the_row.Denot
 rows_coded = the_row.coded
 
+-- a handle to the heap; the right to free a block is the same for each
+abbrev pub the_heap : Global
+the_heap = record { memory = record { seal = tt } }
+
 -- nothing, or what a box at p owns
 abbrev pub slot_owns : Ptr → Option the_row.Denot → Fml
 slot_owns p None = ftrue
-slot_owns p (Some x) = box_owns chunk the_row p x
+slot_owns p (Some x) = box_owns (ghosts.dealloc_token the_heap) the_row p x
 
 -- a share of the token of the lifetime a, and what a `&` to the catalogue at p holds for that lifetime
 abbrev pub seen_owns : Ptr → ℕ → the_row.Denot → Fml
