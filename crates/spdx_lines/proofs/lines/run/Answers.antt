@@ -2,6 +2,7 @@ use Rattle.std.proofs.Common.{◌≡◌, ◌∙◌, ap, subst, refl}
 use Rattle.line_engine.proofs.Splitting.{splits}
 use Rattle.line_engine.specs.Device.{devices}
 use Rattle.line_engine.specs.Runs.{Runs}
+use Rattle.spdx_minimize.specs.AcceptedModel.{licensees_of}
 use Rattle.spdx_lines.specs.Found.{rule_of, verdict}
 use Rattle.spdx_lines.proofs.Verdict.{the_verdict}
 use Rattle.spdx_lines.proofs.lines.run.Goals as goal
@@ -13,8 +14,8 @@ returns g c =
     let accepted = c.args.accepted.now in
     let made = c.new-each.result in
     let same = c.new-each.ensures in
-    let rule : rule_of made.cat.now made.mode made.accepted.now ≡ rule_of cat mode accepted =
-    ap (λ x. rule_of x made.mode made.accepted.now) same.cat ∙ ap (λ x. rule_of cat x made.accepted.now) same.mode ∙ ap (λ x. rule_of cat mode x) same.accepted in
+    let rule : rule_of made.cat.now made.mode (licensees_of made.accepted) ≡ rule_of cat mode accepted =
+    ap (λ x. rule_of x made.mode (licensees_of made.accepted)) same.cat ∙ ap (λ x. rule_of cat x (licensees_of made.accepted)) same.mode ∙ ap (λ x. rule_of cat mode x) same.accepted in
     let d = devices (g.I.Source.told c.args.input.now) (g.I.Source.told c.run.new.input) (g.O.Sink.told c.args.output.now) (g.O.Sink.told c.run.new.output) in
     record {
       verdict = verdict cat mode;
