@@ -182,7 +182,7 @@ fn allowed(
     packages: &[&Package],
     one_for_all: bool,
 ) -> Result<Vec<Choice>, Trouble> {
-    let Offered { offers, own } = offered(alloc, catalogue, policy, packages)?;
+    let Offered { offers, own } = read_offers(alloc, catalogue, policy, packages)?;
     let choices = if one_for_all {
         together(alloc, &offers)?
     } else {
@@ -204,7 +204,7 @@ struct Offered<'c> {
 }
 
 // What the policy allows of each package. One that has no choice of its own is a trouble.
-fn offered<'c>(
+fn read_offers<'c>(
     alloc: Global,
     catalogue: &'c Catalogue,
     policy: &Policy<'_>,
