@@ -7,12 +7,18 @@ ghost use Rattle.spdx_parser.specs.State.{operators};
 use crate::node::{ExprNode, NodeList, Operator};
 use std::alloc::AllocError;
 
+// A full list makes room for so many at once, since few expressions that outgrow the inline place have less nodes.
+const MORE: usize = 7;
+
 /// One more node.
 pub fn put<'c>(nodes: &mut NodeList<'c>, node: ExprNode<'c>) -> Result<(), AllocError>
     ensures { OnOk result (map placed_node nodes.new.items
         ≡ map placed_node nodes.old.items ++ placed_node node.entry ∷ []) }
 {
-    nodes.push(node)?;
+    if nodes.len() == nodes.capacity() {
+        nodes.reserve(MORE)?;
+    }
+    nodes.push_reserved(node);
     Ok(())
 }
 
