@@ -1,14 +1,25 @@
 // Writing of nodes.
 
 ghost use Rattle.std.specs.Prelude.{◌≡◌, [], ◌∷◌, ◌++◌, OnOk, map};
+ghost use Rattle.smallvec.specs.SmallVec.{HasRoomFor};
 ghost use Rattle.spdx_parser.specs.Nodes.{placed_node};
 ghost use Rattle.spdx_parser.specs.State.{operators};
 
 use crate::node::{ExprNode, NodeList, Operator};
 use std::alloc::AllocError;
 
-// A full list makes room for so many at once, since few expressions that outgrow the inline place have less nodes.
+// The first allocation has room for eight nodes: few expressions have more.
 const MORE: usize = 7;
+
+/// Room for more nodes.
+#[cold]
+#[inline(never)]
+pub fn make_room(nodes: &mut NodeList<'_>) -> Result<(), AllocError>
+    ensures items { nodes.new.items ≡ nodes.old.items }
+    ensures room { OnOk result (HasRoomFor nodes.new 1) }
+{
+    nodes.reserve(MORE)
+}
 
 /// One more node.
 pub fn put<'c>(nodes: &mut NodeList<'c>, node: ExprNode<'c>) -> Result<(), AllocError>
@@ -16,7 +27,7 @@ pub fn put<'c>(nodes: &mut NodeList<'c>, node: ExprNode<'c>) -> Result<(), Alloc
         ≡ map placed_node nodes.old.items ++ placed_node node.entry ∷ []) }
 {
     if nodes.len() == nodes.capacity() {
-        nodes.reserve(MORE)?;
+        make_room(nodes)?;
     }
     nodes.push_reserved(node);
     Ok(())

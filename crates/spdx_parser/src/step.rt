@@ -11,7 +11,7 @@ ghost use Rattle.spdx_parser.specs.State.{if_taken, all_joined};
 use crate::last::{Last, may_stand};
 use crate::name::{Name, addition_item, license_item, marked};
 use crate::node::{ExprNode, ExpressionReq, Operator};
-use crate::nodes::{put, put_operators};
+use crate::nodes::{make_room, put, put_operators};
 use crate::parser::{Frame, Opened, Parser};
 use spdx_catalogue::{AdditionItem, Catalogue, LicenseId, LicenseReq};
 use spdx_lexer::token::{ParseMode, Token};
@@ -75,6 +75,16 @@ impl<'c, 't> Parser<'c, 't> {
         Ok(true)
     }
 
+    // An operator was read, so that one inline place won't do: the first node needn't move later.
+    fn expect_more(&mut self) -> Result<(), AllocError>
+        ensures { OnOk result (self.new ≡ self.old) }
+    {
+        if self.nodes.is_empty() {
+            make_room(&mut self.nodes)?;
+        }
+        Ok(())
+    }
+
     // Behind a licence.
     fn after_license(&mut self, token: Token<'_, '_>) -> Result<bool, AllocError>
         requires { self.old.frame.ors + self.old.frame.ands + 1 < 2 ^ 64 }
@@ -86,7 +96,12 @@ impl<'c, 't> Parser<'c, 't> {
                 self.last = Last::Joined;
                 Ok(true)
             }
-            Token::And | Token::Or | Token::CloseParen => {
+            Token::And | Token::Or => {
+                self.expect_more()?;
+                self.require(None)?;
+                self.operate(token)
+            }
+            Token::CloseParen => {
                 self.require(None)?;
                 self.operate(token)
             }
