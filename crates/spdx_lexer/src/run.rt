@@ -9,10 +9,21 @@ ghost use Rattle.spdx_lexer.specs.Text.{IsRunLeft};
 
 use spdx_catalogue::names::is_name_byte;
 
+// Each byte of a run stands at its own place, and a comma at every other place.
+static RUN_BYTES: [u8; 256] = *b"\
+    ,,,,,,,,,,,,,,,,,,,,,,,,,,,,,,,,\
+    ,,,,,,,,,,,,,-.,0123456789:,,,,,\
+    ,ABCDEFGHIJKLMNOPQRSTUVWXYZ,,,,,\
+    ,abcdefghijklmnopqrstuvwxyz,,,,,\
+    ,,,,,,,,,,,,,,,,,,,,,,,,,,,,,,,,\
+    ,,,,,,,,,,,,,,,,,,,,,,,,,,,,,,,,\
+    ,,,,,,,,,,,,,,,,,,,,,,,,,,,,,,,,\
+    ,,,,,,,,,,,,,,,,,,,,,,,,,,,,,,,,";
+
 fn is_run_byte(b: u8) -> bool
     ensures { result ≡ spec.is_run_byte b }
 {
-    b.is_ascii_alphabetic() || matches!(b, b'0'..=b':' | b'-' | b'.')
+    RUN_BYTES[b as usize] != b','
 }
 
 #[tactic(auto, using(crate::proofs::Front::fronts))]
