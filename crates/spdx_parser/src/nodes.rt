@@ -1,9 +1,10 @@
 // Writing of nodes.
 
-ghost use Rattle.std.specs.Prelude.{◌≡◌, [], ◌∷◌, ◌++◌, OnOk, map};
+ghost use Rattle.std.specs.Prelude.{◌≡◌, [], ◌∷◌, ◌++◌, None, OnOk, map};
 ghost use Rattle.smallvec.specs.SmallVec.{HasRoomFor};
 ghost use Rattle.spdx_parser.specs.Nodes.{placed_node};
 ghost use Rattle.spdx_parser.specs.State.{operators};
+ghost use Rattle.spdx_parser.specs.Tree.{Op};
 
 use crate::node::{ExprNode, NodeList, Operator};
 use std::alloc::AllocError;
@@ -22,6 +23,7 @@ pub fn make_room(nodes: &mut NodeList<'_>) -> Result<(), AllocError>
 }
 
 /// One more node.
+#[inline(always)]
 pub fn put<'c>(nodes: &mut NodeList<'c>, node: ExprNode<'c>) -> Result<(), AllocError>
     ensures { OnOk result (map placed_node nodes.new.items
         ≡ map placed_node nodes.old.items ++ placed_node node.entry ∷ []) }
@@ -31,6 +33,14 @@ pub fn put<'c>(nodes: &mut NodeList<'c>, node: ExprNode<'c>) -> Result<(), Alloc
     }
     nodes.push_reserved(node);
     Ok(())
+}
+
+#[inline(never)]
+fn put_operator(nodes: &mut NodeList<'_>, operator: Operator) -> Result<(), AllocError>
+    ensures { OnOk result (map placed_node nodes.new.items
+        ≡ map placed_node nodes.old.items ++ (Op operator, None) ∷ []) }
+{
+    put(nodes, ExprNode::Op(operator))
 }
 
 /// An operator, so many times.
@@ -43,7 +53,7 @@ pub fn put_operators(
         ≡ map placed_node nodes.old.items ++ operators operator count) }
 {
     for _i in 0..count {
-        put(nodes, ExprNode::Op(operator))?;
+        put_operator(nodes, operator)?;
     }
     Ok(())
 }
