@@ -1,9 +1,10 @@
 -- What a draft comes to that hears the words of an expression.
 use Rattle.std.proofs.Common.{◌≡◌, ℕ, false, List, [], ◌∷◌, ◌++◌, Option, Some, None, Result, Ok, refl, sym, ◌∙◌, ap, append_assoc, append-nil, is_some}
+use Rattle.std.specs.List.{fold}
 use Rattle.spdx_requirement.specs.Rows.{LicenseRow}
 use Rattle.spdx_lexer.specs.Words.{Word, Spdx, Unknown, OpenParen, Fault, Span}
 use Rattle.spdx_parser.specs.Last as last
-use Rattle.spdx_parser.specs.Last.{Last, Joined, next_last, last_behind}
+use Rattle.spdx_parser.specs.Last.{Last, Joined, next_last}
 use Rattle.spdx_parser.specs.Heard.{listed_last, Along, HearsAll}
 use Rattle.spdx_canonical.specs.Canonical.{text_behind, canonical_text, is_spdx, is_misplaced, answer_to}
 use Rattle.spdx_canonical.specs.Draft.{Drafted, extended, difference}
@@ -30,7 +31,7 @@ spdx_waits (Spdx r) = refl
 spdx_waits _ = refl
 
 along_written : (from : Drafted) (last : Last) (w : Word) (ws : List Word) (to : Drafted) → is_spdx w ≡ is_some (listed_last last) → AreApart w ws → Along Writes from last ws to
-    → (to.text ≡ from.text) × (to.bytes ++ text_behind false (waiting_words (listed_last (last_behind last ws)) []) ≡ from.bytes ++ text_behind false (waiting_words (listed_last last) ws))
+    → (to.text ≡ from.text) × (to.bytes ++ text_behind false (waiting_words (listed_last (fold next_last last ws)) []) ≡ from.bytes ++ text_behind false (waiting_words (listed_last last) ws))
 along_written from last w [] to s a e =
     (ap (λ (d : Drafted). d.text) (sym e), ap (λ (d : Drafted). d.bytes ++ text_behind false (waiting_words (listed_last last) [])) (sym e))
 along_written from last w (v ∷ ws) to s a (next, h, rest) =
@@ -51,7 +52,7 @@ pub all_written : (from : Drafted) (ws : List Word) (to : Drafted) → AreApart 
 all_written from ws to a h =
     let all = along_written from last.Due OpenParen ws h.behind refl a h.each in (
       ap (λ (d : Drafted). d.text) h.end ∙ all.0,
-      ap (λ (d : Drafted). d.bytes) h.end ∙ ap (λ (t : List ℕ). h.behind.bytes ++ t) (sym (ended (listed_last (last_behind last.Due ws)))) ∙ all.1,
+      ap (λ (d : Drafted). d.bytes) h.end ∙ ap (λ (t : List ℕ). h.behind.bytes ++ t) (sym (ended (listed_last (fold next_last last.Due ws)))) ∙ all.1,
     )
 
 -- the answer that a draft gives, which was begun beside a text

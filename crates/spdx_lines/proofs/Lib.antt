@@ -1,5 +1,3 @@
-pub mod Open
-pub mod Tracked
 pub mod Outcome
 pub mod Laxer
 pub mod Verdict

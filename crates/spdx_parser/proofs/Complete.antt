@@ -8,7 +8,7 @@ use Rattle.spdx_lexer.specs.Words.{Word, Plus, CloseParen, With, And, Or}
 use Rattle.spdx_parser.specs.declared.node.Operator.{Operator}
 use Rattle.spdx_parser.specs.Tree.{Tree, Leaf, Join}
 use Rattle.spdx_parser.specs.Grammar.{may_stand, later_row, Derives, IsTheTree}
-use Rattle.spdx_parser.specs.Machine
+use Rattle.spdx_parser.proofs.Machine
 use Rattle.spdx_parser.proofs.Runs
 use Rattle.spdx_parser.proofs.Threaded.{LicenseOf, plain, marked, later, named, unknown, AdditionOf, exception, named_addition, unknown_addition, LeafOf, alone, joined, PrimaryOf, leaf, group, AndOf, one_primary, and_more, OrOf, one_and, or_more, threaded}
 
@@ -30,12 +30,12 @@ abbrev pub AfterLicense : List Word → Type 0
 AfterLicense (With ∷ ws) = Unit {0}
 AfterLicense ws = AfterPrimary ws
 
-abbrev pub in_state : Machine.Phase → Machine.Frame → List Machine.Frame → Machine.State
-in_state p f fs = record { phase = p; frame = f; outer = fs }
+abbrev pub in_state : Machine.Part → Machine.Frame → List Machine.Frame → Machine.State
+in_state p f fs = record { part = p; frame = f; outer = fs }
 
 module _ (c : Rows) (m : ParseMode) where
   -- what the machine makes of the rest, from a state given by its parts
-  abbrev from : Machine.Phase → Machine.Frame → List Machine.Frame → List Word → Option Tree
+  abbrev from : Machine.Part → Machine.Frame → List Machine.Frame → List Word → Option Tree
   from p f fs ws = Runs.parsed c m (in_state p f fs) ws
 
   -- a fresh licence is one where no plus follows

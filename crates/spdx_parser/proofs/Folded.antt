@@ -9,7 +9,7 @@ use Rattle.spdx_parser.specs.declared.parser.Frame.{Frame}
 use Rattle.spdx_parser.specs.Tree.{Tree, Join, Node, Op, postfix, node_of}
 use Rattle.spdx_parser.specs.Nodes.{PlacedNode, placed_node}
 use Rattle.spdx_parser.specs.Spans.{requirement_spans}
-use Rattle.spdx_parser.specs.Machine as machine
+use Rattle.spdx_parser.proofs.Machine as machine
 use Rattle.spdx_parser.specs.State.{operators}
 
 -- ---- the nodes of frames
@@ -26,9 +26,9 @@ abbrev pub outer_nodes : List machine.Frame → List Node
 outer_nodes [] = []
 outer_nodes (f ∷ fs) = outer_nodes fs ++ frame_nodes f
 
-abbrev pub phase_nodes : machine.Phase → List Node
-phase_nodes (machine.Whole t) = postfix t
-phase_nodes _ = []
+abbrev pub part_nodes : machine.Part → List Node
+part_nodes (machine.Whole t) = postfix t
+part_nodes _ = []
 
 abbrev pub frame_of : machine.Frame → Frame
 frame_of f = record { ors = length f.ors; ands = length f.ands }

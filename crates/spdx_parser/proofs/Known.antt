@@ -1,6 +1,7 @@
 -- Every row that is read stands in the catalogue, and so does every row of a tree.
 use Rattle.std.proofs.Common.{◌≡◌, ℕ, ◌+◌, Bool, true, false, cond, ◌&&◌, ◌==◌, nat_lt, List, [], ◌∷◌, ◌++◌, length, drop, map, Option, Some, None, Result, Ok, Err, refl, subst, IfSome, IfOk, option_map}
 use Rattle.std.specs.Prelude.{codes, bytes_eq, ◌||◌, if◌then◌else◌, slice_get}
+use Rattle.std.specs.List.{fold}
 use Rattle.spdx_requirement.specs.Rows.{Rows, LicenseRow, ExceptionRow}
 use Rattle.spdx_catalogue.specs.RowRules.{is_well_formed}
 use Rattle.spdx_catalogue.specs.LookUps as LookUps
@@ -15,7 +16,7 @@ use Rattle.spdx_lexer.specs.Groups.{license_reference, addition_reference, exact
 use Rattle.spdx_lexer.specs.Reading.{go_on, behind, items, reading}
 use Rattle.spdx_lexer.proofs.Found.{first_all, mapped, allowed, lexeme_all}
 use Rattle.spdx_parser.specs.Tree.{Tree, Leaf}
-use Rattle.spdx_parser.specs.Last.{Last, Joined, next_last, last_behind}
+use Rattle.spdx_parser.specs.Last.{Last, Joined, next_last}
 use Rattle.spdx_parser.specs.Meaning.{IsOfRows, IsLicenseOf, IsAdditionOf}
 use Rattle.spdx_parser.specs.Code.{IsLicenseRow, IsKnown}
 use Rattle.spdx_parser.specs.Grammar.{Derives}
@@ -64,7 +65,7 @@ module _ (c : Rows) where
   next_known last And h = tt
   next_known last Or h = tt
 
-  pub last_known : (last : Last) (ws : List Word) → IsKnown c last → AllKnown ws → IsKnown c (last_behind last ws)
+  pub last_known : (last : Last) (ws : List Word) → IsKnown c last → AllKnown ws → IsKnown c (fold next_last last ws)
   last_known last [] h all = h
   last_known last (w ∷ ws) h all = last_known (next_last last w) ws (next_known last w all.0) all.1
 

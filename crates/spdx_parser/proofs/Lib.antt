@@ -1,3 +1,4 @@
+pub mod Machine
 pub mod Runs
 pub mod Complete
 pub mod Sound
@@ -11,3 +12,4 @@ pub mod Shown
 pub mod Seen
 pub mod Loop
 pub mod Heard
+pub mod OneFault

@@ -2,6 +2,7 @@
 use Rattle.std.proofs.Common.{◌≡◌, ℕ, ◌+◌, ◌<◌, ◌≤◌, ◌^◌, Bool, true, false, List, [], ◌∷◌, ◌++◌, length, map, reverse, Option, Some, None, Ok, Err, refl, sym, ◌∙◌, ap, subst, arith, append_assoc, append-nil, length-append}
 use Rattle.std.specs.Prelude.{◌==◌}
 use Rattle.std.proofs.lemmas.List.{map-append, length-map, length-reverse, reverse-append}
+use Rattle.std.proofs.lemmas.List.Sums.{fold_push}
 use Rattle.spdx_requirement.specs.Rows.{Rows}
 use Rattle.spdx_catalogue.specs.RowRules.{is_well_formed}
 use Rattle.spdx_lexer.specs.declared.token.ParseMode.{ParseMode}
@@ -11,19 +12,19 @@ use Rattle.spdx_lexer.specs.Reading.{reading}
 use Rattle.spdx_parser.specs.declared.node.ExprNode.{ExprNode}
 use Rattle.spdx_parser.specs.declared.parser.Frame.{Frame}
 use Rattle.spdx_parser.specs.declared.parser.Opened.{Opened}
-use Rattle.spdx_parser.specs.Tree.{Tree}
-use Rattle.spdx_parser.specs.Nodes.{PlacedNode, placed_node}
+use Rattle.spdx_parser.specs.Tree.{Tree, postfix}
+use Rattle.spdx_parser.specs.Nodes.{placed_node}
 use Rattle.spdx_parser.specs.Last.{Due, last_of, next_last, is_license, is_closing, terms}
 use Rattle.spdx_parser.specs.Spans.{license_spans}
-use Rattle.spdx_parser.specs.Grammar.{Derives, IsViable}
-use Rattle.spdx_parser.specs.Faults.{opens, closes, fault_behind, word_fault, empty, short, unclosed, IsFaultOf, at_word, at_place, at_end, HasNoTree}
+use Rattle.spdx_parser.specs.Grammar.{Derives, IsViable, IsTheTree}
+use Rattle.spdx_parser.specs.Faults.{opens, closes, fault_behind, empty, short, unclosed, IsFaultOf, at_word, at_place, at_end, HasNoTree}
 use Rattle.spdx_lexer.specs.declared.error.ParseError.{ParseError}
 use Rattle.spdx_lexer.specs.Faults.{fault_of}
 use Rattle.spdx_requirement.specs.declared.failure.Failure.{Failure}
 use Rattle.spdx_requirement.specs.declared.failure.Failure.TheVariants.{Refused}
 use Rattle.spdx_requirement.specs.Failures.{IfRefused}
 use Rattle.spdx_parser.specs.Meaning.{IsParsed, IsRefused}
-use Rattle.spdx_parser.specs.Machine as machine
+use Rattle.spdx_parser.proofs.Machine as machine
 use Rattle.spdx_parser.proofs.Runs as runs
 use Rattle.spdx_parser.specs.Code.{IsKnown}
 use Rattle.spdx_parser.specs.State.{State, start, step, all_joined, require, if_taken}
@@ -31,8 +32,8 @@ use Rattle.spdx_parser.specs.ParserModel.{opened_of}
 use Rattle.spdx_parser.proofs.Complete.{complete}
 use Rattle.spdx_parser.proofs.Theorem.{run_front, viable, not_viable, the_tree, no_tree}
 use Rattle.spdx_parser.proofs.Shown.{Shows, Goes, FramesFit, add_span, spans_of, places_of, goes, ends, not_ended, ended_spans, starts}
-use Rattle.spdx_parser.proofs.Folded.{places_in, bare_nodes, places_nodes}
-use Rattle.spdx_parser.proofs.Seen.{Nest, whole, nest_more, none_open_is, last_open, last_more, spans_more, words_on}
+use Rattle.spdx_parser.proofs.Folded.{bare, places_in, bare_nodes, places_nodes}
+use Rattle.spdx_parser.proofs.Seen.{Nest, whole, nest_more, none_open_is, last_open, spans_more, words_on}
 use Rattle.spdx_parser.proofs.Known.{last_known, words_known, tree_known}
 
 abbrev pub is_nil : List Placed → Bool
@@ -108,7 +109,7 @@ module _ (c : Rows) (m : ParseMode) (text : List ℕ) where
     pub so_far : reading c m 0 text ≡ map Ok read ++ left
     pub state : machine.State
     pub reached : runs.run c m (Some machine.start) (words read) ≡ Some state
-    pub shows : Shows state.phase state.frame state.outer s
+    pub shows : Shows state.part state.frame state.outer s
     pub last_is : s.last ≡ last_of (words read)
     pub spans_are : spans_of s ≡ license_spans Due read
     pub nest : Nest read (places_of s)
@@ -119,7 +120,7 @@ module _ (c : Rows) (m : ParseMode) (text : List ℕ) where
   nothing_read left e = record { so_far = e; state = machine.start; reached = refl; shows = starts; last_is = refl; spans_are = refl; nest = whole refl; frames_fit = (omega arith, tt); begun = refl }
 
   -- a `)` is taken where a parenthesis is open
-  open_before : (p : machine.Phase) (f : machine.Frame) (fs : List machine.Frame) (s : machine.State) → machine.act c m p f fs CloseParen ≡ Some s → 0 < length fs
+  open_before : (p : machine.Part) (f : machine.Frame) (fs : List machine.Frame) (s : machine.State) → machine.act c m p f fs CloseParen ≡ Some s → 0 < length fs
   open_before p f (g ∷ gs) s e = omega arith
   open_before machine.Due f [] s e = absurd cc
   open_before (machine.Fresh r) f [] s e = absurd cc
@@ -144,7 +145,7 @@ module _ (c : Rows) (m : ParseMode) (text : List ℕ) where
     words_more w at = words_on read ((w, at) ∷ [])
 
     step_goes : (w : Word) (at : Span) → Goes s w at (machine.step c m r.state w) (step c m s (w, at))
-    step_goes w at = goes c m r.state.phase r.state.frame r.state.outer s w at r.shows
+    step_goes w at = goes c m r.state.part r.state.frame r.state.outer s w at r.shows
 
     -- a word that was taken
     pub takes : (w : Word) (at : Span) (more : List Item) (next : State) → left ≡ Ok (w, at) ∷ more → step c m s (w, at) ≡ if_taken true next → Reads (read ++ (w, at) ∷ []) more false next
@@ -161,10 +162,10 @@ module _ (c : Rows) (m : ParseMode) (text : List ℕ) where
           state = state;
           reached = ap (λ ws. runs.run c m (Some machine.start) ws) (words_more w at) ∙ run_front c m (words read) (w ∷ []) (Some r.state) r.reached ∙ h;
           shows = shows;
-          last_is = k.last_is ∙ ap (λ last. next_last last w) r.last_is ∙ sym (last_more Due (words read) w) ∙ ap last_of (sym (words_more w at));
+          last_is = k.last_is ∙ ap (λ last. next_last last w) r.last_is ∙ sym (fold_push next_last Due (words read) w) ∙ ap last_of (sym (words_more w at));
           spans_are = k.spans_are ∙ ap (λ last. add_span (is_license last w) (spans_of s) at) r.last_is ∙ ap (λ xs. add_span (is_license (last_of (words read)) w) xs at) r.spans_are ∙ sym (spans_more Due read w at);
           nest = subst (Nest (read ++ (w, at) ∷ [])) (sym k.places_are)
-              (nest_more read (places_of s) w at r.nest (λ close. subst (λ n. 0 < n) (sym (places_long ∙ opened_long)) (open_before r.state.phase r.state.frame r.state.outer state (subst (λ x. machine.step c m r.state x ≡ Some state) close h))));
+              (nest_more read (places_of s) w at r.nest (λ close. subst (λ n. 0 < n) (sym (places_long ∙ opened_long)) (open_before r.state.part r.state.frame r.state.outer state (subst (λ x. machine.step c m r.state x ≡ Some state) close h))));
           frames_fit = subst (λ n. FramesFit n next) (sym (length-append read ((w, at) ∷ []))) (k.frames_fit (length read) r.frames_fit);
           begun = sym (nil_more read (w, at));
         }
@@ -172,7 +173,7 @@ module _ (c : Rows) (m : ParseMode) (text : List ℕ) where
     -- a word that was refused
     pub stops : (w : Word) (at : Span) (more : List Item) (next : State) (none : Bool) (f : Fault) → left ≡ Ok (w, at) ∷ more → step c m s (w, at) ≡ if_taken false next → none ≡ (length s.opened == 0) → f ≡ fault_behind m s.last none w → IsFaultOf c m text f at
     stops w at more next none f is refused tells fault =
-        let same : f ≡ word_fault m (words read) w =
+        let same : f ≡ fault_behind m (last_of (words read)) (opens (words read) == closes (words read)) w =
         fault ∙ ap (λ b. fault_behind m s.last b w) (tells ∙ sym (ap (λ n. n == 0) places_long) ∙ sym (none_open_is read (places_of s) r.nest))
         ∙ ap (λ last. fault_behind m last (opens (words read) == closes (words read)) w) r.last_is in
         subst (λ x. IsFaultOf c m text x at) (sym same) (at_word read w more (r.so_far ∙ ap (λ xs. map Ok read ++ xs) is) is_viable (go (machine.step c m r.state w) refl (subst (Goes s w at (machine.step c m r.state w)) refused (step_goes w at))))
@@ -212,23 +213,23 @@ module _ (c : Rows) (m : ParseMode) (text : List ℕ) where
 
       -- a word that something has to follow
       pub ends_short : is_empty ≡ false → is_closing s.last ≡ false → IsFaultOf c m text (Unexpected (terms s.last)) (span (length text) 0)
-      ends_short begun e = go read all_read is_viable (no_tree c m (words read) r.state r.reached (not_ended r.state.phase r.state.frame r.state.outer s r.shows e)) (sym r.begun ∙ begun) r.last_is
+      ends_short begun e = go read all_read is_viable (no_tree c m (words read) r.state r.reached (not_ended r.state.part r.state.frame r.state.outer s r.shows e)) (sym r.begun ∙ begun) r.last_is
         where
           go : (xs : List Placed) → reading c m 0 text ≡ map Ok xs → IsViable c m (words xs) → ((t : Tree) → Derives c m (words xs) t → ⊥) → is_nil xs ≡ false → s.last ≡ last_of (words xs) → IsFaultOf c m text (Unexpected (terms s.last)) (span (length text) 0)
           go [] reads v none is now = absurd cc
           go (x ∷ xs) reads v none is now = subst (λ last. IsFaultOf c m text (Unexpected (terms last)) (span (length text) 0)) (sym now) (at_end (x ∷ xs) reads v none (short (subst (λ last. is_closing last ≡ false) now e)))
 
       -- a parenthesis that is left open
-      pub ends_open : (o : Span × Frame) (more : List (Span × Frame)) → is_closing s.last ≡ true → s.opened ≡ o ∷ more → IsFaultOf c m text UnclosedParens o.0
+      pub ends_open : (o : Span) (more : List Span) → is_closing s.last ≡ true → places_of s ≡ o ∷ more → IsFaultOf c m text UnclosedParens o
       ends_open o more e is =
-          let last_place = last_open read (map (λ (x : Span × Frame). x.0) more) o.0 (subst (λ xs. Nest read (map (λ (x : Span × Frame). x.0) xs)) is r.nest) in
+          let last_place = last_open read more o (subst (Nest read) is r.nest) in
           at_end read all_read is_viable (no_tree c m (words read) r.state r.reached none) (unclosed (subst (λ last. is_closing last ≡ true) r.last_is e) last_place)
         where
           bottom : (t : Tree) (fs : List machine.Frame) → 0 < length fs → machine.at_bottom t fs ≡ None
           bottom t [] lt = absurd (omega arith)
           bottom t (f ∷ fs) lt = refl
 
-          within : (p : machine.Phase) (f : machine.Frame) (fs : List machine.Frame) → 0 < length fs → machine.finish p f fs ≡ None
+          within : (p : machine.Part) (f : machine.Frame) (fs : List machine.Frame) → 0 < length fs → machine.finish p f fs ≡ None
           within machine.Due f fs lt = refl
           within (machine.Fresh x) f fs lt = bottom _ fs lt
           within (machine.Named l) f fs lt = bottom _ fs lt
@@ -236,30 +237,32 @@ module _ (c : Rows) (m : ParseMode) (text : List ℕ) where
           within (machine.Whole t) f fs lt = bottom _ fs lt
 
           long : 0 < length r.state.outer
-          long = subst (λ n. 0 < n) opened_long (subst (λ (xs : List (Span × Frame)). 0 < length xs) (sym is) (omega arith))
+          long = subst (λ n. 0 < n) (places_long ∙ opened_long) (subst (λ (xs : List Span). 0 < length xs) (sym is) (omega arith))
 
           none : machine.built r.state ≡ None
-          none = within r.state.phase r.state.frame r.state.outer long
+          none = within r.state.part r.state.frame r.state.outer long
+
+      -- the nodes are those of the tree that the words mean
+      pub ends_in_tree : is_closing s.last ≡ true → places_of s ≡ [] → (t : Tree) × IsTheTree c m (words read) t × (bare (all_joined (require s None)) ≡ postfix t)
+      ends_in_tree closing none = go r.state.outer refl
+        where
+          go : (fs : List machine.Frame) → r.state.outer ≡ fs → (t : Tree) × IsTheTree c m (words read) t × (bare (all_joined (require s None)) ≡ postfix t)
+          go [] outer =
+              let (t, ended, joined) = ends r.state.part r.state.frame s (subst (λ fs. Shows r.state.part r.state.frame fs s) outer r.shows) closing in
+              let final : runs.parsed c m machine.start (words read) ≡ Some t = ap runs.built_on r.reached ∙ ap (λ fs. machine.finish r.state.part r.state.frame fs) outer ∙ ended in
+              (t, the_tree c m (words read) t final, joined)
+          go (f ∷ fs) outer = let zero : length r.state.outer ≡ 0 = sym (places_long ∙ opened_long) ∙ ap length none in let long = ap length outer in absurd (omega arith)
 
       -- the whole
-      pub ends_well : is_well_formed c ≡ true → is_closing s.last ≡ true → s.opened ≡ [] → (nodes : List ExprNode) → map placed_node nodes ≡ all_joined (require s None) → IsParsed c m text nodes
-      ends_well well closing none nodes is = go r.state.outer refl
-        where
-          bottom : r.state.outer ≡ [] → IsParsed c m text nodes
-          bottom outer =
-              let (t, ended, joined) = ends r.state.phase r.state.frame s (subst (λ fs. Shows r.state.phase r.state.frame fs s) outer r.shows) closing in
-              let final : runs.parsed c m machine.start (words read) ≡ Some t = ap runs.built_on r.reached ∙ ap (λ fs. machine.finish r.state.phase r.state.frame fs) outer ∙ ended in
-              let meant = the_tree c m (words read) t final in
-              record {
-                read = read;
-                tree = t;
-                reads = all_read;
-                meant = meant;
-                nodes_are = sym (bare_nodes nodes) ∙ ap (λ xs. map (λ (n : PlacedNode). n.0) xs) is ∙ joined;
-                spans_are = sym (places_nodes nodes) ∙ ap places_in is ∙ ended_spans s ∙ r.spans_are;
-                rows_are = tree_known c well m (words read) t (words_known c well m text read left r.so_far) meant.derived;
-              }
-
-          go : (fs : List machine.Frame) → r.state.outer ≡ fs → IsParsed c m text nodes
-          go [] outer = bottom outer
-          go (f ∷ fs) outer = let zero : length r.state.outer ≡ 0 = sym opened_long ∙ ap length none in let long = ap length outer in absurd (omega arith)
+      pub ends_well : is_well_formed c ≡ true → is_closing s.last ≡ true → places_of s ≡ [] → (nodes : List ExprNode) → map placed_node nodes ≡ all_joined (require s None) → IsParsed c m text nodes
+      ends_well well closing none nodes is =
+          let (t, meant, joined) = ends_in_tree closing none in
+          record {
+            read = read;
+            tree = t;
+            reads = all_read;
+            meant = meant;
+            nodes_are = sym (bare_nodes nodes) ∙ ap bare is ∙ joined;
+            spans_are = sym (places_nodes nodes) ∙ ap places_in is ∙ ended_spans s ∙ r.spans_are;
+            rows_are = tree_known c well m (words read) t (words_known c well m text read left r.so_far) meant.derived;
+          }

@@ -4,7 +4,7 @@ use Rattle.spdx_requirement.specs.Rows.{Rows}
 use Rattle.spdx_lexer.specs.declared.token.ParseMode.{ParseMode}
 use Rattle.spdx_lexer.specs.Words.{Word}
 use Rattle.spdx_parser.specs.Tree.{Tree}
-use Rattle.spdx_parser.specs.Machine.{State, step, built}
+use Rattle.spdx_parser.proofs.Machine.{State, step, built}
 
 abbrev pub step_on : Rows → ParseMode → Option State → Word → Option State
 step_on c m None w = None

@@ -1,27 +1,24 @@
 -- What the definitions say of words with one more behind them, and of their parentheses.
 use Rattle.std.proofs.Common.{◌≡◌, ℕ, zero, suc, ◌+◌, ◌<◌, Bool, true, false, List, [], ◌∷◌, ◌++◌, length, Option, Some, None, refl, sym, ◌∙◌, ap, subst, arith, append_assoc, append-nil, ◌⊎◌, inl, inr}
 use Rattle.std.specs.Prelude.{if◌then◌else◌, ◌==◌}
+use Rattle.std.specs.List.{fold}
 use Rattle.std.proofs.lemmas.List.{map-append}
 use Rattle.std.proofs.lemmas.Bool.Decides.{eqb_tells}
 use Rattle.spdx_lexer.specs.Words.{Word, OpenParen, CloseParen, Span, Placed, words}
-use Rattle.spdx_parser.specs.Last.{Last, next_last, last_behind, is_license}
+use Rattle.spdx_parser.specs.Last.{Last, next_last, is_license}
 use Rattle.spdx_parser.specs.Spans.{license_spans}
 use Rattle.spdx_parser.specs.Faults.{opens, closes, IsLastOpen}
 use Rattle.spdx_parser.proofs.Shown.{add_span, but_first, move_places}
 
 -- ---- the last word and the licences
 
-pub last_more : (last : Last) (ws : List Word) (w : Word) → last_behind last (ws ++ w ∷ []) ≡ next_last (last_behind last ws) w
-last_more last [] w = refl
-last_more last (v ∷ ws) w = last_more (next_last last v) ws w
-
-pub spans_more : (last : Last) (read : List Placed) (w : Word) (s : Span) → license_spans last (read ++ (w, s) ∷ []) ≡ add_span (is_license (last_behind last (words read)) w) (license_spans last read) s
+pub spans_more : (last : Last) (read : List Placed) (w : Word) (s : Span) → license_spans last (read ++ (w, s) ∷ []) ≡ add_span (is_license (fold next_last last (words read)) w) (license_spans last read) s
 spans_more last [] w s = one (is_license last w)
   where
     one : (b : Bool) → (if b then s ∷ [] else []) ≡ add_span b [] s
     one true = refl
     one false = refl
-spans_more last (p ∷ read) w s = first (is_license last p.0) (is_license (last_behind (next_last last p.0) (words read)) w) _ _ (spans_more (next_last last p.0) read w s)
+spans_more last (p ∷ read) w s = first (is_license last p.0) (is_license (fold next_last (next_last last p.0) (words read)) w) _ _ (spans_more (next_last last p.0) read w s)
   where
     first : (b d : Bool) (xs ys : List Span) → xs ≡ add_span d ys s → (if b then p.1 ∷ xs else xs) ≡ add_span d (if b then p.1 ∷ ys else ys) s
     first true true xs ys e = ap (λ (zs : List Span). p.1 ∷ zs) e

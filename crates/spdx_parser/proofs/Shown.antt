@@ -1,4 +1,4 @@
--- The parser's states show those of the machine, whose frames hold trees, and go where it goes.
+-- What the parser holds shows what the machine holds, whose frames hold trees, and goes where it goes.
 use Rattle.std.proofs.Common.{◌≡◌, ℕ, ◌+◌, ◌≤◌, Bool, true, false, not, ◌&&◌, List, [], ◌∷◌, ◌++◌, length, map, Option, Some, None, option_map, refl, sym, ◌∙◌, ap, subst, arith, replicate, append_assoc, append-nil}
 use Rattle.std.specs.Prelude.{if◌then◌else◌}
 use Rattle.std.proofs.lemmas.List.{map-append}
@@ -12,16 +12,16 @@ use Rattle.spdx_parser.specs.declared.node.Operator.{Operator}
 use Rattle.spdx_parser.specs.declared.parser.Frame.{Frame}
 use Rattle.spdx_parser.specs.Tree.{Tree, Leaf, Op, Req, postfix}
 use Rattle.spdx_parser.specs.Nodes.{PlacedNode}
-use Rattle.spdx_parser.specs.Grammar.{may_stand, later_row, reference}
+use Rattle.spdx_parser.specs.Grammar.{may_stand, later_row}
 use Rattle.spdx_parser.specs.Last.{Last, Due, Listed, Unlisted, Named, Joined, Added, Closed, next_last, is_license, is_closing}
-use Rattle.spdx_parser.specs.Machine as machine
-use Rattle.spdx_parser.proofs.Folded.{frame_nodes, outer_nodes, phase_nodes, frame_of, flush_ands, flush_ors, bare, places_in, places_on, with_operators, same_places}
+use Rattle.spdx_parser.proofs.Machine as machine
+use Rattle.spdx_parser.proofs.Folded.{frame_nodes, outer_nodes, part_nodes, frame_of, flush_ands, flush_ors, bare, places_in, places_on, with_operators, same_places}
 use Rattle.spdx_parser.specs.State.{State, start, operators, all_joined, leaf_of, require, name_as, operate, after_license, read_due, marked, read_listed, read_joined, read_behind, step, close}
 
 -- ---- what a state shows
 
--- what was read last, and the licence of it, are those of the machine's phase
-abbrev Fits : machine.Phase → Last → Option LicenseTerm → Type 0
+-- what was read last, and the licence of it, are the part of a primary that the machine holds
+abbrev Fits : machine.Part → Last → Option LicenseTerm → Type 0
 Fits machine.Due Due None = Unit {0}
 Fits (machine.Fresh r) (Listed s) (Some l) = (r ≡ s) × (l ≡ listed r false)
 Fits (machine.Named k) Unlisted (Some l) = l ≡ k
@@ -31,9 +31,9 @@ Fits (machine.Whole t) Added None = Unit {0}
 Fits (machine.Whole t) Closed None = Unit {0}
 Fits _ _ _ = ⊥
 
-pub record Shows (p : machine.Phase) (f : machine.Frame) (fs : List machine.Frame) (s : State) : Type 0 where
+pub record Shows (p : machine.Part) (f : machine.Frame) (fs : List machine.Frame) (s : State) : Type 0 where
   pub fits : Fits p s.last s.license
-  pub nodes_are : bare s.nodes ≡ outer_nodes fs ++ (frame_nodes f ++ phase_nodes p)
+  pub nodes_are : bare s.nodes ≡ outer_nodes fs ++ (frame_nodes f ++ part_nodes p)
   pub frame_is : s.frame ≡ frame_of f
   pub frames_are : map (λ (o : Span × Frame). o.1) s.opened ≡ map frame_of fs
 
@@ -91,7 +91,7 @@ pub record Follows (s : State) (w : Word) (at : Span) (next : State) : Type 0 wh
 -- a state of the machine, and what the parser comes to; or neither
 abbrev pub Goes : State → Word → Span → Option machine.State → Option State → Type 0
 Goes s w at None None = Unit {0}
-Goes s w at (Some m) (Some next) = Shows m.phase m.frame m.outer next × Follows s w at next
+Goes s w at (Some m) (Some next) = Shows m.part m.frame m.outer next × Follows s w at next
 Goes s w at _ _ = ⊥
 
 -- ---- the steps
@@ -192,7 +192,7 @@ after l f fs s With at nodes frame frames is = (
 after l f fs s w at nodes frame frames is =
     operates (machine.bare_leaf l) f fs s (require s None) w at (required l None f fs s nodes frame frames is) (required_spans s None) refl refl refl
 
--- what stands as a phase
+-- which of them stand for a part
 
 due_is : (last : Last) (l : Option LicenseTerm) → Fits machine.Due last l → (last ≡ Due) × (l ≡ None)
 due_is Due None h = (refl, refl)
@@ -225,7 +225,7 @@ module _ (c : Rows) (m : ParseMode) where
   whole_behind t _ l s w at h = absurd h
 
   -- a licence that was read where one is due
-  begins : (p : machine.Phase) (last : Last) (l : LicenseTerm) (f : machine.Frame) (fs : List machine.Frame) (s : State) (w : Word) (at : Span) → Shows machine.Due f fs s → s.license ≡ None → Fits p last (Some l) → phase_nodes p ≡ [] → last ≡ next_last s.last w → is_license s.last w ≡ true → move_places w at (places_of s) ≡ places_of s → Shows p f fs (name_as s last l at) × Follows s w at (name_as s last l at)
+  begins : (p : machine.Part) (last : Last) (l : LicenseTerm) (f : machine.Frame) (fs : List machine.Frame) (s : State) (w : Word) (at : Span) → Shows machine.Due f fs s → s.license ≡ None → Fits p last (Some l) → part_nodes p ≡ [] → last ≡ next_last s.last w → is_license s.last w ≡ true → move_places w at (places_of s) ≡ places_of s → Shows p f fs (name_as s last l at) × Follows s w at (name_as s last l at)
   begins p last l f fs s w at h unheld fits none now license still = (
     record { fits = fits; nodes_are = h.nodes_are ∙ ap (λ ns. outer_nodes fs ++ (frame_nodes f ++ ns)) (sym none); frame_is = h.frame_is; frames_are = h.frames_are },
     record {
@@ -242,9 +242,9 @@ module _ (c : Rows) (m : ParseMode) where
       go : (b : Bool) → Goes s (Spdx r) at (machine.if_may b (machine.goes_to (machine.Fresh r) f fs)) (if b then Some (name_as s (Listed r) (listed r false) at) else None)
       go true = begins (machine.Fresh r) (Listed r) (listed r false) f fs s (Spdx r) at h unheld (refl, refl) refl refl refl refl
       go false = tt
-  due f fs s (LicenseRef d n) at h last unheld = begins (machine.Named (referred (reference d n))) Named (referred (reference d n)) f fs s (LicenseRef d n) at h unheld refl refl refl refl refl
+  due f fs s (LicenseRef d n) at h last unheld = begins (machine.Named (referred (record { document = d; name = n }))) Named (referred (record { document = d; name = n })) f fs s (LicenseRef d n) at h unheld refl refl refl refl refl
   due f fs s (Unknown n) at h last unheld =
-      begins (machine.Named (referred (reference None n))) Unlisted (referred (reference None n)) f fs s (Unknown n) at h unheld refl refl
+      begins (machine.Named (referred (record { document = None; name = n }))) Unlisted (referred (record { document = None; name = n })) f fs s (Unknown n) at h unheld refl refl
       (ap (λ x. next_last x (Unknown n)) (sym last)) (ap (λ x. is_license x (Unknown n)) last) refl
   due f fs s OpenParen at h last unheld = (
     record {
@@ -290,12 +290,12 @@ module _ (c : Rows) (m : ParseMode) where
 
   joined_goes : (k : LicenseTerm) (f : machine.Frame) (fs : List machine.Frame) (s : State) (w : Word) (at : Span) → Shows (machine.Joined k) f fs s → s.last ≡ Joined → s.license ≡ Some k → Goes s w at (machine.act c m (machine.Joined k) f fs w) (read_joined s w)
   joined_goes k f fs s (Exception r) at h last is = adds k (excepted r) f fs s (Exception r) at h is refl refl refl
-  joined_goes k f fs s (AdditionRef d n) at h last is = adds k (added (reference d n)) f fs s (AdditionRef d n) at h is refl refl refl
-  joined_goes k f fs s (Unknown n) at h last is = adds k (added (reference None n)) f fs s (Unknown n) at h is (ap (λ x. next_last x (Unknown n)) (sym last)) (ap (λ x. is_license x (Unknown n)) last) refl
+  joined_goes k f fs s (AdditionRef d n) at h last is = adds k (added (record { document = d; name = n })) f fs s (AdditionRef d n) at h is refl refl refl
+  joined_goes k f fs s (Unknown n) at h last is = adds k (added (record { document = None; name = n })) f fs s (Unknown n) at h is (ap (λ x. next_last x (Unknown n)) (sym last)) (ap (λ x. is_license x (Unknown n)) last) refl
   joined_goes k f fs s _ at h last is = tt
 
   -- the parser goes where the machine goes
-  pub goes : (p : machine.Phase) (f : machine.Frame) (fs : List machine.Frame) (s : State) (w : Word) (at : Span) → Shows p f fs s → Goes s w at (machine.act c m p f fs w) (step c m s (w, at))
+  pub goes : (p : machine.Part) (f : machine.Frame) (fs : List machine.Frame) (s : State) (w : Word) (at : Span) → Shows p f fs s → Goes s w at (machine.act c m p f fs w) (step c m s (w, at))
   goes machine.Due f fs s w at h =
       let (last, is) = due_is s.last s.license h.fits in
       subst (λ x. Goes s w at (machine.act c m machine.Due f fs w) (read_behind c m x s w at)) (sym last) (due f fs s w at h last is)
@@ -314,10 +314,10 @@ module _ (c : Rows) (m : ParseMode) where
 
 -- ---- the end
 
-pub not_ended : (p : machine.Phase) (f : machine.Frame) (fs : List machine.Frame) (s : State) → Shows p f fs s → is_closing s.last ≡ false → machine.finish p f fs ≡ None
+pub not_ended : (p : machine.Part) (f : machine.Frame) (fs : List machine.Frame) (s : State) → Shows p f fs s → is_closing s.last ≡ false → machine.finish p f fs ≡ None
 not_ended p f fs s h e = go p s.last s.license h.fits e
   where
-    go : (p : machine.Phase) (last : Last) (l : Option LicenseTerm) → Fits p last l → is_closing last ≡ false → machine.finish p f fs ≡ None
+    go : (p : machine.Part) (last : Last) (l : Option LicenseTerm) → Fits p last l → is_closing last ≡ false → machine.finish p f fs ≡ None
     go machine.Due last l fits e = refl
     go (machine.Joined k) last l fits e = refl
     go (machine.Fresh r) (Listed s) l fits e = absurd cc
@@ -330,7 +330,7 @@ not_ended p f fs s h e = go p s.last s.license h.fits e
     go (machine.Whole t) _ l fits e = absurd fits
 
 -- where an expression can end, a primary was read, and the nodes with the operators that wait are its tree's
-pub ends : (p : machine.Phase) (f : machine.Frame) (s : State) → Shows p f [] s → is_closing s.last ≡ true → (t : Tree) × (machine.finish p f [] ≡ Some t) × (bare (all_joined (require s None)) ≡ postfix t)
+pub ends : (p : machine.Part) (f : machine.Frame) (s : State) → Shows p f [] s → is_closing s.last ≡ true → (t : Tree) × (machine.finish p f [] ≡ Some t) × (bare (all_joined (require s None)) ≡ postfix t)
 ends p f s h closing = go p h.fits h
   where
     flush : (t : Tree) (s : State) → bare s.nodes ≡ [] ++ (frame_nodes f ++ postfix t) → s.frame ≡ frame_of f → bare (all_joined s) ≡ postfix (machine.close_frame f t)
@@ -350,7 +350,7 @@ ends p f s h closing = go p h.fits h
     unheld : (l : Option LicenseTerm) → l ≡ None → s.nodes ++ leaf_of l s.place None ≡ s.nodes
     unheld l e = ap (λ o. s.nodes ++ leaf_of o s.place None) e ∙ append-nil s.nodes
 
-    go : (p : machine.Phase) → Fits p s.last s.license → Shows p f [] s → (t : Tree) × (machine.finish p f [] ≡ Some t) × (bare (all_joined (require s None)) ≡ postfix t)
+    go : (p : machine.Part) → Fits p s.last s.license → Shows p f [] s → (t : Tree) × (machine.finish p f [] ≡ Some t) × (bare (all_joined (require s None)) ≡ postfix t)
     go machine.Due fits k = let (last, is) = due_is s.last s.license fits in let bad : is_closing Due ≡ true = subst (λ x. is_closing x ≡ true) last closing in absurd cc
     go (machine.Joined l) fits k = let (last, is) = joined_is l s.last s.license fits in let bad : is_closing Joined ≡ true = subst (λ x. is_closing x ≡ true) last closing in absurd cc
     go (machine.Fresh r) fits k = let (last, is) = fresh_is r s.last s.license fits in of_license (listed r false) (record { fits = tt; nodes_are = k.nodes_are; frame_is = k.frame_is; frames_are = k.frames_are }) is

@@ -8,10 +8,10 @@ use Rattle.spdx_lexer.specs.declared.token.ParseMode.{ParseMode}
 use Rattle.spdx_lexer.specs.Words.{Word, Spdx, LicenseRef, Exception, AdditionRef, Unknown, Plus, OpenParen, CloseParen, With, And, Or}
 use Rattle.spdx_parser.specs.declared.node.Operator.{Operator}
 use Rattle.spdx_parser.specs.Tree.{Tree, Join}
-use Rattle.spdx_parser.specs.Grammar.{may_stand, later_row, reference, Derives}
-use Rattle.spdx_parser.specs.Machine
+use Rattle.spdx_parser.specs.Grammar.{may_stand, later_row, Derives}
+use Rattle.spdx_parser.proofs.Machine
 use Rattle.spdx_parser.proofs.Runs
-use Rattle.spdx_parser.specs.Machine.{Frame, State, Phase, fold}
+use Rattle.spdx_parser.proofs.Machine.{Frame, State, Part, fold}
 use Rattle.spdx_parser.proofs.Threaded.{LicenseOf, plain, marked, later, named, unknown, AdditionOf, exception, named_addition, unknown_addition, alone, joined, PrimaryOf, leaf, group, AndOf, one_primary, and_more, OrOf, one_and, or_more, derives}
 
 module _ (c : Rows) (m : ParseMode) where
@@ -51,7 +51,7 @@ module _ (c : Rows) (m : ParseMode) where
   Closes final (f ∷ fs) t ws = (rest : List Word) × (ws ≡ CloseParen ∷ rest) × Chains f (Closes final fs) t rest
 
   -- the grammar derives `final` from what was read, which led to this state, and ws
-  abbrev Completes : Tree → Phase → Frame → List Frame → List Word → Type 0
+  abbrev Completes : Tree → Part → Frame → List Frame → List Word → Type 0
   Completes final Machine.Due f fs ws = (t : Tree) × (rest : List Word) × PrimaryOf c m ws t rest × Chains f (Closes final fs) t rest
   Completes final (Machine.Fresh r) f fs ws = (l : LicenseTerm) × (mid : List Word) × (t : Tree) × (rest : List Word) × PlusTail r ws l mid × LicenseTail l mid t rest × Chains f (Closes final fs) t rest
   Completes final (Machine.Named l) f fs ws = (t : Tree) × (rest : List Word) × LicenseTail l ws t rest × Chains f (Closes final fs) t rest
@@ -83,7 +83,7 @@ module _ (c : Rows) (m : ParseMode) where
     -- a word that the machine took leaves what follows it to complete the expression
     abbrev After : Option State → List Word → Type 0
     After None ws = ⊥
-    After (Some s) ws = Completes final s.phase s.frame s.outer ws
+    After (Some s) ws = Completes final s.part s.frame s.outer ws
 
     -- the chains end before this word
     ends_here : (f : Frame) (fs : List Frame) (t : Tree) (ws : List Word) → Closes final fs (Machine.close_frame f t) ws → Chains f (Closes final fs) t ws
@@ -139,9 +139,9 @@ module _ (c : Rows) (m : ParseMode) where
         let g = k.goes_on in
         (k.whole, g.0, group (subst (λ rest. OrOf c m ws k.whole rest) g.1 (or_of (and_of h.2 k.ands) k.ors)), g.2)
 
-    law : (p : Phase) (f : Frame) (fs : List Frame) (w : Word) (ws : List Word) → After (Machine.act c m p f fs w) ws → Completes final p f fs (w ∷ ws)
+    law : (p : Part) (f : Frame) (fs : List Frame) (w : Word) (ws : List Word) → After (Machine.act c m p f fs w) ws → Completes final p f fs (w ∷ ws)
     law Machine.Due f fs (Spdx r) ws h =
-        let may = may_law (may_stand m r) (record { phase = Machine.Fresh r; frame = f; outer = fs }) ws h in due_law r f fs ws may.0 may.1
+        let may = may_law (may_stand m r) (record { part = Machine.Fresh r; frame = f; outer = fs }) ws h in due_law r f fs ws may.0 may.1
     law Machine.Due f fs (LicenseRef d n) ws h = (h.0, h.1, primary_of named h.2, h.3)
     law Machine.Due f fs (Unknown n) ws h = (h.0, h.1, primary_of unknown h.2, h.3)
     law Machine.Due f fs OpenParen ws h = group_law f fs ws h
@@ -150,8 +150,8 @@ module _ (c : Rows) (m : ParseMode) where
     law (Machine.Fresh r) f fs w ws h = fresh_law r f fs (w ∷ ws) (license_law (listed r false) f fs w ws h)
     law (Machine.Named l) f fs w ws h = license_law l f fs w ws h
     law (Machine.Joined l) f fs (Exception r) ws h = (excepted r, ws, exception, h)
-    law (Machine.Joined l) f fs (AdditionRef d n) ws h = (added (reference d n), ws, named_addition, h)
-    law (Machine.Joined l) f fs (Unknown n) ws h = (added (reference None n), ws, unknown_addition, h)
+    law (Machine.Joined l) f fs (AdditionRef d n) ws h = (added (record { document = d; name = n }), ws, named_addition, h)
+    law (Machine.Joined l) f fs (Unknown n) ws h = (added (record { document = None; name = n }), ws, unknown_addition, h)
     law (Machine.Joined l) f fs _ ws h = absurd h
     law (Machine.Whole t) f fs w ws h = operate_law t f fs w ws h
 
@@ -160,7 +160,7 @@ module _ (c : Rows) (m : ParseMode) where
     bottom_law t [] e = (refl, cc)
     bottom_law t (f ∷ fs) e = absurd cc
 
-    end_law : (p : Phase) (f : Frame) (fs : List Frame) → Machine.finish p f fs ≡ Some final → Completes final p f fs []
+    end_law : (p : Part) (f : Frame) (fs : List Frame) → Machine.finish p f fs ≡ Some final → Completes final p f fs []
     end_law Machine.Due f fs e = absurd cc
     end_law (Machine.Fresh r) f fs e = let l = listed r false in let t = Machine.bare_leaf l in (l, [], t, [], plus_end, license_end, ends_here f fs t [] (bottom_law _ fs e))
     end_law (Machine.Named l) f fs e = let t = Machine.bare_leaf l in (t, [], license_end, ends_here f fs t [] (bottom_law _ fs e))
@@ -169,8 +169,8 @@ module _ (c : Rows) (m : ParseMode) where
 
     runs_law : (o : Option State) (ws : List Word) → Runs.built_on (Runs.run c m o ws) ≡ Some final → After o ws
     runs_law None ws e = absurd (let n = run_none ws in let p : Runs.built_on None ≡ Some final = subst (λ o. Runs.built_on o ≡ Some final) n e in cc)
-    runs_law (Some s) [] e = end_law s.phase s.frame s.outer e
-    runs_law (Some s) (w ∷ ws) e = law s.phase s.frame s.outer w ws (runs_law (Machine.step c m s w) ws e)
+    runs_law (Some s) [] e = end_law s.part s.frame s.outer e
+    runs_law (Some s) (w ∷ ws) e = law s.part s.frame s.outer w ws (runs_law (Machine.step c m s w) ws e)
 
     -- what the machine builds is what the grammar derives
     pub sound : (ws : List Word) → Runs.parsed c m Machine.start ws ≡ Some final → Derives c m ws final

@@ -5,10 +5,10 @@ use Rattle.spdx_requirement.specs.Items.{LicenseTerm, listed, referred, added}
 use Rattle.spdx_lexer.specs.declared.token.ParseMode.{ParseMode}
 use Rattle.spdx_lexer.specs.Words.{Word, LicenseRef, AdditionRef, CloseParen}
 use Rattle.spdx_parser.specs.Tree.{Tree}
-use Rattle.spdx_parser.specs.Grammar.{reference, Derives, IsViable, IsTheTree}
-use Rattle.spdx_parser.specs.Machine
+use Rattle.spdx_parser.specs.Grammar.{Derives, IsViable, IsTheTree}
+use Rattle.spdx_parser.proofs.Machine
 use Rattle.spdx_parser.proofs.Runs
-use Rattle.spdx_parser.specs.Machine.{Frame, State, Phase}
+use Rattle.spdx_parser.proofs.Machine.{Frame, State, Part}
 use Rattle.spdx_parser.proofs.Complete.{complete, the_only}
 use Rattle.spdx_parser.proofs.Sound.{sound, run_none}
 
@@ -19,27 +19,27 @@ closes (f ∷ fs) = CloseParen ∷ closes fs
 
 module _ (c : Rows) (m : ParseMode) where
   -- words that end an expression in this state, and the tree then
-  abbrev Ends : Phase → Frame → List Frame → Type 0
-  Ends p f fs = (more : List Word) × (t : Tree) × (Runs.parsed c m (record { phase = p; frame = f; outer = fs }) more ≡ Some t)
+  abbrev Ends : Part → Frame → List Frame → Type 0
+  Ends p f fs = (more : List Word) × (t : Tree) × (Runs.parsed c m (record { part = p; frame = f; outer = fs }) more ≡ Some t)
 
-  close_all : (fs : List Frame) (f : Frame) (t : Tree) → (final : Tree) × (Runs.parsed c m (record { phase = Machine.Whole t; frame = f; outer = fs }) (closes fs) ≡ Some final)
+  close_all : (fs : List Frame) (f : Frame) (t : Tree) → (final : Tree) × (Runs.parsed c m (record { part = Machine.Whole t; frame = f; outer = fs }) (closes fs) ≡ Some final)
   close_all [] f t = (Machine.close_frame f t, refl)
   close_all (g ∷ gs) f t = close_all gs g (Machine.close_frame f t)
 
-  named_ends : (l : LicenseTerm) (f : Frame) (fs : List Frame) → (final : Tree) × (Runs.parsed c m (record { phase = Machine.Named l; frame = f; outer = fs }) (closes fs) ≡ Some final)
+  named_ends : (l : LicenseTerm) (f : Frame) (fs : List Frame) → (final : Tree) × (Runs.parsed c m (record { part = Machine.Named l; frame = f; outer = fs }) (closes fs) ≡ Some final)
   named_ends l f [] = (Machine.close_frame f (Machine.bare_leaf l), refl)
   named_ends l f (g ∷ gs) = close_all gs g (Machine.close_frame f (Machine.bare_leaf l))
 
-  fresh_ends : (r : LicenseRow) (f : Frame) (fs : List Frame) → (final : Tree) × (Runs.parsed c m (record { phase = Machine.Fresh r; frame = f; outer = fs }) (closes fs) ≡ Some final)
+  fresh_ends : (r : LicenseRow) (f : Frame) (fs : List Frame) → (final : Tree) × (Runs.parsed c m (record { part = Machine.Fresh r; frame = f; outer = fs }) (closes fs) ≡ Some final)
   fresh_ends r f [] = (Machine.close_frame f (Machine.bare_leaf (listed r false)), refl)
   fresh_ends r f (g ∷ gs) = close_all gs g (Machine.close_frame f (Machine.bare_leaf (listed r false)))
 
   -- each state ends
-  ends : (p : Phase) (f : Frame) (fs : List Frame) → Ends p f fs
-  ends Machine.Due f fs = let e = named_ends (referred (reference None [])) f fs in (LicenseRef None [] ∷ closes fs, e.0, e.1)
+  ends : (p : Part) (f : Frame) (fs : List Frame) → Ends p f fs
+  ends Machine.Due f fs = let e = named_ends (referred (record { document = None; name = [] })) f fs in (LicenseRef None [] ∷ closes fs, e.0, e.1)
   ends (Machine.Fresh r) f fs = let e = fresh_ends r f fs in (closes fs, e.0, e.1)
   ends (Machine.Named l) f fs = let e = named_ends l f fs in (closes fs, e.0, e.1)
-  ends (Machine.Joined l) f fs = let e = close_all fs f (Machine.joined_leaf l (added (reference None []))) in (AdditionRef None [] ∷ closes fs, e.0, e.1)
+  ends (Machine.Joined l) f fs = let e = close_all fs f (Machine.joined_leaf l (added (record { document = None; name = [] }))) in (AdditionRef None [] ∷ closes fs, e.0, e.1)
   ends (Machine.Whole t) f fs = let e = close_all fs f t in (closes fs, e.0, e.1)
 
   run-append : (o : Option State) (xs ys : List Word) → Runs.run c m o (xs ++ ys) ≡ Runs.run c m (Runs.run c m o xs) ys
@@ -52,7 +52,7 @@ module _ (c : Rows) (m : ParseMode) where
 
   pub viable : (ws : List Word) (s : State) → Runs.run c m (Some Machine.start) ws ≡ Some s → IsViable c m ws
   viable ws s e =
-      let e' = ends s.phase s.frame s.outer in
+      let e' = ends s.part s.frame s.outer in
       (e'.0, e'.1, sound c m e'.1 (ws ++ e'.0) (ap Runs.built_on (run_front ws e'.0 (Some s) e) ∙ e'.2))
 
   -- words that the machine refuses are the front of no expression

@@ -9,7 +9,7 @@ use Rattle.spdx_lexer.specs.declared.token.ParseMode.{ParseMode}
 use Rattle.spdx_lexer.specs.Words.{Word, Spdx, LicenseRef, Exception, AdditionRef, Unknown, Plus, OpenParen, CloseParen, With, And, Or}
 use Rattle.spdx_parser.specs.declared.node.Operator.{Operator}
 use Rattle.spdx_parser.specs.Tree.{Tree, Leaf, Join}
-use Rattle.spdx_parser.specs.Grammar.{may_stand, later_row, reference}
+use Rattle.spdx_parser.specs.Grammar.{may_stand, later_row}
 use Rattle.spdx_parser.specs.Grammar as Grammar
 
 -- a licence
@@ -17,14 +17,14 @@ pub data LicenseOf (c : Rows) (m : ParseMode) : List Word → LicenseTerm → Li
   plain : {r : LicenseRow} {rest : List Word} → may_stand m r ≡ true → LicenseOf c m (Spdx r ∷ rest) (listed r false) rest
   marked : {r : LicenseRow} {rest : List Word} → may_stand m r ≡ true → is_gnu r.flags ≡ false → LicenseOf c m (Spdx r ∷ Plus ∷ rest) (listed r true) rest
   later : {r next : LicenseRow} {rest : List Word} → may_stand m r ≡ true → is_gnu r.flags ≡ true → m.allow_postfix_plus_on_gpl ≡ true → ends_or_later r.name ≡ false → later_row c r ≡ Some next → LicenseOf c m (Spdx r ∷ Plus ∷ rest) (listed next false) rest
-  named : {d : Option (List ℕ)} {n : List ℕ} {rest : List Word} → LicenseOf c m (LicenseRef d n ∷ rest) (referred (reference d n)) rest
-  unknown : {n : List ℕ} {rest : List Word} → LicenseOf c m (Unknown n ∷ rest) (referred (reference None n)) rest
+  named : {d : Option (List ℕ)} {n : List ℕ} {rest : List Word} → LicenseOf c m (LicenseRef d n ∷ rest) (referred (record { document = d; name = n })) rest
+  unknown : {n : List ℕ} {rest : List Word} → LicenseOf c m (Unknown n ∷ rest) (referred (record { document = None; name = n })) rest
 
 -- an addition
 pub data AdditionOf : List Word → Addition → List Word → Type 0 where
   exception : {r : ExceptionRow} {rest : List Word} → AdditionOf (Exception r ∷ rest) (excepted r) rest
-  named_addition : {d : Option (List ℕ)} {n : List ℕ} {rest : List Word} → AdditionOf (AdditionRef d n ∷ rest) (added (reference d n)) rest
-  unknown_addition : {n : List ℕ} {rest : List Word} → AdditionOf (Unknown n ∷ rest) (added (reference None n)) rest
+  named_addition : {d : Option (List ℕ)} {n : List ℕ} {rest : List Word} → AdditionOf (AdditionRef d n ∷ rest) (added (record { document = d; name = n })) rest
+  unknown_addition : {n : List ℕ} {rest : List Word} → AdditionOf (Unknown n ∷ rest) (added (record { document = None; name = n })) rest
 
 -- a licence, perhaps with an addition
 pub data LeafOf (c : Rows) (m : ParseMode) : List Word → Requirement → List Word → Type 0 where

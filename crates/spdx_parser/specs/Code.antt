@@ -6,13 +6,12 @@ use Rattle.spdx_requirement.specs.Items.{LicenseTerm, listed, referred}
 use Rattle.spdx_lexer.specs.Code.{document_of}
 use Rattle.spdx_parser.specs.declared.name.Name.{Name}
 use Rattle.spdx_parser.specs.declared.last.Last as code
-use Rattle.spdx_parser.specs.Grammar.{reference}
 use Rattle.spdx_parser.specs.Last.{Last, Due, Listed, Unlisted, Named, Joined, Added, Closed}
 
 abbrev pub name_license : Name → LicenseTerm
 name_license (Name.Listed id or_later) = listed (id_row id) or_later
-name_license (Name.Reference d n) = referred (reference (document_of d) n.now)
-name_license (Name.Unknown n) = referred (reference None n.now)
+name_license (Name.Reference d n) = referred (record { document = document_of d; name = n.now })
+name_license (Name.Unknown n) = referred (record { document = None; name = n.now })
 
 abbrev pub last_in : code.Last → Last
 last_in code.Last.Due = Due

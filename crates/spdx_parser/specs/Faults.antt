@@ -34,10 +34,6 @@ fault_behind m (Listed r) none Plus = if is_gnu r.flags then plus_fault m r else
 fault_behind m last none CloseParen = if is_closing last && none then UnopenedParens else Unexpected (terms last)
 fault_behind m last none w = Unexpected (terms last)
 
--- a word that no expression has behind these; no parenthesis is open where as many close
-abbrev pub word_fault : ParseMode → List Word → Word → Fault
-word_fault m ws w = fault_behind m (last_of ws) (opens ws == closes ws) w
-
 -- a `(` is left open if every segment that begins at it has more `(` than `)`
 abbrev pub IsLeftOpen : List Word → Type 0
 IsLeftOpen behind = (front more : List Word) → behind ≡ front ++ more → closes (OpenParen ∷ front) < opens (OpenParen ∷ front)
@@ -57,9 +53,10 @@ pub data IsEndFault (len : ℕ) : List Placed → Fault → Span → Type 0 wher
   unclosed : {read : List Placed} {s : Span} → is_closing (last_of (words read)) ≡ true → IsLastOpen read s → IsEndFault len read UnclosedParens s
 
 -- The fault of a text: that of the first word such that the words up to and with it begin no expression;
--- where there is none, that of the first place that is no word; where there is none, that of the end.
+-- where there is none, that of the first place that is no word; where there is none, that of the end. No parenthesis is
+-- open behind words that close as many as they open.
 pub data IsFaultOf (c : Rows) (m : ParseMode) (text : List ℕ) : Fault → Span → Type 0 where
-  at_word : (read : List Placed) (w : Word) {s : Span} (more : List Item) → reading c m 0 text ≡ map Ok read ++ Ok (w, s) ∷ more → IsViable c m (words read) → (IsViable c m (words read ++ w ∷ []) → ⊥) → IsFaultOf c m text (word_fault m (words read) w) s
+  at_word : (read : List Placed) (w : Word) {s : Span} (more : List Item) → reading c m 0 text ≡ map Ok read ++ Ok (w, s) ∷ more → IsViable c m (words read) → (IsViable c m (words read ++ w ∷ []) → ⊥) → IsFaultOf c m text (fault_behind m (last_of (words read)) (opens (words read) == closes (words read)) w) s
   at_place : (read : List Placed) {f : Fault} {s : Span} (more : List Item) → reading c m 0 text ≡ map Ok read ++ Err (f, s) ∷ more → IsViable c m (words read) → IsFaultOf c m text f s
   at_end : (read : List Placed) {f : Fault} {s : Span} → reading c m 0 text ≡ map Ok read → IsViable c m (words read) → ((t : Tree) → Derives c m (words read) t → ⊥) → IsEndFault (length text) read f s → IsFaultOf c m text f s
 

@@ -9,7 +9,7 @@ use Rattle.spdx_requirement.specs.Rows.{Rows, LicenseRow, ExceptionRow}
 use Rattle.spdx_requirement.specs.Flags.{is_gnu, is_deprecated}
 use Rattle.spdx_requirement.specs.Endings.{or_later, ends_or_later, without_only}
 use Rattle.spdx_catalogue.specs.LookUps as LookUps
-use Rattle.spdx_requirement.specs.Items.{Reference, LicenseTerm, listed, referred, Addition, excepted, added, Requirement}
+use Rattle.spdx_requirement.specs.Items.{LicenseTerm, listed, referred, Addition, excepted, added, Requirement}
 use Rattle.spdx_lexer.specs.declared.token.ParseMode.{ParseMode}
 use Rattle.spdx_lexer.specs.Words.{Word, Spdx, LicenseRef, Exception, AdditionRef, Unknown, Plus, OpenParen, CloseParen, With, And, Or}
 use Rattle.spdx_parser.specs.declared.node.Operator.{Operator}
@@ -23,10 +23,6 @@ may_stand m r = not (is_deprecated r.flags) || m.allow_deprecated
 abbrev pub later_row : Rows → LicenseRow → Option LicenseRow
 later_row c r = LookUps.listed c.licenses (without_only r.name ++ or_later)
 
--- the reference of these two texts
-abbrev pub reference : Option (List ℕ) → List ℕ → Reference
-reference document name = record { document = document; name = name }
-
 -- A listed licence; a `+` directly behind it marks it, but for a GNU licence, which it turns into the one
 -- that is listed with `-or-later` in place of `-only`: the mode must allow that, the name must not end in
 -- `-or-later`, and the licence that comes of it may be deprecated. Or a reference; an unknown word is one.
@@ -34,14 +30,14 @@ pub data LicenseIs (c : Rows) (m : ParseMode) : List Word → LicenseTerm → Ty
   plain : {r : LicenseRow} → may_stand m r ≡ true → LicenseIs c m (Spdx r ∷ []) (listed r false)
   marked : {r : LicenseRow} → may_stand m r ≡ true → is_gnu r.flags ≡ false → LicenseIs c m (Spdx r ∷ Plus ∷ []) (listed r true)
   later : {r next : LicenseRow} → may_stand m r ≡ true → is_gnu r.flags ≡ true → m.allow_postfix_plus_on_gpl ≡ true → ends_or_later r.name ≡ false → later_row c r ≡ Some next → LicenseIs c m (Spdx r ∷ Plus ∷ []) (listed next false)
-  named : {d : Option (List ℕ)} {n : List ℕ} → LicenseIs c m (LicenseRef d n ∷ []) (referred (reference d n))
-  unknown : {n : List ℕ} → LicenseIs c m (Unknown n ∷ []) (referred (reference None n))
+  named : {d : Option (List ℕ)} {n : List ℕ} → LicenseIs c m (LicenseRef d n ∷ []) (referred (record { document = d; name = n }))
+  unknown : {n : List ℕ} → LicenseIs c m (Unknown n ∷ []) (referred (record { document = None; name = n }))
 
 -- an exception, deprecated or not, or a reference; an unknown word is one
 pub data AdditionIs : Word → Addition → Type 0 where
   exception : {r : ExceptionRow} → AdditionIs (Exception r) (excepted r)
-  named_addition : {d : Option (List ℕ)} {n : List ℕ} → AdditionIs (AdditionRef d n) (added (reference d n))
-  unknown_addition : {n : List ℕ} → AdditionIs (Unknown n) (added (reference None n))
+  named_addition : {d : Option (List ℕ)} {n : List ℕ} → AdditionIs (AdditionRef d n) (added (record { document = d; name = n }))
+  unknown_addition : {n : List ℕ} → AdditionIs (Unknown n) (added (record { document = None; name = n }))
 
 -- a licence, perhaps with an addition
 pub data LeafIs (c : Rows) (m : ParseMode) : List Word → Requirement → Type 0 where

@@ -1,5 +1,6 @@
 -- What the last of some words stands as, and what may follow it.
 use Rattle.std.specs.Prelude.{ℕ, Bool, true, false, List, [], ◌∷◌, codes}
+use Rattle.std.specs.List.{fold}
 use Rattle.spdx_requirement.specs.Rows.{LicenseRow}
 use Rattle.spdx_lexer.specs.Words.{Word, Spdx, LicenseRef, Exception, AdditionRef, Unknown, Plus, OpenParen, CloseParen, With, And, Or}
 
@@ -35,14 +36,9 @@ next_last last With = Joined
 next_last last And = Due
 next_last last Or = Due
 
--- what the last of some words stands as, behind such a one
-abbrev pub last_behind : Last → List Word → Last
-last_behind last [] = last
-last_behind last (w ∷ ws) = last_behind (next_last last w) ws
-
 -- what the last of some words stands as, from the start of a text
 abbrev pub last_of : List Word → Last
-last_of ws = last_behind Due ws
+last_of ws = fold next_last Due ws
 
 -- an Spdx, a LicenseRef, or an unknown word that does not follow WITH
 abbrev pub is_license : Last → Word → Bool

@@ -4,7 +4,6 @@ pub mod Last
 pub mod Spans
 pub mod Faults
 pub mod Meaning
-pub mod Machine
 pub mod Code
 pub mod State
 pub mod ParserModel

@@ -10,7 +10,7 @@ use Rattle.spdx_parser.specs.declared.node.Operator.{Operator}
 use Rattle.spdx_parser.specs.declared.parser.Frame.{Frame}
 use Rattle.spdx_parser.specs.Tree.{Op, Req}
 use Rattle.spdx_parser.specs.Nodes.{PlacedNode}
-use Rattle.spdx_parser.specs.Grammar.{may_stand, later_row, reference}
+use Rattle.spdx_parser.specs.Grammar.{may_stand, later_row}
 use Rattle.spdx_parser.specs.Last.{Last, Due, Listed, Unlisted, Named, Joined, Added, Closed}
 
 -- what is held behind some words
@@ -77,8 +77,8 @@ after_license s w = operate (require s None) w
 -- where a licence or `(` is due
 abbrev pub read_due : ParseMode → State → Word → Span → Option State
 read_due m s (Spdx r) at = if may_stand m r then Some (name_as s (Listed r) (listed r false) at) else None
-read_due m s (LicenseRef d n) at = Some (name_as s Named (referred (reference d n)) at)
-read_due m s (Unknown n) at = Some (name_as s Unlisted (referred (reference None n)) at)
+read_due m s (LicenseRef d n) at = Some (name_as s Named (referred (record { document = d; name = n })) at)
+read_due m s (Unknown n) at = Some (name_as s Unlisted (referred (record { document = None; name = n })) at)
 read_due m s OpenParen at = Some (record s { last = Due; frame = empty_frame; opened = (at, s.frame) ∷ s.opened })
 read_due m s w at = None
 
@@ -94,8 +94,8 @@ read_listed c m r s w = after_license s w
 -- behind WITH
 abbrev pub read_joined : State → Word → Option State
 read_joined s (Exception r) = Some (require s (Some (excepted r)))
-read_joined s (AdditionRef d n) = Some (require s (Some (added (reference d n))))
-read_joined s (Unknown n) = Some (require s (Some (added (reference None n))))
+read_joined s (AdditionRef d n) = Some (require s (Some (added (record { document = d; name = n }))))
+read_joined s (Unknown n) = Some (require s (Some (added (record { document = None; name = n }))))
 read_joined s w = None
 
 -- behind such a one

@@ -46,8 +46,8 @@ pub fn addition_item<'c>(
     doc_ref: Option<&str>,
     add_ref: &str,
 ) -> Result<AdditionItem<'c>, AllocError>
-    ensures { IfOk result (λ item.
-        addition_of item ≡ added (Grammar.reference (document_of doc_ref.entry) add_ref.now)) }
+    ensures { IfOk result (λ item. addition_of item
+        ≡ added (record { document = document_of doc_ref.entry; name = add_ref.now })) }
 {
     AdditionItem::referred(alloc, doc_ref, add_ref)
 }

@@ -1,11 +1,12 @@
-use Rattle.std.proofs.Common.{◌≡◌, ◌<◌, ◌≤◌, true, false, None, Some, Ok, Err, [], ◌∷◌, ◌++◌, length, refl, sym, ◌∙◌, ap, subst, arith}
+use Rattle.std.proofs.Common.{◌≡◌, ◌<◌, ◌≤◌, true, false, None, Some, Ok, Err, [], ◌∷◌, ◌++◌, length, map, refl, sym, ◌∙◌, ap, subst, arith}
 use Rattle.std.specs.List.{All}
 use Rattle.std.specs.Prelude.{◌==◌}
-use Rattle.spdx_lexer.specs.Words.{Unexpected, words}
+use Rattle.spdx_lexer.specs.Words.{Unexpected, Span, words}
 use Rattle.spdx_lexer.specs.Code.{word_of, span_of, item_of}
 use Rattle.spdx_lexer.specs.Faults.{fault_of}
 use Rattle.spdx_lexer.specs.Layout.{IsPlace, place_of}
 use Rattle.spdx_lexer.specs.Remainder.{items_left}
+use Rattle.spdx_parser.specs.declared.parser.Frame.{Frame}
 use Rattle.spdx_parser.specs.Faults.{fault_behind}
 use Rattle.spdx_parser.specs.Last.{Due, is_closing, terms}
 use Rattle.spdx_parser.specs.State.{State, all_joined, require}
@@ -13,6 +14,7 @@ use Rattle.spdx_parser.proofs.Loop.{nothing_read, row_known, has_room, takes, st
 use Rattle.spdx_parser.specs.Heard.{listed_last, Along, HearsAll}
 use Rattle.spdx_parser.proofs.Heard.{along_more}
 use Rattle.spdx_parser.proofs.Seen.{words_on}
+use Rattle.spdx_parser.proofs.Shown.{places_of}
 use Rattle.spdx_parser.proofs.Places.{node_places}
 use Rattle.spdx_parser.proofs.parser.Parser.read_text.Goals as goal
 
@@ -84,7 +86,7 @@ pub returns-in-Some-pop-clause-err : goal.returns-in-Some-pop-clause-err
 returns-in-Some-pop-clause-err g c =
     let (read, r, _) = c.loop-item.invariant in
     let last = ap (λ (s : State). is_closing s.last) (sym c.self-2.view_is) in
-    let opened = ap (λ (s : State). s.opened) (sym c.self-2.view_is) ∙ opened_cons c.self-2.inside.opened.items c.pop.new.self.items c.in-Some-pop.opened c.in-Some-pop.ensures.items in
+    let opened = ap places_of (sym c.self-2.view_is) ∙ ap (map (λ (x : Span × Frame). x.0)) (opened_cons c.self-2.inside.opened.items c.pop.new.self.items c.in-Some-pop.opened c.in-Some-pop.ensures.items) in
     refused c.args.catalogue.now c.args.mode c.args.text.now c.refusal-in-Some-pop.result _ _ _ c.refusal-in-Some-pop.ensures
     (ends_open c.args.catalogue.now c.args.mode c.args.text.now read _ _ c.loop-item.self r c.in-None.ensures.steps.0 _ _ (last ∙ sym c.is_closing.ensures ∙ c.if-not-is_closing.false) opened) refl refl refl
 
@@ -92,7 +94,7 @@ pub returns-clause-ok : goal.returns-clause-ok
 returns-clause-ok g c nodes is =
     let (read, r, _) = c.loop-item.invariant in
     let last = ap (λ (s : State). is_closing s.last) (sym c.self-2.view_is) in
-    let opened = ap (λ (s : State). s.opened) (sym c.self-2.view_is) ∙ opened_nil c.self-2.inside.opened.items (subst (λ n. 0 < n → false ≡ true) c.self-2.inside.opened.ok.0 c.in_default.ensures.variant.1) in
+    let opened = ap places_of (sym c.self-2.view_is) ∙ ap (map (λ (x : Span × Frame). x.0)) (opened_nil c.self-2.inside.opened.items (subst (λ n. 0 < n → false ≡ true) c.self-2.inside.opened.ok.0 c.in_default.ensures.variant.1)) in
     ends_well c.args.catalogue.now c.args.mode c.args.text.now read _ _ c.loop-item.self r c.in-None.ensures.steps.0 c.is_well_formed.ensures (last ∙ sym c.is_closing.ensures ∙ c.if-not-is_closing.false) opened nodes
     (is ∙ c.in_ok-finish.ensures ∙ ap (λ (s : State). all_joined (require s None)) c.self-2.view_is)
 

@@ -1,4 +1,5 @@
--- The parser's states, and what a word makes of each. The grammar says what they have to come to.
+-- A device of the proofs: a machine whose frames hold trees, of which the grammar is proved, both ways (`Sound`, `Complete`).
+-- What the parser holds, nodes and how many operators wait, goes where this machine goes (`Shown`).
 use Rattle.std.specs.Prelude.{Bool, true, false, List, [], ◌∷◌, Option, Some, None}
 use Rattle.spdx_requirement.specs.Rows.{Rows, LicenseRow}
 use Rattle.spdx_requirement.specs.Flags.{is_gnu}
@@ -8,7 +9,7 @@ use Rattle.spdx_lexer.specs.declared.token.ParseMode.{ParseMode}
 use Rattle.spdx_lexer.specs.Words.{Word, Spdx, LicenseRef, Exception, AdditionRef, Unknown, Plus, OpenParen, CloseParen, With, And, Or}
 use Rattle.spdx_parser.specs.declared.node.Operator.{Operator}
 use Rattle.spdx_parser.specs.Tree.{Tree, Leaf, Join}
-use Rattle.spdx_parser.specs.Grammar.{may_stand, later_row, reference}
+use Rattle.spdx_parser.specs.Grammar.{may_stand, later_row}
 
 -- what waits for its right side: the left sides of OR, and above them those of AND, the newest first
 pub record Frame : Type 0 where
@@ -26,30 +27,30 @@ fold o (l ∷ ls) t = fold o ls (Join o l t)
 abbrev pub close_frame : Frame → Tree → Tree
 close_frame f t = fold Operator.Or f.ors (fold Operator.And f.ands t)
 
--- what was read last
-pub data Phase : Type 0 where
+-- how much of a primary was read
+pub data Part : Type 0 where
   -- a licence or a parenthesis is due
-  Due : Phase
+  Due : Part
   -- a listed licence, which a plus may follow
-  Fresh : LicenseRow → Phase
+  Fresh : LicenseRow → Part
   -- a licence
-  Named : LicenseTerm → Phase
+  Named : LicenseTerm → Part
   -- a licence and WITH
-  Joined : LicenseTerm → Phase
+  Joined : LicenseTerm → Part
   -- a primary
-  Whole : Tree → Phase
+  Whole : Tree → Part
 
--- what was read last, the innermost frame, and the frames around it
+-- the part of a primary, the innermost frame, and the frames around it
 pub record State : Type 0 where
-  pub phase : Phase
+  pub part : Part
   pub frame : Frame
   pub outer : List Frame
 
 abbrev pub start : State
-start = record { phase = Due; frame = empty_frame; outer = [] }
+start = record { part = Due; frame = empty_frame; outer = [] }
 
-abbrev pub goes_to : Phase → Frame → List Frame → Option State
-goes_to p f fs = Some (record { phase = p; frame = f; outer = fs })
+abbrev pub goes_to : Part → Frame → List Frame → Option State
+goes_to p f fs = Some (record { part = p; frame = f; outer = fs })
 
 abbrev pub if_may : Bool → Option State → Option State
 if_may true s = s
@@ -90,30 +91,30 @@ abbrev pub add_plus : Rows → ParseMode → Bool → LicenseRow → Frame → L
 add_plus c m false r f fs = goes_to (Named (listed r true)) f fs
 add_plus c m true r f fs = if_may m.allow_postfix_plus_on_gpl (if_bare (ends_or_later r.name) (go_later (later_row c r) f fs))
 
-abbrev pub act : Rows → ParseMode → Phase → Frame → List Frame → Word → Option State
+abbrev pub act : Rows → ParseMode → Part → Frame → List Frame → Word → Option State
 act c m Due f fs (Spdx r) = if_may (may_stand m r) (goes_to (Fresh r) f fs)
-act c m Due f fs (LicenseRef d n) = goes_to (Named (referred (reference d n))) f fs
-act c m Due f fs (Unknown n) = goes_to (Named (referred (reference None n))) f fs
+act c m Due f fs (LicenseRef d n) = goes_to (Named (referred (record { document = d; name = n }))) f fs
+act c m Due f fs (Unknown n) = goes_to (Named (referred (record { document = None; name = n }))) f fs
 act c m Due f fs OpenParen = goes_to Due empty_frame (f ∷ fs)
 act c m Due f fs _ = None
 act c m (Fresh r) f fs Plus = add_plus c m (is_gnu r.flags) r f fs
 act c m (Fresh r) f fs w = after_license (listed r false) f fs w
 act c m (Named l) f fs w = after_license l f fs w
 act c m (Joined l) f fs (Exception r) = goes_to (Whole (joined_leaf l (excepted r))) f fs
-act c m (Joined l) f fs (AdditionRef d n) = goes_to (Whole (joined_leaf l (added (reference d n)))) f fs
-act c m (Joined l) f fs (Unknown n) = goes_to (Whole (joined_leaf l (added (reference None n)))) f fs
+act c m (Joined l) f fs (AdditionRef d n) = goes_to (Whole (joined_leaf l (added (record { document = d; name = n })))) f fs
+act c m (Joined l) f fs (Unknown n) = goes_to (Whole (joined_leaf l (added (record { document = None; name = n })))) f fs
 act c m (Joined l) f fs _ = None
 act c m (Whole t) f fs w = operate t f fs w
 
 abbrev pub step : Rows → ParseMode → State → Word → Option State
-step c m s w = act c m s.phase s.frame s.outer w
+step c m s w = act c m s.part s.frame s.outer w
 
 -- the tree, where the words may end
 abbrev pub at_bottom : Tree → List Frame → Option Tree
 at_bottom t [] = Some t
 at_bottom t (f ∷ fs) = None
 
-abbrev pub finish : Phase → Frame → List Frame → Option Tree
+abbrev pub finish : Part → Frame → List Frame → Option Tree
 finish Due f fs = None
 finish (Fresh r) f fs = at_bottom (close_frame f (bare_leaf (listed r false))) fs
 finish (Named l) f fs = at_bottom (close_frame f (bare_leaf l)) fs
@@ -121,4 +122,4 @@ finish (Joined l) f fs = None
 finish (Whole t) f fs = at_bottom (close_frame f t) fs
 
 abbrev pub built : State → Option Tree
-built s = finish s.phase s.frame s.outer
+built s = finish s.part s.frame s.outer
