@@ -4,7 +4,8 @@ use Rattle.std.proofs.lemmas.List.{take_all, drop_all, drop_more, take-append-dr
 use Rattle.std.proofs.lemmas.Bool.{cases_lt, eqb-true, eq-eqb}
 use Rattle.memchr.specs.Find.{IsFirstByte, is_byte}
 use Rattle.std.proofs.lemmas.List.Elements.{All-head, All-tail, All-same, All-from_get_or}
-use Rattle.line_engine.specs.Lines.{Cut, cut, before_cut, last_line, lines_of, HasNoNewline}
+use Rattle.line_engine.specs.Lines.{Cut, cut, last_line, lines_of, HasNoNewline}
+use Rattle.line_engine.proofs.Byte.{before_cut}
 use Rattle.line_engine.proofs.Cutting.{cut-plain}
 
 is_other : (x : ℕ) → x ≢ 10 → nat_eq x 10 ≡ false

@@ -2,7 +2,8 @@
 use Rattle.std.proofs.Common.{◌≡◌, ℕ, nat_eq, true, false, cond, List, [], ◌∷◌, ◌++◌, refl, sym, ap, ◌∙◌, subst}
 use Rattle.std.proofs.Common.{◌≢◌, append_assoc, append-nil, arith}
 use Rattle.std.proofs.lemmas.List.Elements.{All-head, All-tail}
-use Rattle.line_engine.specs.Lines.{Cut, cut, before_cut, onto_first, HasNoNewline}
+use Rattle.line_engine.specs.Lines.{Cut, cut, onto_first, HasNoNewline}
+use Rattle.line_engine.proofs.Byte.{before_cut}
 
 -- a newline ends the rest
 abbrev pub end_line : Cut → Cut

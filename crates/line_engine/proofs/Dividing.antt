@@ -1,7 +1,8 @@
 -- The cut is a division at newlines.
 use Rattle.std.proofs.Common.{◌≡◌, ◌≢◌, ℕ, nat_eq, Bool, true, false, cond, List, [], ◌∷◌, All, refl, sym, ap, ◌∙◌, arith}
 use Rattle.std.proofs.lemmas.List.Elements.{All-nil, All-cons, All-head, All-tail}
-use Rattle.line_engine.specs.Lines.{Cut, cut, before_cut, onto_first, IsCut}
+use Rattle.line_engine.specs.Lines.{Cut, cut, onto_first, IsCut}
+use Rattle.line_engine.proofs.Byte.{before_cut}
 
 abbrev IsOther : ℕ → Type 0
 IsOther b = b ≢ 10

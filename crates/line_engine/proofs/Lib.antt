@@ -1,3 +1,4 @@
+pub mod Byte
 pub mod Answering
 pub mod Cutting
 pub mod Dividing

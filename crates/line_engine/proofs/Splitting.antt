@@ -3,7 +3,8 @@ use Rattle.std.proofs.Common.{◌≡◌, ℕ, ◌+◌, nat_eq, Bool, true, false
 use Rattle.std.specs.Prelude.{count_by}
 use Rattle.std.proofs.lemmas.Grind.{common_steps}
 use Rattle.line_engine.specs.Rule.{Rule}
-use Rattle.line_engine.specs.Lines.{Cut, cut, before_cut, onto_first, last_line, lines_of}
+use Rattle.line_engine.specs.Lines.{Cut, cut, onto_first, last_line, lines_of}
+use Rattle.line_engine.proofs.Byte.{before_cut}
 use Rattle.line_engine.specs.Output.{text_from, text_of, output_of}
 use Rattle.line_engine.specs.Pieces.{EndsLine, SplitsAtLines}
 use Rattle.line_engine.proofs.Answering.{text_of-append}

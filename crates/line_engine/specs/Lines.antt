@@ -12,14 +12,12 @@ abbrev pub onto_first : ℕ → List (List ℕ) → List ℕ → Cut
 onto_first b [] rest = record { whole = []; rest = b ∷ rest }
 onto_first b (line ∷ lines) rest = record { whole = (b ∷ line) ∷ lines; rest = rest }
 
--- a byte before bytes that are cut: a newline ends an empty line
-abbrev pub before_cut : ℕ → Cut → Cut
-before_cut b c = if b == 10 then record { whole = [] ∷ c.whole; rest = c.rest } else onto_first b c.whole c.rest
-
 -- the bytes cut after each newline
 abbrev pub cut : List ℕ → Cut
 cut [] = record { whole = []; rest = [] }
-cut (b ∷ bs) = before_cut b (cut bs)
+cut (b ∷ bs) =
+    let c : Cut = cut bs in
+    if b == 10 then record { whole = [] ∷ c.whole; rest = c.rest } else onto_first b c.whole c.rest
 
 -- a last piece without a newline is a line if it is not empty
 abbrev pub last_line : List ℕ → List (List ℕ)
@@ -36,5 +34,5 @@ HasNoNewline bytes = All (λ b. b ≢ 10) bytes
 -- the bytes are these lines, each with its newline, and then the rest; no line has a newline in it, nor has the rest
 pub record IsCut (bytes : List ℕ) (c : Cut) : Type 0 where
   pub whole : flat_map (λ line. line ++ 10 ∷ []) c.whole ++ c.rest ≡ bytes
-  pub lines : All HasNoNewline c.whole
-  pub rest : HasNoNewline c.rest
+  pub lines : All (All (λ b. b ≢ 10)) c.whole
+  pub rest : All (λ b. b ≢ 10) c.rest

@@ -2,7 +2,8 @@
 use Rattle.std.proofs.Common.{◌≡◌, ◌≢◌, ℕ, suc, nat_eq, false, List, [], ◌∷◌, ◌++◌, length, refl, sym, ap, ◌∙◌, arith, append_assoc, subst, Result, Ok, Err, IfErr, ◌<◌}
 use Rattle.std.specs.Result.{IsErrAnd}
 use Rattle.std.proofs.lemmas.List.Elements.{All-head, All-tail}
-use Rattle.line_engine.specs.Lines.{Cut, cut, before_cut, last_line, lines_of, HasNoNewline}
+use Rattle.line_engine.specs.Lines.{Cut, cut, last_line, lines_of, HasNoNewline}
+use Rattle.line_engine.proofs.Byte.{before_cut}
 use Rattle.line_engine.proofs.Cutting.{cut-plain}
 use Rattle.spdx_requirement.specs.Rows.{Rows}
 use Rattle.spdx_requirement.specs.Items.{Requirement}

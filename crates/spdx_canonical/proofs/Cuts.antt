@@ -8,7 +8,8 @@ use Rattle.std.proofs.lemmas.List.Sums.{take_while-cons}
 use Rattle.spdx_catalogue.specs.Names.{is_name_byte}
 use Rattle.spdx_catalogue.proofs.Caseless.{bytes_same}
 use Rattle.spdx_lexer.specs.Text.{name_at, strip}
-use Rattle.spdx_lexer.specs.Lexeme.{reference_run, name_behind, names_behind}
+use Rattle.spdx_lexer.specs.Lexeme.{name_behind, names_behind}
+use Rattle.spdx_requirement.specs.Texts.{reference_text}
 use Rattle.spdx_canonical.proofs.Lexed.{and_both}
 use Rattle.spdx_canonical.proofs.Terms.{Stops}
 
@@ -51,7 +52,7 @@ module _ (p : ℕ → Bool) where
 
 pub record Cut (p : List ℕ) (d : Option (List ℕ)) (y run : List ℕ) : Type 0 where
   pub tail : List ℕ
-  pub split : run ≡ reference_run p d y ++ tail
+  pub split : run ≡ reference_text p d y ++ tail
   pub stops : Stops is_name_byte tail
   pub name : list_all is_name_byte y ≡ true
   pub document : IfSome d (λ x. list_all is_name_byte x ≡ true)
@@ -76,7 +77,7 @@ module _ (p run r1 : List ℕ) (e1 : strip (codes "DocumentRef-") run ≡ Some r
       let x = name_at r1 in
       let y = name_at r3 in
       let tail = drop (length y) r3 in
-      let flat : codes "DocumentRef-" ++ (x ++ (codes ":" ++ (p ++ (y ++ tail)))) ≡ reference_run p (Some x) y ++ tail = simp append_assoc in
+      let flat : codes "DocumentRef-" ++ (x ++ (codes ":" ++ (p ++ (y ++ tail)))) ≡ reference_text p (Some x) y ++ tail = simp append_assoc in
       record {
         tail = tail;
         split = strip_is (codes "DocumentRef-") run r1 e1 ∙ ap (λ (t : List ℕ). codes "DocumentRef-" ++ t) (front_split is_name_byte r1 ∙ ap (λ (t : List ℕ). x ++ t) (strip_is (codes ":") (drop (length x) r1) r2 e2 ∙ ap (λ (t : List ℕ). codes ":" ++ t) (strip_is p r2 r3 e ∙ ap (λ (t : List ℕ). p ++ t) (front_split is_name_byte r3)))) ∙ flat;

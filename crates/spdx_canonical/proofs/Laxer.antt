@@ -6,8 +6,8 @@ use Rattle.spdx_requirement.specs.Rows.{Rows}
 use Rattle.spdx_lexer.specs.Modes.{strict, lax}
 use Rattle.spdx_lexer.specs.Words.{Word, Plus, OpenParen, CloseParen, Or, Fault, UnknownTerm, Span, span, Item, Placed, words}
 use Rattle.spdx_lexer.specs.Text.{run_at, white}
-use Rattle.spdx_lexer.specs.Lexeme.{Found, first_of, rules, lexeme_of, lexeme}
-use Rattle.spdx_lexer.specs.Groups.{exact, referred, caseless, imprecise, unknown}
+use Rattle.spdx_lexer.specs.Lexeme.{first_of, rules, lexeme_of, lexeme}
+use Rattle.spdx_lexer.specs.Groups.{Found, exact, referred, caseless, imprecise, unknown}
 use Rattle.spdx_lexer.proofs.Table.{rules_grouped}
 use Rattle.spdx_lexer.proofs.Said.{said_words}
 use Rattle.spdx_lexer.specs.Reading.{go_on, behind, items, reading, said, Spells}

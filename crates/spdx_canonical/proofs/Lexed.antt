@@ -5,8 +5,8 @@ use Rattle.spdx_requirement.specs.Rows.{Rows}
 use Rattle.spdx_lexer.specs.declared.token.ParseMode.{ParseMode}
 use Rattle.spdx_lexer.specs.Words.{Word, Fault, UnknownTerm}
 use Rattle.spdx_lexer.specs.Text.{run_at}
-use Rattle.spdx_lexer.specs.Lexeme.{Found, first_of, sign, lexeme_of, lexeme}
-use Rattle.spdx_lexer.specs.Groups.{exact, referred, caseless, imprecise, unknown, grouped}
+use Rattle.spdx_lexer.specs.Lexeme.{first_of, sign, lexeme_of, lexeme}
+use Rattle.spdx_lexer.specs.Groups.{Found, exact, referred, caseless, imprecise, unknown, grouped}
 use Rattle.spdx_lexer.proofs.Table.{lexeme_grouped}
 
 pub and_both : (a b : Bool) → a && b ≡ true → (a ≡ true) × (b ≡ true)

@@ -1,3 +1,4 @@
+pub mod Parts
 pub mod Neighbours
 pub mod Known
 pub mod Lexed

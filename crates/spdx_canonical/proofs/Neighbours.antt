@@ -9,7 +9,7 @@ use Rattle.spdx_catalogue.specs.LookUps as LookUps
 use Rattle.spdx_requirement.specs.Items.{LicenseTerm, Addition, Requirement}
 use Rattle.spdx_lexer.specs.declared.token.ParseMode.{ParseMode}
 use Rattle.spdx_lexer.specs.Words.{Word, Spdx, LicenseRef, Exception, AdditionRef, Unknown, Plus, OpenParen, CloseParen, With, And, Or}
-use Rattle.spdx_lexer.specs.Lexeme.{reference_run}
+use Rattle.spdx_requirement.specs.Texts.{reference_text}
 use Rattle.spdx_parser.specs.Tree.{Tree}
 use Rattle.spdx_parser.specs.Grammar.{may_stand, Derives}
 use Rattle.spdx_parser.proofs.Threaded.{LicenseOf, plain, marked, later, named, unknown, AdditionOf, exception, named_addition, unknown_addition, LeafOf, alone, joined, PrimaryOf, leaf, group, AndOf, one_primary, and_more, OrOf, one_and, or_more, threaded}
@@ -64,8 +64,8 @@ AreApart last (w ∷ ws) = (may_follow last w ≡ true) × AreApart w ws
 pub record IsReference (c : Rows) (prefix : List ℕ) (d : Option (List ℕ)) (y : List ℕ) : Type 0 where
   pub name : list_all is_name_byte y ≡ true
   pub document : IfSome d (λ x. list_all is_name_byte x ≡ true)
-  pub no_license : LookUps.listed c.licenses (reference_run prefix d y) ≡ None
-  pub no_exception : LookUps.listed_exception c.exceptions (reference_run prefix d y) ≡ None
+  pub no_license : LookUps.listed c.licenses (reference_text prefix d y) ≡ None
+  pub no_exception : LookUps.listed_exception c.exceptions (reference_text prefix d y) ≡ None
 
 -- what a reading gives of each word
 abbrev pub IsRead : Rows → Word → Type 0

@@ -14,8 +14,9 @@ use Rattle.spdx_catalogue.specs.RowRules.{is_well_formed}
 use Rattle.spdx_lexer.specs.Modes.{strict, lax}
 use Rattle.spdx_lexer.specs.Words.{Word, Spdx, LicenseRef, Exception, AdditionRef, Unknown, Plus, OpenParen, CloseParen, With, And, Or, Fault, UnknownTerm}
 use Rattle.spdx_lexer.specs.Text.{is_run_byte, name_at, strip}
-use Rattle.spdx_lexer.specs.Lexeme.{Found, first_of, reference_run, name_behind, names_behind, reference, lexeme}
-use Rattle.spdx_lexer.specs.Groups.{license_reference, addition_reference}
+use Rattle.spdx_lexer.specs.Lexeme.{first_of, name_behind, names_behind, reference, lexeme}
+use Rattle.spdx_lexer.specs.Groups.{Found, license_reference, addition_reference}
+use Rattle.spdx_requirement.specs.Texts.{reference_text}
 use Rattle.spdx_parser.specs.Tree.{Tree}
 use Rattle.spdx_parser.specs.Grammar.{may_stand}
 use Rattle.spdx_parser.proofs.Threaded.{LicenseOf, plain, marked, named}
@@ -58,7 +59,7 @@ prefixed p t h = strip_is p t (drop (length p) t) (ap (λ b. cond b (Some (drop 
 
 -- where it does not
 unprefixed : (p : List ℕ) (word : Option (List ℕ) → List ℕ → Word) (t : List ℕ) → starts_with nat_eq t p ≡ false → reference p word t ≡ None
-unprefixed p word t h = ap (λ b. option_map (λ (y : List ℕ). (word None y, length (reference_run p None y))) (option_map name_at (cond b (Some (drop (length p) t)) None))) h
+unprefixed p word t h = ap (λ b. option_map (λ (y : List ℕ). (word None y, length (reference_text p None y))) (option_map name_at (cond b (Some (drop (length p) t)) None))) h
 
 module _ (c : Rows) (well : IsTrue (is_well_formed c)) where
   -- ---- what a strict reader makes of a name
@@ -94,10 +95,10 @@ module _ (c : Rows) (well : IsTrue (is_well_formed c)) where
           let L = codes "LicenseRef-" in
           let A = codes "AdditionRef-" in
           let license : license_reference t ≡ None =
-          ap (λ o. first_of (option_map (λ (x : List ℕ × List ℕ). (LicenseRef (Some x.0) x.1, length (reference_run L (Some x.0) x.1))) o ∷ reference L LicenseRef t ∷ [])) (names_behind_none L t a)
+          ap (λ o. first_of (option_map (λ (x : List ℕ × List ℕ). (LicenseRef (Some x.0) x.1, length (reference_text L (Some x.0) x.1))) o ∷ reference L LicenseRef t ∷ [])) (names_behind_none L t a)
           ∙ ap (λ (x : Found). first_of (x ∷ [])) (unprefixed L LicenseRef t p) in
           let addition : addition_reference t ≡ None =
-          ap (λ o. first_of (option_map (λ (x : List ℕ × List ℕ). (AdditionRef (Some x.0) x.1, length (reference_run A (Some x.0) x.1))) o ∷ reference A AdditionRef t ∷ [])) (names_behind_none A t a)
+          ap (λ o. first_of (option_map (λ (x : List ℕ × List ℕ). (AdditionRef (Some x.0) x.1, length (reference_text A (Some x.0) x.1))) o ∷ reference A AdditionRef t ∷ [])) (names_behind_none A t a)
           ∙ ap (λ (x : Found). first_of (x ∷ [])) (unprefixed A AdditionRef t q) in
           lexeme_none c strict (t ++ rest) (no_sign c well strict t rest f) t (front_whole is_run_byte t rest (all_run t a) s) (some_length t f) (no_row c well strict t (no_operator c well strict t o) l e)
           (ap (λ (x : Found). first_of (x ∷ addition_reference t ∷ [])) license ∙ ap (λ (x : Found). first_of (x ∷ [])) addition) refl
@@ -230,7 +231,7 @@ module _ (c : Rows) (well : IsTrue (is_well_formed c)) where
       (ap (λ (xs : List (Result Word Fault)). Ok Or ∷ xs) (sym (skips c well strict ((at + 1) + 2) (text_behind false ws) (opens c well strict Or ws refl a.1 d.1))) ∙ sym (reads_spaced c well strict at 79 (82 ∷ []) (32 ∷ text_behind false ws) Or (lit< tt) refl refl refl) ∙ e) x m
   told last (Spdx r ∷ ws) a d = λ other w vs at e x m. license_goes r ws d.0 a.1 (told (Spdx r) ws a.1 d.1) last other a.0 w vs at e x m
   told last (LicenseRef i y ∷ ws) a d = λ other w vs at e x m.
-      let t = reference_run (codes "LicenseRef-") i y in
+      let t = reference_text (codes "LicenseRef-") i y in
       let term = license_ref_term c well strict i y d.0 in
       step (LicenseRef i y) (LicenseRef i y) ws refl (told (LicenseRef i y) ws a.1 d.1) other vs ((at + 0) + length t) (sym (term_says c well strict at t (text_behind false ws) (LicenseRef i y) term.first (term.is (text_behind false ws) (stops (LicenseRef i y) ws refl a.1))) ∙ e) x m
   told last (Exception r ∷ ws) a d = λ other w vs at e x m.
@@ -238,7 +239,7 @@ module _ (c : Rows) (well : IsTrue (is_well_formed c)) where
       let term = exception_term c well strict t r d.0.0 d.0.1 in
       step (Exception r) (Exception r) ws refl (told (Exception r) ws a.1 d.1) other vs ((at + 0) + length t) (sym (term_says c well strict at t (text_behind false ws) (Exception r) term.first (term.is (text_behind false ws) (stops (Exception r) ws refl a.1))) ∙ e) x m
   told last (AdditionRef i y ∷ ws) a d = λ other w vs at e x m.
-      let t = reference_run (codes "AdditionRef-") i y in
+      let t = reference_text (codes "AdditionRef-") i y in
       let term = addition_ref_term c well strict i y d.0 in
       step (AdditionRef i y) (AdditionRef i y) ws refl (told (AdditionRef i y) ws a.1 d.1) other vs ((at + 0) + length t) (sym (term_says c well strict at t (text_behind false ws) (AdditionRef i y) term.first (term.is (text_behind false ws) (stops (AdditionRef i y) ws refl a.1))) ∙ e) x m
   told last (Unknown i ∷ ws) a d = absurd d.0

@@ -6,7 +6,7 @@ use Rattle.spdx_catalogue.specs.RowRules.{is_well_formed}
 use Rattle.spdx_lexer.specs.declared.token.ParseMode.{ParseMode}
 use Rattle.spdx_lexer.specs.Words.{Word, Spdx, LicenseRef, Exception, AdditionRef, Unknown, Plus, OpenParen, CloseParen, With, And, Or}
 use Rattle.spdx_lexer.specs.Text.{is_run_byte}
-use Rattle.spdx_lexer.specs.Lexeme.{reference_run}
+use Rattle.spdx_requirement.specs.Texts.{reference_text}
 use Rattle.spdx_canonical.specs.Canonical.{word_text}
 use Rattle.spdx_canonical.proofs.Neighbours.{ends_term, is_operator_word, AreApart, AreRead}
 use Rattle.spdx_canonical.proofs.Terms.{Stops, Opens, says_nil, opens_name, license_term, exception_term, license_ref_term, addition_ref_term}
@@ -47,9 +47,9 @@ module _ (c : Rows) (well : IsTrue (is_well_formed c)) (m : ParseMode) where
   opens last (And ∷ ws) e a d = absurd (clash (is_operator_word last) e a.0)
   opens last (Or ∷ ws) e a d = absurd (clash (is_operator_word last) e a.0)
   opens last (Spdx r ∷ ws) e a d = opens_name c well m r.name (words_text ws) (license_term c well m r.name r d.0).first
-  opens last (LicenseRef x y ∷ ws) e a d = opens_name c well m (reference_run (codes "LicenseRef-") x y) (words_text ws) (license_ref_term c well m x y d.0).first
+  opens last (LicenseRef x y ∷ ws) e a d = opens_name c well m (reference_text (codes "LicenseRef-") x y) (words_text ws) (license_ref_term c well m x y d.0).first
   opens last (Exception r ∷ ws) e a d = opens_name c well m r.name (words_text ws) (exception_term c well m r.name r d.0.0 d.0.1).first
-  opens last (AdditionRef x y ∷ ws) e a d = opens_name c well m (reference_run (codes "AdditionRef-") x y) (words_text ws) (addition_ref_term c well m x y d.0).first
+  opens last (AdditionRef x y ∷ ws) e a d = opens_name c well m (reference_text (codes "AdditionRef-") x y) (words_text ws) (addition_ref_term c well m x y d.0).first
   opens last (Unknown x ∷ ws) e a d = absurd d.0
 
   -- words that an expression has side by side are read from their text
@@ -62,7 +62,7 @@ module _ (c : Rows) (well : IsTrue (is_well_formed c)) (m : ParseMode) where
   plain last (And ∷ ws) a d = spaced c well m 65 (78 ∷ 68 ∷ []) (words_text ws) And ws (lit< tt) refl refl refl (opens And ws refl a.1 d.1) (plain And ws a.1 d.1)
   plain last (Or ∷ ws) a d = spaced c well m 79 (82 ∷ []) (words_text ws) Or ws (lit< tt) refl refl refl (opens Or ws refl a.1 d.1) (plain Or ws a.1 d.1)
   plain last (Spdx r ∷ ws) a d = name c well m r.name (words_text ws) (Spdx r) ws (license_term c well m r.name r d.0) (stops (Spdx r) ws refl a.1) (plain (Spdx r) ws a.1 d.1)
-  plain last (LicenseRef x y ∷ ws) a d = name c well m (reference_run (codes "LicenseRef-") x y) (words_text ws) (LicenseRef x y) ws (license_ref_term c well m x y d.0) (stops (LicenseRef x y) ws refl a.1) (plain (LicenseRef x y) ws a.1 d.1)
+  plain last (LicenseRef x y ∷ ws) a d = name c well m (reference_text (codes "LicenseRef-") x y) (words_text ws) (LicenseRef x y) ws (license_ref_term c well m x y d.0) (stops (LicenseRef x y) ws refl a.1) (plain (LicenseRef x y) ws a.1 d.1)
   plain last (Exception r ∷ ws) a d = name c well m r.name (words_text ws) (Exception r) ws (exception_term c well m r.name r d.0.0 d.0.1) (stops (Exception r) ws refl a.1) (plain (Exception r) ws a.1 d.1)
-  plain last (AdditionRef x y ∷ ws) a d = name c well m (reference_run (codes "AdditionRef-") x y) (words_text ws) (AdditionRef x y) ws (addition_ref_term c well m x y d.0) (stops (AdditionRef x y) ws refl a.1) (plain (AdditionRef x y) ws a.1 d.1)
+  plain last (AdditionRef x y ∷ ws) a d = name c well m (reference_text (codes "AdditionRef-") x y) (words_text ws) (AdditionRef x y) ws (addition_ref_term c well m x y d.0) (stops (AdditionRef x y) ws refl a.1) (plain (AdditionRef x y) ws a.1 d.1)
   plain last (Unknown x ∷ ws) a d = absurd d.0

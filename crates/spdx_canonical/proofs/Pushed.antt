@@ -3,31 +3,30 @@ use Rattle.std.proofs.Common.{◌≡◌, ℕ, Bool, true, false, cond, List, ◌
 use Rattle.spdx_requirement.specs.Rows.{LicenseRow}
 use Rattle.spdx_requirement.specs.Flags.{is_gnu}
 use Rattle.spdx_requirement.specs.Endings.{only, has_suffix}
-use Rattle.spdx_canonical.specs.Canonical.{gnu_name}
-use Rattle.spdx_canonical.specs.NextText.{marked_name, license_and_plus}
+use Rattle.spdx_canonical.specs.NextText.{gnu_name, marked_name, license_and_plus}
 use Rattle.spdx_canonical.proofs.Drafts.{still_off, off_more, off_same}
 use Rattle.std.specs.Prelude.{codes}
-use Rattle.spdx_lexer.specs.Lexeme.{reference_run}
+use Rattle.spdx_requirement.specs.Texts.{reference_text}
 use Rattle.spdx_canonical.specs.Draft.{Drafted, extended, IsOff}
 
 -- a reference into a document
-pub extended-document : (d : Drafted) (x p n : List ℕ) → extended (extended (extended d (codes "DocumentRef-" ++ x)) (codes ":")) (p ++ n) ≡ extended d (reference_run p (Some x) n)
+pub extended-document : (d : Drafted) (x p n : List ℕ) → extended (extended (extended d (codes "DocumentRef-" ++ x)) (codes ":")) (p ++ n) ≡ extended d (reference_text p (Some x) n)
 extended-document d x p n =
     let bytes : ((d.bytes ++ (codes "DocumentRef-" ++ x)) ++ codes ":") ++ (p ++ n) ≡ d.bytes ++ (codes "DocumentRef-" ++ (x ++ (codes ":" ++ (p ++ n)))) = simp append_assoc in
     ap (λ (bytes : List ℕ). let e : Drafted = record { text = d.text; bytes = bytes } in e) bytes
 
 -- a reference into a document, of which the front is written already
-pub off_document : (d : Drafted) (x p n : List ℕ) → IsOff d (codes "DocumentRef-" ++ x) → IsOff d (reference_run p (Some x) n)
+pub off_document : (d : Drafted) (x p n : List ℕ) → IsOff d (codes "DocumentRef-" ++ x) → IsOff d (reference_text p (Some x) n)
 off_document d x p n o =
     let flat : (codes "DocumentRef-" ++ x) ++ (codes ":" ++ (p ++ n)) ≡ codes "DocumentRef-" ++ (x ++ (codes ":" ++ (p ++ n))) = append_assoc (codes "DocumentRef-") x (codes ":" ++ (p ++ n)) in
     subst (IsOff d) flat (off_more d (codes "DocumentRef-" ++ x) (codes ":" ++ (p ++ n)) o)
 
 -- and then the colon fails
-pub off_colon : (d e : Drafted) (x p n : List ℕ) → e ≡ extended d (codes "DocumentRef-" ++ x) → IsOff e (codes ":") → IsOff d (reference_run p (Some x) n)
+pub off_colon : (d e : Drafted) (x p n : List ℕ) → e ≡ extended d (codes "DocumentRef-" ++ x) → IsOff e (codes ":") → IsOff d (reference_text p (Some x) n)
 off_colon d e x p n s o =
     let a = codes "DocumentRef-" ++ x in
     let off = subst (λ (y : Drafted). IsOff y (codes ":")) s o in
-    off_same (extended (extended d a) (codes ":")) d (p ++ n) (reference_run p (Some x) n) (extended-document d x p n) (still_off d.text ((d.bytes ++ a) ++ codes ":") (p ++ n) off)
+    off_same (extended (extended d a) (codes ":")) d (p ++ n) (reference_text p (Some x) n) (extended-document d x p n) (still_off d.text ((d.bytes ++ a) ++ codes ":") (p ++ n) off)
 
 -- ---- a licence
 

@@ -10,10 +10,13 @@ use Rattle.spdx_catalogue.specs.RowRules.{is_well_formed}
 use Rattle.spdx_lexer.specs.declared.token.ParseMode.{ParseMode}
 use Rattle.spdx_lexer.specs.Text.{white, is_run_byte, run_at}
 use Rattle.spdx_catalogue.specs.Names.{is_name_byte}
-use Rattle.spdx_catalogue.specs.LookUps.{listed, listed_exception, listed_caseless, listed_exception_caseless, imprecise_row, imprecise_license}
+use Rattle.spdx_catalogue.specs.LookUps.{listed, listed_exception, listed_caseless, listed_exception_caseless, imprecise_license}
+use Rattle.spdx_catalogue.proofs.Spellings.{imprecise_row}
 use Rattle.spdx_lexer.specs.Words.{Word, Spdx, LicenseRef, Exception, AdditionRef, Unknown, Plus, OpenParen, CloseParen, With, And, Or, Fault, SeparatedPlus, span}
-use Rattle.spdx_lexer.specs.Lexeme.{Found, first_of, if_allowed, sign, whole, operator, reference_run, name_behind, names_behind, reference, document_reference, lexeme}
-use Rattle.spdx_lexer.specs.Groups.{license_reference, addition_reference, exact, referred, caseless, by_run, imprecise, unknown, grouped}
+use Rattle.spdx_lexer.specs.Lexeme.{first_of, sign, whole, operator, name_behind, names_behind, reference, document_reference, lexeme}
+use Rattle.spdx_lexer.specs.Groups.{Found, license_reference, addition_reference, exact, referred, caseless, by_run, imprecise, unknown, grouped}
+use Rattle.spdx_lexer.proofs.Allowed.{if_allowed}
+use Rattle.spdx_requirement.specs.Texts.{reference_text}
 use Rattle.spdx_lexer.specs.Reading.{reading, said}
 use Rattle.spdx_canonical.specs.Canonical.{is_spdx}
 use Rattle.spdx_canonical.proofs.Neighbours.{ends_term, takes_license, is_with, AreApart, IsReference, IsRead, AreRead}
@@ -84,21 +87,21 @@ module _ (c : Rows) (well : IsTrue (is_well_formed c)) where
   record RefAt (p : List ℕ) (d : Option (List ℕ)) (y text : List ℕ) (n : ℕ) : Type 0 where
     name : list_all is_name_byte y ≡ true
     document : IfSome d (λ x. list_all is_name_byte x ≡ true)
-    goes_on : ((listed c.licenses (reference_run p d y) ≡ None) × (listed_exception c.exceptions (reference_run p d y) ≡ None)) ⊎ ((rest : List ℕ) × (drop n text ≡ 58 ∷ rest))
+    goes_on : ((listed c.licenses (reference_text p d y) ≡ None) × (listed_exception c.exceptions (reference_text p d y) ≡ None)) ⊎ ((rest : List ℕ) × (drop n text ≡ 58 ∷ rest))
 
   abbrev IsAt : List ℕ → Word × ℕ → Type 0
   IsAt text (LicenseRef d y, n) = RefAt (codes "LicenseRef-") d y text n
   IsAt text (AdditionRef d y, n) = RefAt (codes "AdditionRef-") d y text n
   IsAt text (w, n) = IsRead c w
 
-  ref_at : (p : List ℕ) (d : Option (List ℕ)) (y text run : List ℕ) → run_at text ≡ run → listed c.licenses run ≡ None → listed_exception c.exceptions run ≡ None → Cut p d y run → RefAt p d y text (length (reference_run p d y))
+  ref_at : (p : List ℕ) (d : Option (List ℕ)) (y text run : List ℕ) → run_at text ≡ run → listed c.licenses run ≡ None → listed_exception c.exceptions run ≡ None → Cut p d y run → RefAt p d y text (length (reference_text p d y))
   ref_at p d y text run r l e cut = record { name = cut.name; document = cut.document; goes_on = ends cut.tail cut.split cut.stops }
     where
-      ends : (tail : List ℕ) → run ≡ reference_run p d y ++ tail → Stops is_name_byte tail → ((listed c.licenses (reference_run p d y) ≡ None) × (listed_exception c.exceptions (reference_run p d y) ≡ None)) ⊎ ((rest : List ℕ) × (drop (length (reference_run p d y)) text ≡ 58 ∷ rest))
-      ends [] s h = let same : run ≡ reference_run p d y = s ∙ append-nil (reference_run p d y) in inl (subst (λ (t : List ℕ). listed c.licenses t ≡ None) same l, subst (λ (t : List ℕ). listed_exception c.exceptions t ≡ None) same e)
+      ends : (tail : List ℕ) → run ≡ reference_text p d y ++ tail → Stops is_name_byte tail → ((listed c.licenses (reference_text p d y) ≡ None) × (listed_exception c.exceptions (reference_text p d y) ≡ None)) ⊎ ((rest : List ℕ) × (drop (length (reference_text p d y)) text ≡ 58 ∷ rest))
+      ends [] s h = let same : run ≡ reference_text p d y = s ∙ append-nil (reference_text p d y) in inl (subst (λ (t : List ℕ). listed c.licenses t ≡ None) same l, subst (λ (t : List ℕ). listed_exception c.exceptions t ≡ None) same e)
       ends (b ∷ tail) s h =
           let more = drop (length run) text in
-          let t = reference_run p d y in
+          let t = reference_text p d y in
           let all : text ≡ t ++ ((b ∷ tail) ++ more) = front_split is_run_byte text ∙ ap (λ (f : List ℕ). f ++ drop (length f) text) r ∙ ap (λ (f : List ℕ). f ++ more) s ∙ append_assoc t (b ∷ tail) more in
           let runs : list_all is_run_byte (t ++ (b ∷ tail)) ≡ true = ap (list_all is_run_byte) (sym s ∙ sym r) ∙ front_all is_run_byte text in
           let byte : is_run_byte b ≡ true = (and_both (is_run_byte b) (list_all is_run_byte tail) (all_after is_run_byte t (b ∷ tail) runs)).0 in
@@ -302,7 +305,7 @@ module _ (c : Rows) (well : IsTrue (is_well_formed c)) where
     reference_read : (p : List ℕ) (d : Option (List ℕ)) (y : List ℕ) (last : Word) → ends_term last ≡ true → is_spdx last ≡ false → (ws : List Word) → AreApart last ws → (text : List ℕ) (size place : ℕ) → RefAt p d y text size → says place (drop size text) ≡ map Ok ws → IsReference c p d y
     reference_read p d y last e k ws a text size place ref next = each ref.goes_on
       where
-        each : ((listed c.licenses (reference_run p d y) ≡ None) × (listed_exception c.exceptions (reference_run p d y) ≡ None)) ⊎ ((rest : List ℕ) × (drop size text ≡ 58 ∷ rest)) → IsReference c p d y
+        each : ((listed c.licenses (reference_text p d y) ≡ None) × (listed_exception c.exceptions (reference_text p d y) ≡ None)) ⊎ ((rest : List ℕ) × (drop size text ≡ 58 ∷ rest)) → IsReference c p d y
         each (inl none) = record { name = ref.name; document = ref.document; no_license = none.0; no_exception = none.1 }
         each (inr colon) = absurd (no_colon last e k ws (colon_says place colon.0 ws (ap (says place) (sym colon.1) ∙ next)) a)
 

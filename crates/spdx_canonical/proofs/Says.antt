@@ -8,7 +8,8 @@ use Rattle.spdx_catalogue.specs.RowRules.{is_well_formed}
 use Rattle.spdx_lexer.specs.declared.token.ParseMode.{ParseMode}
 use Rattle.spdx_lexer.specs.Words.{Word, Spdx, LicenseRef, Exception, AdditionRef, Unknown, Plus, OpenParen, CloseParen, With, And, Or, Fault}
 use Rattle.spdx_lexer.specs.Text.{is_run_byte}
-use Rattle.spdx_lexer.specs.Lexeme.{lexeme, reference_run}
+use Rattle.spdx_lexer.specs.Lexeme.{lexeme}
+use Rattle.spdx_requirement.specs.Texts.{reference_text}
 use Rattle.spdx_canonical.specs.Canonical.{is_spdx, written_name, plus_follows, text_behind, words_by}
 use Rattle.spdx_canonical.proofs.Neighbours.{ends_term, is_operator_word, AreApart, AreRead, is_gnu_word}
 use Rattle.spdx_canonical.proofs.Terms.{Stops, says, Opens, reads, reads_spaced, skips, says_nil, IsTerm, term_says, opens_name, first_of_name, exception_term, license_ref_term, addition_ref_term}
@@ -55,9 +56,9 @@ module _ (c : Rows) (well : IsTrue (is_well_formed c)) (m : ParseMode) where
   opens last (And ∷ ws) e a d = absurd (clash (is_operator_word last) e a.0)
   opens last (Or ∷ ws) e a d = absurd (clash (is_operator_word last) e a.0)
   opens last (Spdx r ∷ ws) e a d = let t = written_name (plus_follows ws) r in opens_name c well m t (text_behind (is_gnu r.flags) ws) (first_of_name t (written_is_name c well (plus_follows ws) r d.0))
-  opens last (LicenseRef x y ∷ ws) e a d = opens_name c well m (reference_run (codes "LicenseRef-") x y) (text_behind false ws) (license_ref_term c well m x y d.0).first
+  opens last (LicenseRef x y ∷ ws) e a d = opens_name c well m (reference_text (codes "LicenseRef-") x y) (text_behind false ws) (license_ref_term c well m x y d.0).first
   opens last (Exception r ∷ ws) e a d = opens_name c well m r.name (text_behind false ws) (exception_term c well m r.name r d.0.0 d.0.1).first
-  opens last (AdditionRef x y ∷ ws) e a d = opens_name c well m (reference_run (codes "AdditionRef-") x y) (text_behind false ws) (addition_ref_term c well m x y d.0).first
+  opens last (AdditionRef x y ∷ ws) e a d = opens_name c well m (reference_text (codes "AdditionRef-") x y) (text_behind false ws) (addition_ref_term c well m x y d.0).first
   opens last (Unknown x ∷ ws) e a d = absurd d.0
 
   -- ---- one word, and what follows
@@ -99,7 +100,7 @@ module _ (c : Rows) (well : IsTrue (is_well_formed c)) (m : ParseMode) where
     spells last (And ∷ ws) a d l = spaced 65 (78 ∷ 68 ∷ []) (text_behind false ws) And (words_by word false ws) (lit< tt) refl refl refl (opens And ws refl a.1 d.1) (spells And ws a.1 d.1 l)
     spells last (Or ∷ ws) a d l = spaced 79 (82 ∷ []) (text_behind false ws) Or (words_by word false ws) (lit< tt) refl refl refl (opens Or ws refl a.1 d.1) (spells Or ws a.1 d.1 l)
     spells last (Spdx r ∷ ws) a d l = name (written_name (plus_follows ws) r) (text_behind (is_gnu r.flags) ws) (word (plus_follows ws) r) (words_by word (is_gnu r.flags) ws) l.0 (stops (Spdx r) ws refl a.1) (spells (Spdx r) ws a.1 d.1 l.1)
-    spells last (LicenseRef x y ∷ ws) a d l = name (reference_run (codes "LicenseRef-") x y) (text_behind false ws) (LicenseRef x y) (words_by word false ws) (license_ref_term c well m x y d.0) (stops (LicenseRef x y) ws refl a.1) (spells (LicenseRef x y) ws a.1 d.1 l)
+    spells last (LicenseRef x y ∷ ws) a d l = name (reference_text (codes "LicenseRef-") x y) (text_behind false ws) (LicenseRef x y) (words_by word false ws) (license_ref_term c well m x y d.0) (stops (LicenseRef x y) ws refl a.1) (spells (LicenseRef x y) ws a.1 d.1 l)
     spells last (Exception r ∷ ws) a d l = name r.name (text_behind false ws) (Exception r) (words_by word false ws) (exception_term c well m r.name r d.0.0 d.0.1) (stops (Exception r) ws refl a.1) (spells (Exception r) ws a.1 d.1 l)
-    spells last (AdditionRef x y ∷ ws) a d l = name (reference_run (codes "AdditionRef-") x y) (text_behind false ws) (AdditionRef x y) (words_by word false ws) (addition_ref_term c well m x y d.0) (stops (AdditionRef x y) ws refl a.1) (spells (AdditionRef x y) ws a.1 d.1 l)
+    spells last (AdditionRef x y ∷ ws) a d l = name (reference_text (codes "AdditionRef-") x y) (text_behind false ws) (AdditionRef x y) (words_by word false ws) (addition_ref_term c well m x y d.0) (stops (AdditionRef x y) ws refl a.1) (spells (AdditionRef x y) ws a.1 d.1 l)
     spells last (Unknown x ∷ ws) a d l = absurd d.0

@@ -17,7 +17,9 @@ use Rattle.spdx_parser.specs.Tree.{Tree}
 use Rattle.spdx_parser.specs.Grammar.{may_stand, later_row}
 use Rattle.spdx_parser.proofs.Threaded.{LicenseOf, plain, marked}
 use Rattle.spdx_parser.proofs.Complete.{the_only}
-use Rattle.spdx_canonical.specs.Canonical.{is_spdx, is_misplaced, canonical_fault, words_of, canonical_of, gnu_name, written_name, plus_follows, canonical_text, only_row, canonical_row, canonical_words}
+use Rattle.spdx_canonical.specs.Canonical.{is_spdx, is_misplaced, canonical_fault, canonical_of, written_name, plus_follows, canonical_text, only_row, canonical_row, canonical_words}
+use Rattle.spdx_canonical.proofs.Parts.{words_of}
+use Rattle.spdx_canonical.specs.NextText.{gnu_name}
 use Rattle.spdx_canonical.specs.Law.{EachName, is_good, only_license, tree_by, Accepts, IsSound, IsFaithful}
 use Rattle.spdx_canonical.proofs.Known.{license_named}
 use Rattle.spdx_canonical.proofs.Neighbours.{may_follow, AreApart, AreRead, apart}

@@ -14,8 +14,10 @@ use Rattle.spdx_catalogue.specs.RowRules.{is_well_formed}
 use Rattle.spdx_lexer.specs.declared.token.ParseMode.{ParseMode}
 use Rattle.spdx_lexer.specs.Words.{Word, Spdx, LicenseRef, Exception, AdditionRef, Plus, OpenParen, CloseParen, With, And, Or, Fault, SeparatedPlus, span}
 use Rattle.spdx_lexer.specs.Text.{white, is_run_byte, name_at, strip}
-use Rattle.spdx_lexer.specs.Lexeme.{Found, first_of, sign_of, sign, whole, operator, reference_run, name_behind, names_behind, reference, lexeme}
-use Rattle.spdx_lexer.specs.Groups.{addition_reference, exact, referred}
+use Rattle.spdx_lexer.specs.Lexeme.{first_of, sign, whole, operator, name_behind, names_behind, reference, lexeme}
+use Rattle.spdx_lexer.specs.Groups.{Found, addition_reference, exact, referred}
+use Rattle.spdx_lexer.proofs.Allowed.{sign_of}
+use Rattle.spdx_requirement.specs.Texts.{reference_text}
 use Rattle.spdx_lexer.specs.Reading.{said, reading}
 use Rattle.spdx_canonical.proofs.Lexed.{and_both}
 use Rattle.spdx_lexer.proofs.White.{white_space, white_none, white_nil}
@@ -203,7 +205,7 @@ module _ (c : Rows) (well : IsTrue (is_well_formed c)) (m : ParseMode) where
   pub name_whole : (y : List ℕ) → list_all is_name_byte y ≡ true → name_at y ≡ y
   name_whole y h = ap name_at (sym (append-nil y)) ∙ front_whole is_name_byte y [] h tt
 
-  names_at : (p q x y : List ℕ) → list_all is_name_byte x ≡ true → names_behind q (reference_run p (Some x) y) ≡ option_map (λ z. (x, z)) (name_behind q (p ++ y))
+  names_at : (p q x y : List ℕ) → list_all is_name_byte x ≡ true → names_behind q (reference_text p (Some x) y) ≡ option_map (λ z. (x, z)) (name_behind q (p ++ y))
   names_at p q x y h =
       let rest = x ++ (58 ∷ (p ++ y)) in
       ap (λ (n : List ℕ). option_map (λ z. (n, z)) (option_and_then (name_behind q) (strip (codes ":") (drop (length n) rest)))) (front_whole is_name_byte x (58 ∷ (p ++ y)) h refl)
@@ -215,28 +217,28 @@ module _ (c : Rows) (well : IsTrue (is_well_formed c)) (m : ParseMode) where
       ∙ ap (λ o. first_of (whole t (option_map Spdx o) ∷ whole t (option_map Exception (listed_exception c.exceptions t)) ∷ [])) l
       ∙ ap (λ o. first_of (whole t (option_map Exception o) ∷ [])) e
 
-  pub license_ref_term : (d : Option (List ℕ)) (y : List ℕ) → IsReference c (codes "LicenseRef-") d y → IsTerm (reference_run (codes "LicenseRef-") d y) (LicenseRef d y)
+  pub license_ref_term : (d : Option (List ℕ)) (y : List ℕ) → IsReference c (codes "LicenseRef-") d y → IsTerm (reference_text (codes "LicenseRef-") d y) (LicenseRef d y)
   license_ref_term None y h =
       let p = codes "LicenseRef-" in
-      referred_term (reference_run p None y) (LicenseRef None y) refl (all_run y h.name) (no_row (reference_run p None y) refl h.no_license h.no_exception)
-      (ap (λ (z : List ℕ). let f : Found = Some (LicenseRef None z, length (reference_run p None z)) in f) (name_whole y h.name))
+      referred_term (reference_text p None y) (LicenseRef None y) refl (all_run y h.name) (no_row (reference_text p None y) refl h.no_license h.no_exception)
+      (ap (λ (z : List ℕ). let f : Found = Some (LicenseRef None z, length (reference_text p None z)) in f) (name_whole y h.name))
   license_ref_term (Some x) y h =
       let p = codes "LicenseRef-" in
-      let t = reference_run p (Some x) y in
+      let t = reference_text p (Some x) y in
       referred_term t (LicenseRef (Some x) y) refl (all_append is_run_byte x (58 ∷ (p ++ y)) (all_run x h.document) (all_run y h.name)) (no_row t refl h.no_license h.no_exception)
-      (ap (λ o. first_of (first_of (option_map (λ (n : List ℕ × List ℕ). (LicenseRef (Some n.0) n.1, length (reference_run p (Some n.0) n.1))) o ∷ reference p LicenseRef t ∷ []) ∷ addition_reference t ∷ [])) (names_at p p x y h.document)
-      ∙ ap (λ (z : List ℕ). let f : Found = Some (LicenseRef (Some x) z, length (reference_run p (Some x) z)) in f) (name_whole y h.name))
+      (ap (λ o. first_of (first_of (option_map (λ (n : List ℕ × List ℕ). (LicenseRef (Some n.0) n.1, length (reference_text p (Some n.0) n.1))) o ∷ reference p LicenseRef t ∷ []) ∷ addition_reference t ∷ [])) (names_at p p x y h.document)
+      ∙ ap (λ (z : List ℕ). let f : Found = Some (LicenseRef (Some x) z, length (reference_text p (Some x) z)) in f) (name_whole y h.name))
 
-  pub addition_ref_term : (d : Option (List ℕ)) (y : List ℕ) → IsReference c (codes "AdditionRef-") d y → IsTerm (reference_run (codes "AdditionRef-") d y) (AdditionRef d y)
+  pub addition_ref_term : (d : Option (List ℕ)) (y : List ℕ) → IsReference c (codes "AdditionRef-") d y → IsTerm (reference_text (codes "AdditionRef-") d y) (AdditionRef d y)
   addition_ref_term None y h =
       let p = codes "AdditionRef-" in
-      referred_term (reference_run p None y) (AdditionRef None y) refl (all_run y h.name) (no_row (reference_run p None y) refl h.no_license h.no_exception)
-      (ap (λ (z : List ℕ). let f : Found = Some (AdditionRef None z, length (reference_run p None z)) in f) (name_whole y h.name))
+      referred_term (reference_text p None y) (AdditionRef None y) refl (all_run y h.name) (no_row (reference_text p None y) refl h.no_license h.no_exception)
+      (ap (λ (z : List ℕ). let f : Found = Some (AdditionRef None z, length (reference_text p None z)) in f) (name_whole y h.name))
   addition_ref_term (Some x) y h =
       let p = codes "AdditionRef-" in
       let l = codes "LicenseRef-" in
-      let t = reference_run p (Some x) y in
+      let t = reference_text p (Some x) y in
       referred_term t (AdditionRef (Some x) y) refl (all_append is_run_byte x (58 ∷ (p ++ y)) (all_run x h.document) (all_run y h.name)) (no_row t refl h.no_license h.no_exception)
-      (ap (λ o. first_of (first_of (option_map (λ (n : List ℕ × List ℕ). (LicenseRef (Some n.0) n.1, length (reference_run l (Some n.0) n.1))) o ∷ reference l LicenseRef t ∷ []) ∷ addition_reference t ∷ [])) (names_at p l x y h.document)
-      ∙ ap (λ o. first_of (first_of (option_map (λ (n : List ℕ × List ℕ). (AdditionRef (Some n.0) n.1, length (reference_run p (Some n.0) n.1))) o ∷ reference p AdditionRef t ∷ []) ∷ [])) (names_at p p x y h.document)
-      ∙ ap (λ (z : List ℕ). let f : Found = Some (AdditionRef (Some x) z, length (reference_run p (Some x) z)) in f) (name_whole y h.name))
+      (ap (λ o. first_of (first_of (option_map (λ (n : List ℕ × List ℕ). (LicenseRef (Some n.0) n.1, length (reference_text l (Some n.0) n.1))) o ∷ reference l LicenseRef t ∷ []) ∷ addition_reference t ∷ [])) (names_at p l x y h.document)
+      ∙ ap (λ o. first_of (first_of (option_map (λ (n : List ℕ × List ℕ). (AdditionRef (Some n.0) n.1, length (reference_text p (Some n.0) n.1))) o ∷ reference p AdditionRef t ∷ []) ∷ [])) (names_at p p x y h.document)
+      ∙ ap (λ (z : List ℕ). let f : Found = Some (AdditionRef (Some x) z, length (reference_text p (Some x) z)) in f) (name_whole y h.name))

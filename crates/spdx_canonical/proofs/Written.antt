@@ -8,12 +8,14 @@ use Rattle.std.proofs.Math.Seq.{drop-append_seam}
 use Rattle.spdx_requirement.specs.Rows.{LicenseRow, Rows}
 use Rattle.spdx_requirement.specs.Flags.{is_gnu}
 use Rattle.spdx_catalogue.specs.Names.{is_name_byte, is_name, is_operator}
-use Rattle.spdx_requirement.specs.Endings.{only, or_later, ends_only, ends_or_later, has_suffix, without_only}
+use Rattle.spdx_requirement.specs.Endings.{only, or_later, ends_or_later, has_suffix, without_only}
+use Rattle.spdx_requirement.proofs.Suffixes.{ends_only}
 use Rattle.spdx_catalogue.specs.LookUps.{listed}
 use Rattle.spdx_catalogue.specs.RowRules.{is_well_formed}
 use Rattle.spdx_canonical.proofs.Lexed.{and_both}
 use Rattle.spdx_catalogue.proofs.Caseless.{bytes_same}
-use Rattle.spdx_canonical.specs.Canonical.{gnu_name, written_name, canonical_row}
+use Rattle.spdx_canonical.specs.Canonical.{written_name, canonical_row}
+use Rattle.spdx_canonical.specs.NextText.{gnu_name}
 use Rattle.spdx_canonical.proofs.Known.{license_named}
 use Rattle.spdx_canonical.proofs.Terms.{all_append, bytes_of_name}
 

@@ -1,27 +1,27 @@
 -- The canonical text of a licence expression: what is written for each of its words, and where there is none.
 use Rattle.std.specs.Prelude.{ℕ, Bool, true, false, not, ◌&&◌, List, [], ◌∷◌, ◌++◌, Option, Some, None, Result, Ok, Err, if◌then◌else◌, codes, unwrap_or, bytes_eq}
 use Rattle.std.specs.Option.{option_map_or}
+use Rattle.std.specs.Result.{ok_prefix}
 use Rattle.spdx_requirement.specs.Rows.{Rows, LicenseRow}
 use Rattle.spdx_requirement.specs.Flags.{is_gnu}
 use Rattle.spdx_requirement.specs.Endings.{only, or_later, has_suffix, without_only}
 use Rattle.spdx_catalogue.specs.LookUps.{listed}
 use Rattle.spdx_lexer.specs.Modes.{lax}
-use Rattle.spdx_lexer.specs.Words.{Word, Spdx, LicenseRef, Exception, AdditionRef, Unknown, Plus, OpenParen, CloseParen, With, And, Or, Fault, Unexpected, Span, Item}
-use Rattle.spdx_lexer.specs.Lexeme.{reference_run}
+use Rattle.spdx_lexer.specs.Words.{Word, Spdx, LicenseRef, Exception, AdditionRef, Unknown, Plus, OpenParen, CloseParen, With, And, Or, Fault, Unexpected, Span, Item, words}
+use Rattle.spdx_requirement.specs.Texts.{reference_text}
 use Rattle.spdx_lexer.specs.Reading.{reading}
 use Rattle.spdx_parser.specs.Grammar.{later_row}
 
 -- ---- what is written
 
--- The name of a GNU licence says which versions are meant. Where a `+` follows: `-or-later`, in place of a
--- final `-only`. Where none follows: the ending that it has, or else `-only`.
-abbrev pub gnu_name : Bool → List ℕ → List ℕ
-gnu_name true name = without_only name ++ or_later
-gnu_name false name = if has_suffix name then name else name ++ only
-
--- the name that is written for a licence, where a `+` follows or not
+-- The name that is written for a licence, where a `+` follows or not. That of a GNU licence says which versions are
+-- meant. Where a `+` follows: `-or-later`, in place of a final `-only`. Where none follows: the ending that it has, or
+-- else `-only`.
 abbrev pub written_name : Bool → LicenseRow → List ℕ
-written_name plus r = if is_gnu r.flags then gnu_name plus r.name else r.name
+written_name plus r =
+    if is_gnu r.flags then (
+    if plus then without_only r.name ++ or_later else
+    if has_suffix r.name then r.name else r.name ++ only) else r.name
 
 -- the next word is `+`
 abbrev pub plus_follows : List Word → Bool
@@ -31,9 +31,9 @@ plus_follows _ = false
 -- any other word: an operator in capitals, with a space on each side
 abbrev pub word_text : Word → List ℕ
 word_text (Spdx r) = r.name
-word_text (LicenseRef d y) = reference_run (codes "LicenseRef-") d y
+word_text (LicenseRef d y) = reference_text (codes "LicenseRef-") d y
 word_text (Exception r) = r.name
-word_text (AdditionRef d y) = reference_run (codes "AdditionRef-") d y
+word_text (AdditionRef d y) = reference_text (codes "AdditionRef-") d y
 word_text (Unknown x) = x
 word_text Plus = codes "+"
 word_text OpenParen = codes "("
@@ -95,19 +95,13 @@ canonical_fault behind_spdx (Err fault ∷ items) = Some fault
 canonical_fault behind_spdx (Ok found ∷ items) =
     if is_misplaced behind_spdx found.0 then Some (Unexpected (codes "<license>" ∷ []), found.1) else canonical_fault (is_spdx found.0) items
 
--- the words that were found
-abbrev pub words_of : List Item → List Word
-words_of [] = []
-words_of (Err fault ∷ items) = words_of items
-words_of (Ok found ∷ items) = found.0 ∷ words_of items
-
 -- the answer to a text: no other text where the canonical one is the text itself
 abbrev pub answer_to : List ℕ → Result (List ℕ) (Fault × Span) → Result (Option (List ℕ)) (Fault × Span)
 answer_to text (Ok canonical) = Ok (if bytes_eq canonical text then None else Some canonical)
 answer_to text (Err fault) = Err fault
 
--- The canonical text of a text, as a lax reader finds it, or the fault for which it has none.
+-- The canonical text of the words that a lax reader finds in a text, or the fault for which it has none.
 abbrev pub canonical_of : Rows → List ℕ → Result (List ℕ) (Fault × Span)
 canonical_of c text =
     let items : List Item = reading c lax 0 text in
-    option_map_or (λ fault. Err fault) (canonical_fault false items) (Ok (canonical_text (words_of items)))
+    option_map_or (λ fault. Err fault) (canonical_fault false items) (Ok (canonical_text (words (ok_prefix items))))

@@ -3,7 +3,8 @@
 ghost use Rattle.std.specs.Prelude.{◌≡◌, ◌++◌, None, Ok, Err, IfOk, IfErr, option_map, is_some, string_bytes};
 ghost use Rattle.spdx_requirement.specs.Ids.{id_row};
 ghost use Rattle.spdx_requirement.specs.Endings as Endings;
-ghost use Rattle.spdx_lexer.specs.Lexeme.{reference_run};
+ghost use Rattle.spdx_requirement.specs.Texts.{reference_text};
+ghost use Rattle.spdx_lexer.specs.Faults.{fault_of};
 ghost use Rattle.spdx_lexer.specs.Code.{word_of, document_of, span_of};
 ghost use Rattle.spdx_lexer.specs.Layout.{IsPlace};
 ghost use Rattle.spdx_canonical.specs.Canonical.{word_text, is_misplaced, canonical_of, answer_to};
@@ -11,7 +12,6 @@ ghost use Rattle.spdx_canonical.specs.Law.{CanonicalLaws};
 ghost use Rattle.spdx_canonical.specs.Draft.{extended, IsOff};
 ghost use Rattle.spdx_canonical.specs.NextText.{license_and_plus, is_plus_word, next_text, own_text, waiting};
 ghost use Rattle.spdx_requirement.specs.Failures.{IfRefused};
-ghost use Rattle.spdx_canonical.specs.Code.{placed_fault};
 
 use crate::draft::Draft;
 use spdx_catalogue::{Catalogue, LicenseId};
@@ -80,9 +80,9 @@ fn push_reference(
     name: &str,
 ) -> Result<(), AllocError>
     ensures ok { IfOk result (λ _. draft.new
-        ≡ extended draft.old (reference_run prefix.now (document_of document.entry) name.now)) }
+        ≡ extended draft.old (reference_text prefix.now (document_of document.entry) name.now)) }
     ensures err { IfErr result (λ _.
-        IsOff draft.old (reference_run prefix.now (document_of document.entry) name.now)) }
+        IsOff draft.old (reference_text prefix.now (document_of document.entry) name.now)) }
 {
     match document {
         None => push_both(draft, alloc, prefix, name),
@@ -186,7 +186,7 @@ pub fn canonical<'t>(
     ensures answer { IfOk result (λ answer.
         answer_to text.now (canonical_of catalogue.now text.now) ≡ Ok (option_map string_bytes answer)) }
     ensures refusal { IfErr result (IfRefused (λ error.
-        (canonical_of catalogue.now text.now ≡ Err (placed_fault error))
+        (canonical_of catalogue.now text.now ≡ Err (fault_of error.reason, span_of error.span))
         × (error.original.now ≡ text.now))) }
     ensures place { IfErr result (IfRefused (λ error. IsPlace text.now (span_of error.span))) }
     ensures itself { canonical_of catalogue.now text.now ≡ Ok text.now → result ≡ Ok None }

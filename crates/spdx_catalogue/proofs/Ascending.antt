@@ -1,6 +1,6 @@
 -- What holds of each row of a well-formed catalogue: the rules, and that names ascend.
-use Rattle.std.proofs.Common.{◌≡◌, ℕ, suc, ◌<◌, Bool, true, false, cond, not, List, [], ◌∷◌, ◌++◌, length, get_or, Option, Some, None, is_none, refl, subst, arith}
-use Rattle.std.specs.Prelude.{slice_get, option_map, ◌==◌, ◌&&◌}
+use Rattle.std.proofs.Common.{◌≡◌, ℕ, suc, ◌<◌, Bool, true, false, cond, not, List, [], ◌∷◌, ◌++◌, length, get_or, Option, Some, None, is_none, refl, sym, ◌∙◌, subst, arith}
+use Rattle.std.specs.Prelude.{slice_get, is_some, option_map, ◌==◌, ◌&&◌}
 use Rattle.std.specs.Option.{option_map_or}
 use Rattle.std.specs.Ordering.{nat_cmp, is_lt}
 use Rattle.std.specs.declared.cmp.Ordering.{Ordering}
@@ -8,12 +8,15 @@ use Rattle.std.specs.declared.cmp.Ordering.TheVariants.{Less, Equal, Greater}
 use Rattle.std.specs.Cmp.Lexicographic.{slice_cmp}
 use Rattle.spdx_requirement.specs.Rows.{Rows, LicenseRow, ExceptionRow, ImpreciseRow, license_name, exception_name}
 use Rattle.spdx_catalogue.specs.declared.error.CatalogueError.{CatalogueError}
+use Rattle.spdx_catalogue.specs.LookUps.{listed}
 use Rattle.spdx_catalogue.specs.Names.{is_above, is_name, is_operator, has_two_suffixes}
 use Rattle.spdx_catalogue.specs.declared.error.List as kind
 use Rattle.spdx_catalogue.specs.declared.error.List.TheVariants.{Licenses, Exceptions}
 use Rattle.spdx_catalogue.specs.declared.error.CatalogueError.TheVariants.{BadName, OperatorName, NotAscending, BadIndex, TwoSuffixes, EmptyPrefix, UnlistedTarget}
 use Rattle.spdx_requirement.specs.Flags.{is_gnu}
-use Rattle.spdx_catalogue.specs.RowRules.{RowRule, first_broken, all_below, before, name_rules, license_row_rules, exception_row_rules, imprecise_row_rules, rules_at, license_rules, exception_rules, imprecise_rules, is_listed, first_fault, is_well_formed}
+use Rattle.spdx_catalogue.specs.RowRules.{RowRule, name_rules, license_row_rules, exception_row_rules, imprecise_row_rules, first_fault, is_well_formed}
+use Rattle.spdx_catalogue.proofs.Table.{license_rules, exception_rules, fault_is}
+use Rattle.spdx_catalogue.specs.RowChecks.{first_broken, all_below, before, rules_at, imprecise_rules}
 use Rattle.spdx_catalogue.proofs.First.{none_front, none_back, below_each}
 use Rattle.spdx_catalogue.specs.Ascent.{Ascends}
 use Rattle.spdx_catalogue.proofs.Sorted.{get_is}
@@ -102,11 +105,11 @@ module _ (l : List ExceptionRow) (keep : first_broken (all_below (exception_rule
   exceptions_ascend = ascends exception_name (λ (x : ExceptionRow). x.index) exception_row_rules exception_by_name l keep
 
 module _ (l : List LicenseRow) (ms : List ImpreciseRow) (keep : first_broken (all_below (imprecise_rules l ms) (length ms)) ≡ None) where
-  pub imprecise_row_kept : (i : ℕ) (r : ImpreciseRow) → i < length ms → slice_get ms i ≡ Some r → ((length r.prefix == 0) ≡ false) × (is_listed l r.name ≡ true)
+  pub imprecise_row_kept : (i : ℕ) (r : ImpreciseRow) → i < length ms → slice_get ms i ≡ Some r → ((length r.prefix == 0) ≡ false) × (is_some (listed l r.name) ≡ true)
   imprecise_row_kept i r lt at =
-      let target : List RowRule = (not (is_listed l r.name), UnlistedTarget i) ∷ [] in
+      let target : List RowRule = (not (is_some (listed l r.name)), UnlistedTarget i) ∷ [] in
       let a = later (length r.prefix == 0, EmptyPrefix i) target (subst (λ o. first_broken (option_map_or (imprecise_row_rules l i) o []) ≡ None) at (below_each (imprecise_rules l ms) (length ms) i lt keep)) in
-      (a.0, not_false (is_listed l r.name) (later (not (is_listed l r.name), UnlistedTarget i) [] a.1).0)
+      (a.0, not_false (is_some (listed l r.name)) (later (not (is_some (listed l r.name)), UnlistedTarget i) [] a.1).0)
 
 -- each list of a well-formed catalogue keeps its rules
 module _ (c : Rows) (well : is_well_formed c ≡ true) where
@@ -119,11 +122,14 @@ module _ (c : Rows) (well : is_well_formed c ≡ true) where
   abbrev spelled : List RowRule
   spelled = all_below (imprecise_rules c.licenses c.imprecise) (length c.imprecise)
 
+  broken : first_broken (names ++ (excepted ++ spelled)) ≡ None
+  broken = sym (fault_is c) ∙ none_is (first_fault c) well
+
   pub licenses_keep : first_broken (all_below (license_rules c.licenses) (length c.licenses)) ≡ None
-  licenses_keep = none_front names (excepted ++ spelled) (none_is (first_fault c) well)
+  licenses_keep = none_front names (excepted ++ spelled) broken
 
   pub exceptions_keep : first_broken (all_below (exception_rules c.exceptions) (length c.exceptions)) ≡ None
-  exceptions_keep = none_front excepted spelled (none_back names (excepted ++ spelled) (none_is (first_fault c) well))
+  exceptions_keep = none_front excepted spelled (none_back names (excepted ++ spelled) broken)
 
   pub imprecise_keep : first_broken (all_below (imprecise_rules c.licenses c.imprecise) (length c.imprecise)) ≡ None
-  imprecise_keep = none_back excepted spelled (none_back names (excepted ++ spelled) (none_is (first_fault c) well))
+  imprecise_keep = none_back excepted spelled (none_back names (excepted ++ spelled) broken)

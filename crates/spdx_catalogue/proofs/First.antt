@@ -1,6 +1,7 @@
 -- The first rule that is broken, in parts of the table.
 use Rattle.std.proofs.Common.{◌≡◌, ℕ, zero, suc, ◌+◌, ◌<◌, ◌≤◌, ◌⊎◌, inl, inr, Bool, true, false, cond, List, [], ◌∷◌, ◌++◌, Option, Some, None, refl, sym, ◌∙◌, subst, arith, add-one}
-use Rattle.spdx_catalogue.specs.RowRules.{RowRule, first_broken, all_below}
+use Rattle.spdx_catalogue.specs.RowRules.{RowRule}
+use Rattle.spdx_catalogue.specs.RowChecks.{first_broken, all_below}
 use Rattle.spdx_catalogue.specs.declared.error.CatalogueError.{CatalogueError}
 
 pub first_some : (xs ys : List RowRule) (e : CatalogueError) → first_broken xs ≡ Some e → first_broken (xs ++ ys) ≡ Some e

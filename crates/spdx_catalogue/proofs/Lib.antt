@@ -1,4 +1,7 @@
 pub mod First
+pub mod Table
+pub mod Spellings
+pub mod Faulted
 pub mod Plus
 pub mod Sorted
 pub mod Mapped

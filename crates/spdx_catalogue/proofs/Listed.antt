@@ -16,7 +16,8 @@ use Rattle.spdx_requirement.specs.Flags.{is_gnu}
 use Rattle.spdx_requirement.specs.Rows.{Rows, LicenseRow, ExceptionRow, ImpreciseRow, license_name, exception_name, imprecise_of}
 use Rattle.spdx_requirement.specs.declared.row.ImpreciseName.{ImpreciseName}
 use Rattle.std.specs.Option.{option_copied}
-use Rattle.spdx_catalogue.specs.LookUps.{listed, listed_exception, listed_caseless, listed_exception_caseless, imprecise_row, imprecise_license, gnu_listed}
+use Rattle.spdx_catalogue.specs.LookUps.{listed, listed_exception, listed_caseless, listed_exception_caseless, imprecise_license, gnu_listed}
+use Rattle.spdx_catalogue.proofs.Spellings.{imprecise_row}
 use Rattle.spdx_catalogue.specs.RowRules.{is_well_formed}
 use Rattle.spdx_catalogue.specs.Ascent.{Ascends}
 use Rattle.spdx_catalogue.proofs.Sorted.{finds}

@@ -2,7 +2,7 @@
 use Rattle.std.specs.Prelude.{List, Option, Some, map, string_bytes, IsTrue, IfSome}
 use Rattle.spdx_catalogue.specs.declared.catalogue.Catalogue.TheInside.{Inside}
 use Rattle.spdx_catalogue.specs.declared.index.Index.{Index}
-use Rattle.spdx_requirement.specs.Rows.{Rows, row_of, exception_of, imprecise_of, license_name, exception_name}
+use Rattle.spdx_requirement.specs.Rows.{Rows, row_of, exception_of, imprecise_of}
 use Rattle.spdx_requirement.specs.declared.row.License.{License}
 use Rattle.spdx_requirement.specs.declared.row.Exception.{Exception}
 use Rattle.spdx_requirement.specs.declared.row.ImpreciseName.{ImpreciseName}
@@ -21,6 +21,6 @@ IsIndexed keyed rows index = IfSome index (λ (i : Index). IsIndexOf keyed rows 
 -- no row of a catalogue breaks a rule, and its indices are of its rows
 pub record IsWellFormed (a : Inside) : Type 0 where
   pub rules : IsTrue (is_well_formed (rows_shown a))
-  pub licenses : IsIndexed (λ (r : License). Some (license_name (row_of r))) a.licenses.items a.license_index
-  pub exceptions : IsIndexed (λ (r : Exception). Some (exception_name (exception_of r))) a.exceptions.items a.exception_index
+  pub licenses : IsIndexed (λ (r : License). Some (string_bytes r.name)) a.licenses.items a.license_index
+  pub exceptions : IsIndexed (λ (r : Exception). Some (string_bytes r.name)) a.exceptions.items a.exception_index
   pub prefixes : IsIndexed (λ (r : ImpreciseName). whole_front (string_bytes r.prefix)) a.imprecise.items a.prefix_index

@@ -1,6 +1,7 @@
 pub mod Names
 pub mod LookUps
 pub mod RowRules
+pub mod RowChecks
 pub mod Ascent
 pub mod CatalogueModel
 pub mod Faults

@@ -1,5 +1,6 @@
 -- What a licence's name may be, and the names that texts may write for it.
 use Rattle.std.specs.Prelude.{ℕ, Bool, true, false, not, ◌||◌, ◌&&◌, ◌==◌, List, [], ◌∷◌, length, take, Option, Some, None, if◌then◌else◌, codes, bytes_eq}
+use Rattle.std.specs.Option.{option_map_or}
 use Rattle.std.specs.List.{list_all}
 use Rattle.std.specs.Char.{is_ascii_alphanumeric}
 use Rattle.std.specs.Str.{str_eq_ignore_ascii_case}
@@ -19,23 +20,14 @@ is_name name = not (length name == 0) && list_all is_name_byte name
 abbrev pub is_operator : List ℕ → Bool
 is_operator name = bytes_eq name (codes "AND") || (bytes_eq name (codes "and") || (bytes_eq name (codes "OR") || (bytes_eq name (codes "or") || (bytes_eq name (codes "WITH") || bytes_eq name (codes "with")))))
 
--- less by bytes
-abbrev pub is_below : List ℕ → List ℕ → Bool
-is_below a b = is_lt (slice_cmp nat_cmp a b)
-
--- greater than the name before, if there is one
+-- greater by bytes than the name before, if there is one
 abbrev pub is_above : Option (List ℕ) → List ℕ → Bool
 is_above None name = true
-is_above (Some before) name = is_below before name
-
--- what is left has one of them, if anything is left
-abbrev pub still_has_suffix : Option (List ℕ) → Bool
-still_has_suffix None = false
-still_has_suffix (Some front) = has_suffix front
+is_above (Some before) name = is_lt (slice_cmp nat_cmp before name)
 
 -- it has an ending, and so has what stands before that
 abbrev pub has_two_suffixes : List ℕ → Bool
-has_two_suffixes name = still_has_suffix (without only name) || still_has_suffix (without or_later name)
+has_two_suffixes name = option_map_or has_suffix (without only name) false || option_map_or has_suffix (without or_later name) false
 
 abbrev pub is_plus : ℕ → Bool
 is_plus b = b == 43

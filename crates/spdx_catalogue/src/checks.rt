@@ -1,10 +1,12 @@
 // The rules of the rows.
 
-ghost use Rattle.std.specs.Prelude.{◌≡◌, ◌+◌, ◌<◌, ◌≤◌, option_map, length, map, slice_get};
+ghost use Rattle.std.specs.Prelude.{◌≡◌, ◌+◌, ◌<◌, ◌≤◌, option_map, is_some, length, map, slice_get};
+ghost use Rattle.spdx_catalogue.specs.LookUps.{listed};
 ghost use Rattle.spdx_catalogue.specs.Ascent.{Ascends};
 ghost use Rattle.std.specs.Option.{option_copied};
 ghost use Rattle.spdx_requirement.specs.Rows.{row_of, exception_of, imprecise_of, license_name};
-ghost use Rattle.spdx_catalogue.specs.RowRules.{first_broken, imprecise_row_rules, rules_at, imprecise_rules, all_below, is_listed, before, first_fault};
+ghost use Rattle.spdx_catalogue.specs.RowRules.{imprecise_row_rules, first_fault};
+ghost use Rattle.spdx_catalogue.specs.RowChecks.{first_broken, rules_at, imprecise_rules, all_below, before};
 
 use crate::error::CatalogueError;
 use crate::halving::{named, row_at};
@@ -44,7 +46,7 @@ fn rows_fault<R: Row>(rows: &[R]) -> Option<CatalogueError>
 
 fn is_listed(rows: &[License], name: &str) -> bool
     requires { Ascends license_name (map row_of rows.now) }
-    ensures { result ≡ is_listed (map row_of rows.now) name.now }
+    ensures { result ≡ is_some (listed (map row_of rows.now) name.now) }
 {
     named(rows, name.as_bytes()).is_some()
 }

@@ -1,9 +1,8 @@
 // Rows by name: those whose names ascend are searched by halving.
 
-ghost use Rattle.std.specs.Prelude.{◌≡◌, ◌++◌, ◌<◌, option_map, slice_get, map};
+ghost use Rattle.std.specs.Prelude.{◌≡◌, ◌++◌, ◌<◌, option_map, slice_get, map, find, bytes_eq};
 ghost use Rattle.std.specs.Option.{option_copied};
 ghost use Rattle.spdx_catalogue.specs.Ascent.{Ascends};
-ghost use Rattle.spdx_catalogue.specs.LookUps.{named};
 
 use crate::names::compare_joined;
 use crate::row::Row;
@@ -18,7 +17,7 @@ pub(crate) fn row_at<R: Row>(rows: &[R], at: usize) -> Option<&R>
 pub(crate) fn named<'c, R: Row>(rows: &'c [R], name: &[u8]) -> Option<&'c R>
     requires { Ascends R.name_of (map R.shown rows.now) }
     ensures { option_map R.shown (option_copied result)
-        ≡ named R.name_of (map R.shown rows.now) name.now }
+        ≡ find (λ r. bytes_eq (R.name_of r) name.now) (map R.shown rows.now) }
 {
     match rows.binary_search_by(|row| row.name().as_bytes().cmp(name)) {
         Ok(place) => row_at(rows, place),
@@ -30,7 +29,7 @@ pub(crate) fn named<'c, R: Row>(rows: &'c [R], name: &[u8]) -> Option<&'c R>
 pub(crate) fn joined<'c, R: Row>(rows: &'c [R], front: &[u8], ending: &[u8]) -> Option<&'c R>
     requires { Ascends R.name_of (map R.shown rows.now) }
     ensures { option_map R.shown (option_copied result)
-        ≡ named R.name_of (map R.shown rows.now) (front.now ++ ending.now) }
+        ≡ find (λ r. bytes_eq (R.name_of r) (front.now ++ ending.now)) (map R.shown rows.now) }
 {
     match rows.binary_search_by(|row| compare_joined(row.name().as_bytes(), front, ending)) {
         Ok(at) => row_at(rows, at),

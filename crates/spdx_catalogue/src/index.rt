@@ -1,12 +1,12 @@
 // Rows by a key of their names: only those with the key of what is looked for are compared with it.
 
-ghost use Rattle.std.specs.Prelude.{◌≡◌, ℕ, slice_index, ◌<◌, ◌≤◌, ◌^◌, List, Option, Some, true, IfSome, find, length};
+ghost use Rattle.std.specs.Prelude.{◌≡◌, ℕ, slice_index, ◌<◌, ◌≤◌, ◌^◌, List, Option, Some, true, IfSome, find, length, string_bytes};
 ghost use Rattle.std.specs.Option.{option_copied};
 ghost use Rattle.std.specs.List.Sorted.{IsNonDecreasing};
 ghost use Rattle.std.specs.Bool.{OnTrue};
 ghost use Rattle.spdx_catalogue.specs.Index as spec;
 ghost use Rattle.spdx_catalogue.specs.CatalogueModel.{IsIndexed};
-ghost use Rattle.spdx_requirement.specs.Rows.{row_of, exception_of, imprecise_of, license_name, exception_name};
+ghost use Rattle.spdx_requirement.specs.Rows.{imprecise_of};
 
 use crate::names::begins_caseless;
 use spdx_requirement::row::{Exception, ImpreciseName, License};
@@ -42,9 +42,9 @@ pub(crate) trait Keyed {
 }
 
 impl Keyed for License {
-    ghost text_of = { λ r. license_name (row_of r) };
+    ghost text_of = { λ r. string_bytes r.name };
 
-    ghost keyed_of = { λ r. Some (license_name (row_of r)) };
+    ghost keyed_of = { λ r. Some (string_bytes r.name) };
 
     fn text(&self) -> &str {
         self.name.as_str()
@@ -56,9 +56,9 @@ impl Keyed for License {
 }
 
 impl Keyed for Exception {
-    ghost text_of = { λ r. exception_name (exception_of r) };
+    ghost text_of = { λ r. string_bytes r.name };
 
-    ghost keyed_of = { λ r. Some (exception_name (exception_of r)) };
+    ghost keyed_of = { λ r. Some (string_bytes r.name) };
 
     fn text(&self) -> &str {
         self.name.as_str()

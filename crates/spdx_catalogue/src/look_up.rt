@@ -1,11 +1,11 @@
 // The look-ups, none of which takes memory or copies a name.
 
-ghost use Rattle.std.specs.Prelude.{◌≡◌, ◌<◌, ◌++◌, IsTrue, IfSome, IsCharBoundary, option_map, map, length, string_bytes};
+ghost use Rattle.std.specs.Prelude.{◌≡◌, ◌<◌, ◌++◌, IsTrue, IfSome, IsCharBoundary, option_map, map, find, length, string_bytes};
 ghost use Rattle.std.specs.Option.{option_copied};
 ghost use Rattle.spdx_requirement.specs.Rows.{row_of, exception_of, imprecise_of};
 ghost use Rattle.spdx_requirement.specs.Ids.{id_row, exception_row};
-ghost use Rattle.spdx_catalogue.specs.Names.{without_plus};
-ghost use Rattle.spdx_catalogue.specs.LookUps.{listed, listed_exception, listed_caseless, listed_exception_caseless, imprecise_row, imprecise_license, gnu_listed};
+ghost use Rattle.spdx_catalogue.specs.Names.{without_plus, begins_caseless};
+ghost use Rattle.spdx_catalogue.specs.LookUps.{listed, listed_exception, listed_caseless, listed_exception_caseless, imprecise_license, gnu_listed};
 
 use crate::catalogue::Catalogue;
 use crate::halving::joined;
@@ -52,7 +52,7 @@ impl Catalogue {
 
     fn imprecise_name(&self, text: &str) -> Option<&ImpreciseName>
         ensures value { option_map imprecise_of (option_copied result)
-            ≡ imprecise_row self.now.imprecise text.now }
+            ≡ find (λ m. begins_caseless m.prefix text.now) self.now.imprecise }
         ensures taken { IfSome result (λ m. 0 < length (string_bytes m.now.prefix)) }
     {
         first(&self.imprecise, &self.prefix_index, Sought::Front(text))

@@ -1,10 +1,11 @@
 // What a licence's name may be, and the names that texts may write for it.
 
-ghost use Rattle.std.specs.Prelude.{◌≡◌, ◌++◌, ◌<◌, ◌≤◌};
-ghost use Rattle.std.specs.Option.{option_copied};
+ghost use Rattle.std.specs.Prelude.{◌≡◌, ◌++◌, ◌<◌, ◌≤◌, false};
+ghost use Rattle.std.specs.Option.{option_copied, option_map_or};
 ghost use Rattle.std.specs.List.{list_all};
 ghost use Rattle.std.specs.Ordering.{nat_cmp};
 ghost use Rattle.std.specs.Cmp.Lexicographic.{slice_cmp};
+ghost use Rattle.spdx_requirement.specs.Endings.{has_suffix};
 ghost use Rattle.spdx_catalogue.specs.Names as spec;
 
 use spdx_requirement::endings::{has_suffix, without};
@@ -50,7 +51,7 @@ pub(crate) fn is_above(before: Option<&str>, name: &str) -> bool
 }
 
 fn still_has_suffix(front: Option<&[u8]>) -> bool
-    ensures { result ≡ spec.still_has_suffix (option_copied front.entry) }
+    ensures { result ≡ option_map_or has_suffix (option_copied front.entry) false }
 {
     match front {
         None => false,

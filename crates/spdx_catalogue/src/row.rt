@@ -3,7 +3,8 @@
 ghost use Rattle.std.specs.Prelude.{◌≡◌, ℕ, List, Option};
 ghost use Rattle.std.specs.Option.{option_copied};
 ghost use Rattle.spdx_requirement.specs.Rows.{LicenseRow, ExceptionRow, row_of, exception_of, license_name, exception_name};
-ghost use Rattle.spdx_catalogue.specs.RowRules.{RowRule, first_broken, name_rules, license_row_rules, exception_row_rules};
+ghost use Rattle.spdx_catalogue.specs.RowRules.{RowRule, name_rules, license_row_rules, exception_row_rules};
+ghost use Rattle.spdx_catalogue.specs.RowChecks.{first_broken};
 
 use crate::error::{CatalogueError, List};
 use crate::names::{has_two_suffixes, is_above, is_name, is_operator};

@@ -8,8 +8,9 @@ use Rattle.spdx_catalogue.proofs.Listed.{imprecise_is_license}
 use Rattle.spdx_lexer.specs.declared.token.ParseMode.{ParseMode}
 use Rattle.spdx_lexer.specs.Words.{Word, Spdx, Exception, LicenseRef, AdditionRef, Unknown}
 use Rattle.spdx_lexer.specs.Text.{run_at}
-use Rattle.spdx_lexer.specs.Lexeme.{Found, first_of, if_allowed, sign_of, sign, whole, operator, name_behind, names_behind, reference, document_reference, rules, lexeme_of, lexeme}
-use Rattle.spdx_lexer.specs.Groups.{license_reference, addition_reference, exact, referred, caseless, by_run, unknown, imprecise, grouped}
+use Rattle.spdx_lexer.specs.Lexeme.{first_of, sign, whole, operator, name_behind, names_behind, reference, document_reference, rules, lexeme_of, lexeme}
+use Rattle.spdx_lexer.specs.Groups.{Found, license_reference, addition_reference, exact, referred, caseless, by_run, unknown, imprecise, grouped}
+use Rattle.spdx_lexer.proofs.Allowed.{if_allowed, sign_of}
 use Rattle.spdx_lexer.proofs.Table.{rules_grouped}
 
 abbrev pub AllFound : (Word × ℕ → Type 0) → List Found → Type 0

@@ -8,14 +8,15 @@ use Rattle.std.proofs.lemmas.Str.{IsUtf8-drop, IsCharBoundary-from_rest, IsCharB
 use Rattle.spdx_catalogue.specs.Names.{begins_caseless}
 use Rattle.spdx_requirement.specs.Rows.{Rows, LicenseRow, ImpreciseRow, HasTextPrefixes}
 use Rattle.spdx_catalogue.specs.RowRules.{is_well_formed}
-use Rattle.spdx_catalogue.specs.LookUps.{listed, imprecise_row}
+use Rattle.spdx_catalogue.specs.LookUps.{listed}
+use Rattle.spdx_catalogue.proofs.Spellings.{imprecise_row}
 use Rattle.spdx_catalogue.proofs.Caseless.{find_passes, caseless_cut}
 use Rattle.spdx_catalogue.proofs.Listed.{find_place, listed_is_license, listed_name}
 use Rattle.spdx_lexer.specs.declared.token.ParseMode.{ParseMode}
 use Rattle.spdx_lexer.specs.Words.{Word, Spdx, Plus, OpenParen, CloseParen, Or, Fault, SeparatedPlus, UnknownTerm, Span, span, Item}
 use Rattle.spdx_lexer.specs.Text.{white, run_at, is_run_byte}
-use Rattle.spdx_lexer.specs.Lexeme.{Found, sign, rules, lexeme_of, lexeme}
-use Rattle.spdx_lexer.specs.Groups.{by_run, imprecise, unknown}
+use Rattle.spdx_lexer.specs.Lexeme.{sign, rules, lexeme_of, lexeme}
+use Rattle.spdx_lexer.specs.Groups.{Found, by_run, imprecise, unknown}
 use Rattle.spdx_lexer.specs.Reading.{reading}
 use Rattle.spdx_lexer.specs.Layout.{IsSpelt, IsWhite, between, IsPlace, IsGap, IsLexical, AreLaid, ended, stopped, goes_on, place_of}
 use Rattle.spdx_lexer.proofs.Unfold.{then, behind, reading_is}

@@ -1,6 +1,7 @@
 pub mod Printed
 pub mod Front
 pub mod White
+pub mod Allowed
 pub mod Table
 pub mod Found
 pub mod Unfold

@@ -14,8 +14,10 @@ use Rattle.spdx_catalogue.proofs.Listed.{listed_is_license, listed_name, caseles
 use Rattle.spdx_lexer.specs.declared.token.ParseMode.{ParseMode}
 use Rattle.spdx_lexer.specs.Words.{Word, Spdx, LicenseRef, Exception, AdditionRef, Unknown, With, And, Or}
 use Rattle.spdx_lexer.specs.Text.{name_at, strip}
-use Rattle.spdx_lexer.specs.Lexeme.{Found, if_allowed, whole, operator, reference_run, name_behind, names_behind, reference, document_reference}
-use Rattle.spdx_lexer.specs.Groups.{license_reference, addition_reference, exact, referred, caseless, by_run, unknown}
+use Rattle.spdx_lexer.specs.Lexeme.{whole, operator, name_behind, names_behind, reference, document_reference}
+use Rattle.spdx_lexer.specs.Groups.{Found, license_reference, addition_reference, exact, referred, caseless, by_run, unknown}
+use Rattle.spdx_lexer.proofs.Allowed.{if_allowed}
+use Rattle.spdx_requirement.specs.Texts.{reference_text}
 use Rattle.spdx_lexer.specs.Layout.{IsSpelt, IsReference}
 use Rattle.spdx_lexer.proofs.Front.{front_passes}
 use Rattle.spdx_lexer.proofs.Found.{first_all}
@@ -44,7 +46,7 @@ cut_at p bs = sym (ap (λ n. take_while p bs ++ drop n bs) (length-prefix_len p 
 
 -- the run begins with the text of the reference
 abbrev Begins : List ℕ → Option (List ℕ) → List ℕ → List ℕ → Type 0
-Begins prefix d y run = ((more : List ℕ) × (run ≡ reference_run prefix d y ++ more)) × ((list_all is_name_byte y ≡ true) × IfSome d (λ (x : List ℕ). list_all is_name_byte x ≡ true))
+Begins prefix d y run = ((more : List ℕ) × (run ≡ reference_text prefix d y ++ more)) × ((list_all is_name_byte y ≡ true) × IfSome d (λ (x : List ℕ). list_all is_name_byte x ≡ true))
 
 name_begins : (prefix run y : List ℕ) → name_behind prefix run ≡ Some y → (more : List ℕ) × ((run ≡ prefix ++ (y ++ more)) × (list_all is_name_byte y ≡ true))
 name_begins prefix run y e = pick (strip prefix run) refl e
@@ -75,7 +77,7 @@ names_begin prefix run x y e = first (strip (codes "DocumentRef-") run) refl e
         let more = behind.0 in
         let whole_run : run ≡ codes "DocumentRef-" ++ (x ++ (codes ":" ++ (prefix ++ (y ++ more)))) =
         s ∙ ap (λ (xs : List ℕ). codes "DocumentRef-" ++ xs) (cut_at is_name_byte rest ∙ ap (λ (xs : List ℕ). name_at rest ++ xs) (t ∙ ap (λ (xs : List ℕ). codes ":" ++ xs) behind.1.0) ∙ ap (λ (xs : List ℕ). xs ++ (codes ":" ++ (prefix ++ (y ++ more)))) one) in
-        let joined : reference_run prefix (Some x) y ++ more ≡ codes "DocumentRef-" ++ (x ++ (codes ":" ++ (prefix ++ (y ++ more)))) =
+        let joined : reference_text prefix (Some x) y ++ more ≡ codes "DocumentRef-" ++ (x ++ (codes ":" ++ (prefix ++ (y ++ more)))) =
         append_assoc (codes "DocumentRef-") (x ++ (codes ":" ++ (prefix ++ y))) more
         ∙ ap (λ (xs : List ℕ). codes "DocumentRef-" ++ xs) (append_assoc x (codes ":" ++ (prefix ++ y)) more
         ∙ ap (λ (xs : List ℕ). x ++ xs) (append_assoc (codes ":") (prefix ++ y) more ∙ ap (λ (xs : List ℕ). codes ":" ++ xs) (append_assoc prefix y more))) in
@@ -102,13 +104,13 @@ module _ (c : Rows) (well : is_well_formed c ≡ true) (m : ParseMode) where
   whole_stands run g (Some x) h = (omega arith, subst (IsSpelt c m (g x)) (sym (take-length run)) (h x refl))
 
   -- a reference at its front
-  begun : (prefix run : List ℕ) (d : Option (List ℕ)) (y : List ℕ) → Begins prefix d y run → (length (reference_run prefix d y) ≤ length run) × IsReference prefix d y (take (length (reference_run prefix d y)) run)
-  begun prefix run d y b = let front = front_of run (reference_run prefix d y) b.0.0 b.0.1 in (front.0, (front.1, b.1))
+  begun : (prefix run : List ℕ) (d : Option (List ℕ)) (y : List ℕ) → Begins prefix d y run → (length (reference_text prefix d y) ≤ length run) × IsReference prefix d y (take (length (reference_text prefix d y)) run)
+  begun prefix run d y b = let front = front_of run (reference_text prefix d y) b.0.0 b.0.1 in (front.0, (front.1, b.1))
 
   reference_stands : (prefix run : List ℕ) (word : Option (List ℕ) → List ℕ → Word) → ((d : Option (List ℕ)) (y text : List ℕ) → IsReference prefix d y text → IsSpelt c m (word d y) text) → IfSome (reference prefix word run) (Stands run)
   reference_stands prefix run word h = pick (name_behind prefix run) refl
     where
-      pick : (o : Option (List ℕ)) → name_behind prefix run ≡ o → IfSome (option_map {U = Word × ℕ} (λ y. (word None y, length (reference_run prefix None y))) o) (Stands run)
+      pick : (o : Option (List ℕ)) → name_behind prefix run ≡ o → IfSome (option_map {U = Word × ℕ} (λ y. (word None y, length (reference_text prefix None y))) o) (Stands run)
       pick None e = tt
       pick (Some y) e =
           let n = name_begins prefix run y e in
@@ -118,7 +120,7 @@ module _ (c : Rows) (well : is_well_formed c ≡ true) (m : ParseMode) where
   document_stands : (prefix run : List ℕ) (word : Option (List ℕ) → List ℕ → Word) → ((d : Option (List ℕ)) (y text : List ℕ) → IsReference prefix d y text → IsSpelt c m (word d y) text) → IfSome (document_reference prefix word run) (Stands run)
   document_stands prefix run word h = pick (names_behind prefix run) refl
     where
-      pick : (o : Option (List ℕ × List ℕ)) → names_behind prefix run ≡ o → IfSome (option_map {U = Word × ℕ} (λ (n : List ℕ × List ℕ). (word (Some n.0) n.1, length (reference_run prefix (Some n.0) n.1))) o) (Stands run)
+      pick : (o : Option (List ℕ × List ℕ)) → names_behind prefix run ≡ o → IfSome (option_map {U = Word × ℕ} (λ (n : List ℕ × List ℕ). (word (Some n.0) n.1, length (reference_text prefix (Some n.0) n.1))) o) (Stands run)
       pick None e = tt
       pick (Some n) e = let b = begun prefix run (Some n.0) n.1 (names_begin prefix run n.0 n.1 e) in (b.0, h (Some n.0) n.1 _ b.1)
 

@@ -6,8 +6,9 @@ use Rattle.spdx_catalogue.specs.LookUps.{listed, listed_exception, listed_casele
 use Rattle.spdx_lexer.specs.declared.token.ParseMode.{ParseMode}
 use Rattle.spdx_lexer.specs.Words.{Spdx, Exception, LicenseRef, AdditionRef}
 use Rattle.spdx_lexer.specs.Text.{run_at}
-use Rattle.spdx_lexer.specs.Lexeme.{Found, first_of, if_allowed, sign, whole, operator, reference, document_reference, rules, lexeme_of, lexeme}
-use Rattle.spdx_lexer.specs.Groups.{imprecise, unknown, grouped, grouped_lexeme}
+use Rattle.spdx_lexer.specs.Lexeme.{first_of, sign, whole, operator, reference, document_reference, rules, lexeme_of, lexeme}
+use Rattle.spdx_lexer.specs.Groups.{Found, imprecise, unknown, grouped, grouped_lexeme}
+use Rattle.spdx_lexer.proofs.Allowed.{if_allowed}
 
 in_groups : (e1 e2 e3 d1 r1 d2 r2 : Found) (b : Bool) (k1 k2 i u : Found)
     → first_of (e1 ∷ e2 ∷ e3 ∷ d1 ∷ r1 ∷ d2 ∷ r2 ∷ if_allowed b k1 ∷ if_allowed b k2 ∷ i ∷ u ∷ [])

@@ -7,7 +7,7 @@ use Rattle.spdx_requirement.specs.Rows.{Rows, LicenseRow, ImpreciseRow}
 use Rattle.spdx_catalogue.specs.Names.{is_name_byte}
 use Rattle.spdx_lexer.specs.declared.token.ParseMode.{ParseMode}
 use Rattle.spdx_lexer.specs.Words.{Word, Spdx, LicenseRef, Exception, AdditionRef, Unknown, Plus, OpenParen, CloseParen, With, And, Or, Fault, InvalidCharacters, SeparatedPlus, UnknownTerm, Span, Item}
-use Rattle.spdx_lexer.specs.Lexeme.{reference_run}
+use Rattle.spdx_requirement.specs.Texts.{reference_text}
 
 -- ---- the bytes that a word stands for
 
@@ -23,7 +23,7 @@ IsImprecise c m r text =
 
 -- the prefixes and the parts, which are of a name's bytes
 abbrev pub IsReference : List ℕ → Option (List ℕ) → List ℕ → List ℕ → Type 0
-IsReference prefix d y text = (text ≡ reference_run prefix d y) × ((list_all is_name_byte y ≡ true) × IfSome d (λ (x : List ℕ). list_all is_name_byte x ≡ true))
+IsReference prefix d y text = (text ≡ reference_text prefix d y) × ((list_all is_name_byte y ≡ true) × IfSome d (λ (x : List ℕ). list_all is_name_byte x ≡ true))
 
 -- an id names the row of the catalogue that stands at its index
 abbrev pub IsSpelt : Rows → ParseMode → Word → List ℕ → Type 0

@@ -1,3 +1,4 @@
+pub mod Marks
 pub mod Digits
 pub mod Padding
 pub mod Pieces

@@ -3,7 +3,8 @@ use Rattle.std.proofs.Common.{◌≡◌, ℕ, zero, suc, ◌≤◌, List, [], �
 use Rattle.std.specs.Ordering.{nat_cmp, ordering_then, is_lt}
 use Rattle.std.specs.declared.cmp.Ordering.{Ordering}
 use Rattle.std.specs.Cmp.Lexicographic.{slice_cmp}
-use Rattle.spdx_licensee.specs.Version.{padded, is_less}
+use Rattle.spdx_licensee.specs.Version.{padded}
+use Rattle.spdx_licensee.proofs.Marks.{is_less}
 
 -- two lists, where a missing number is 0
 abbrev pub extended_cmp : List ℕ → List ℕ → Ordering

@@ -11,7 +11,8 @@ use Rattle.std.specs.Char.{is_ascii_digit}
 use Rattle.std.specs.List.{list_all, slice_split, before_first, after_first, position, position_or_len}
 use Rattle.std.specs.Str.Parse.{digits_value}
 use Rattle.std.specs.Ordering.{nat_cmp, ordering_then, is_lt}
-use Rattle.spdx_requirement.specs.Versions.{is_dot, is_version_byte, is_version, version, parts}
+use Rattle.spdx_requirement.specs.Versions.{is_version, version, parts}
+use Rattle.spdx_licensee.proofs.Marks.{is_dot, is_version_byte}
 use Rattle.spdx_licensee.specs.Version.{numbers, older}
 use Rattle.spdx_licensee.proofs.Digits.{first_passes, rest_passes, both_pass}
 use Rattle.spdx_licensee.proofs.Padding.{extended_cmp, is_less_extended, zero_left, zero_right}

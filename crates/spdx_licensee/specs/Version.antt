@@ -4,7 +4,6 @@ use Rattle.std.specs.List.{slice_split}
 use Rattle.std.specs.Str.Parse.{digits_value}
 use Rattle.std.specs.Ordering.{nat_cmp, is_lt}
 use Rattle.std.specs.Cmp.Lexicographic.{pointwise, slice_cmp}
-use Rattle.spdx_requirement.specs.Versions.{is_dot}
 
 -- the same parts in the same order
 abbrev pub same_parts : List (List ℕ) → List (List ℕ) → Bool
@@ -12,7 +11,7 @@ same_parts a b = pointwise bytes_eq a b
 
 -- the whole numbers between a version's dots, an empty piece being 0
 abbrev pub numbers : List ℕ → List ℕ
-numbers version = map (digits_value 10) (slice_split is_dot version)
+numbers version = map (digits_value 10) (slice_split (λ b. b == 46) version)
 
 -- the list with zeros behind it, up to a length
 abbrev pub padded : ℕ → List ℕ → List ℕ
@@ -20,13 +19,10 @@ padded zero xs = xs
 padded (suc len) [] = 0 ∷ padded len []
 padded (suc len) (x ∷ xs) = x ∷ padded len xs
 
--- with both lists padded by zeros to one length, the first is less at the first place where they differ
-abbrev pub is_less : List ℕ → List ℕ → Bool
-is_less xs ys = let len = max (length xs) (length ys) in is_lt (slice_cmp nat_cmp (padded len xs) (padded len ys))
-
--- one version comes before the other
+-- One version comes before the other: with the numbers of both padded by zeros to one length, it has the lesser at the first
+-- place where they differ.
 abbrev pub older : List ℕ → List ℕ → Bool
-older a b = is_less (numbers a) (numbers b)
+older a b = let len = max (length (numbers a)) (length (numbers b)) in is_lt (slice_cmp nat_cmp (padded len (numbers a)) (padded len (numbers b)))
 
 -- the digits begin with a zero
 abbrev pub leads_with_zero : List ℕ → Bool

@@ -21,8 +21,8 @@ fn first_place(text: &[u8], sought: u8) -> Option<usize>
 
 // What stands before the first dot, and what stands behind it.
 fn split_at_dot(version: &[u8]) -> (&[u8], &[u8])
-    ensures front { result.0.now ≡ before_first parted.is_dot version.now }
-    ensures rest { result.1.now ≡ after_first parted.is_dot version.now }
+    ensures front { result.0.now ≡ before_first (λ b. b == 46) version.now }
+    ensures rest { result.1.now ≡ after_first (λ b. b == 46) version.now }
 {
     match first_place(version, b'.') {
         Some(dot) => (&version[..dot], &version[dot + 1..]),

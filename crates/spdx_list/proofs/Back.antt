@@ -10,7 +10,8 @@ use Rattle.spdx_requirement.specs.Rows.{Rows, LicenseRow, ExceptionRow, Imprecis
 use Rattle.spdx_tables.specs.Shape.{license_row, exception_row, imprecise_row, rows_from, tables}
 use Rattle.spdx_tables.specs.TableReading.{tables_in}
 use Rattle.spdx_catalogue.specs.RowRules.{first_fault}
-use Rattle.spdx_catalogue.specs.Reading.{unless_fault, checked, catalogue_in}
+use Rattle.spdx_catalogue.specs.Reading.{checked, catalogue_in}
+use Rattle.spdx_catalogue.proofs.Faulted.{unless_fault}
 use Rattle.spdx_list.specs.Made.{license_at, exception_at, numbered, renumbered, IsInOrder}
 use Rattle.spdx_list.specs.Written.{license_data, exception_data, imprecise_data, tables_data, license_fits, exception_fits, imprecise_fits, Fit}
 

@@ -14,7 +14,8 @@ use Rattle.sufficiency.specs.Selection.{IsLeast, NoneSuffices}
 use Rattle.spdx_requirement.specs.Equality.{same_requirement}
 use Rattle.spdx_evaluation.specs.Truth.{joined, truth_of}
 use Rattle.spdx_evaluation.specs.Requirements.{requirements_in}
-use Rattle.spdx_minimize.specs.Choice.{first_ones, suffices_for, chosen_of, chosen, unmet, choice_among, choice_by, too_many, least_of}
+use Rattle.spdx_minimize.specs.Choice.{first_ones, suffices_for, chosen_of, chosen, unmet, choice_among, too_many, least_of}
+use Rattle.spdx_minimize.proofs.Chooses.{choice_by}
 use Rattle.spdx_evaluation.proofs.Nodes.{requirement_at, requirements_of_tree}
 use Rattle.spdx_minimize.proofs.Selections.{IsLeast-least_of, none_found}
 

@@ -6,7 +6,8 @@ use Rattle.std.proofs.lemmas.List.Folds.{Any-from_list_any, list_any_at}
 use Rattle.spdx_requirement.specs.Items.{Requirement}
 use Rattle.spdx_licensee.specs.Satisfies.{satisfies}
 use Rattle.spdx_parser.specs.Tree.{Tree, leaves}
-use Rattle.spdx_minimize.specs.Choice.{too_many, first_ones, satisfies_some, useful, any_chosen, suffices_for, choice_among, choice_by, least_of, choice_of}
+use Rattle.spdx_minimize.specs.Choice.{too_many, first_ones, satisfies_some, useful, any_chosen, suffices_for, choice_among, least_of, choice_of}
+use Rattle.spdx_minimize.proofs.Chooses.{choice_by}
 use Rattle.spdx_evaluation.specs.Truth.{holds}
 use Rattle.spdx_minimize.specs.Doubles.{SameMembers}
 

@@ -1,3 +1,4 @@
+pub mod Chooses
 pub mod Selections
 pub mod Asking
 pub mod Places

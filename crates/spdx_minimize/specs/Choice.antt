@@ -1,5 +1,6 @@
 -- The least choice of licensees that makes expressions true.
-use Rattle.std.specs.Prelude.{◌≡◌, ℕ, zero, suc, Bool, true, false, ◌&&◌, ◌||◌, cond, List, [], ◌∷◌, ◌++◌, Option, Some, None, length, nat_lt}
+use Rattle.std.specs.Prelude.{◌≡◌, ℕ, zero, suc, Bool, true, false, ◌&&◌, ◌||◌, cond, List, [], ◌∷◌, ◌++◌, Option, length, nat_lt}
+use Rattle.std.specs.Option.{option_map_or}
 use Rattle.std.specs.List.{filter, find, list_all, list_any}
 use Rattle.spdx_requirement.specs.Items.{Requirement}
 use Rattle.spdx_parser.specs.Tree.{Tree, leaves}
@@ -57,14 +58,11 @@ pub data Choice : Type 0 where
   too_many : ℕ → Choice
   unmet : Choice
 
-abbrev pub choice_by : List Requirement → Option (List Bool) → Choice
-choice_by members None = unmet
-choice_by members (Some selection) = chosen (chosen_of members selection)
-
--- the choice among the useful licensees
+-- the choice among the useful licensees: that of the first selection that suffices
 abbrev pub choice_among : List Tree → List Requirement → Choice
 choice_among trees members =
-    cond (nat_lt 1024 (length members)) (too_many (length members)) (choice_by members (least_of (suffices_for trees members) (length members)))
+    cond (nat_lt 1024 (length members)) (too_many (length members))
+    (option_map_or (λ selection. chosen (chosen_of members selection)) (find (suffices_for trees members) (selections (length members))) unmet)
 
 abbrev pub choice_of : List Tree → List Requirement → Choice
 choice_of trees licensees = choice_among trees (useful trees licensees)

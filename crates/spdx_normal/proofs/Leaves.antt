@@ -2,14 +2,13 @@
 -- is its own.
 use Rattle.std.proofs.Common.{◌≡◌, ℕ, true, false, cond, List, [], ◌∷◌, ◌++◌, Option, Some, None, refl, sym, ◌∙◌, ap, subst, append_assoc, append-nil}
 use Rattle.std.specs.Prelude.{codes}
+use Rattle.std.specs.Option.{option_map_or}
 use Rattle.spdx_requirement.specs.Rows.{Rows}
 use Rattle.spdx_requirement.specs.Flags.{is_deprecated}
 use Rattle.spdx_requirement.specs.Items.{LicenseTerm, listed, referred, Addition, excepted, added, Requirement}
-use Rattle.spdx_requirement.specs.Texts as texts
-use Rattle.spdx_requirement.specs.Texts.{license_prefix, addition_prefix, license_text, with_text, requirement_text}
+use Rattle.spdx_requirement.specs.Texts.{license_text, addition_text, requirement_text, reference_text}
 use Rattle.spdx_lexer.specs.Modes.{strict}
 use Rattle.spdx_lexer.specs.Words.{Word, Spdx, LicenseRef, Exception, AdditionRef, Plus, With}
-use Rattle.spdx_lexer.specs.Lexeme.{reference_run}
 use Rattle.spdx_parser.specs.Tree.{Tree}
 use Rattle.spdx_parser.proofs.Threaded.{LicenseOf, plain, marked, later, named, unknown, AdditionOf, exception, named_addition, unknown_addition, LeafOf, alone, joined, PrimaryOf, leaf, group, AndOf, one_primary, and_more, OrOf, one_and, or_more}
 use Rattle.spdx_canonical.proofs.Neighbours.{AreRead}
@@ -31,9 +30,8 @@ addition_words (Some (added x)) = With ∷ AdditionRef x.document x.name ∷ []
 abbrev pub requirement_words : Requirement → List Word
 requirement_words r = license_words r.license ++ addition_words r.addition
 
-reference_same : (p : List ℕ) (d : Option (List ℕ)) (y : List ℕ) → reference_run p d y ++ [] ≡ texts.reference_text p (record { document = d; name = y })
-reference_same p None y = append-nil (p ++ y)
-reference_same p (Some x) y = append-nil (reference_run p (Some x) y) ∙ ap (λ (t : List ℕ). codes "DocumentRef-" ++ t) (sym (append_assoc x (codes ":") (p ++ y)))
+abbrev with_text : Option Addition → List ℕ
+with_text a = option_map_or (λ a. codes " WITH " ++ addition_text a) a []
 
 module _ (c : Rows) where
   -- ---- what is known of a requirement that was read
@@ -52,7 +50,7 @@ module _ (c : Rows) where
   license_good (plain {r = r} p) h = (record { read = (h.0, tt); means = λ more. plain p; text = append-nil r.name }, h.1)
   license_good (marked {r = r} p e) h = (record { read = (h.0, (tt, tt)); means = λ more. marked p e; text = ap (λ b. r.name ++ cond b (cond (is_deprecated r.flags) (codes "-or-later") []) (codes "+")) (sym e) }, h.1.1)
   license_good (later p e q s l) h = absurd cc
-  license_good (named {d = d} {n = y}) h = (record { read = (h.0, tt); means = λ more. named; text = reference_same license_prefix d y }, h.1)
+  license_good (named {d = d} {n = y}) h = (record { read = (h.0, tt); means = λ more. named; text = append-nil (reference_text (codes "LicenseRef-") d y) }, h.1)
   license_good unknown h = absurd h.0
 
   none_good : IsGoodAddition None
@@ -60,7 +58,7 @@ module _ (c : Rows) where
 
   addition_good : {ws rest : List Word} {a : Addition} → AdditionOf ws a rest → AreRead c ws → IsGoodAddition (Some a) × AreRead c rest
   addition_good (exception {r = r}) h = (record { read = (tt, (h.0, tt)); means = λ l more f. joined (f (With ∷ Exception r ∷ more)) exception; text = ap (λ (t : List ℕ). codes " WITH " ++ t) (append-nil r.name) }, h.1)
-  addition_good (named_addition {d = d} {n = y}) h = (record { read = (tt, (h.0, tt)); means = λ l more f. joined (f (With ∷ AdditionRef d y ∷ more)) named_addition; text = ap (λ (t : List ℕ). codes " WITH " ++ t) (reference_same addition_prefix d y) }, h.1)
+  addition_good (named_addition {d = d} {n = y}) h = (record { read = (tt, (h.0, tt)); means = λ l more f. joined (f (With ∷ AdditionRef d y ∷ more)) named_addition; text = ap (λ (t : List ℕ). codes " WITH " ++ t) (append-nil (reference_text (codes "AdditionRef-") d y)) }, h.1)
   addition_good unknown_addition h = absurd h.0
 
   -- its words, on which a strict reader and the grammar agree

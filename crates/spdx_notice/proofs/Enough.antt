@@ -12,7 +12,8 @@ use Rattle.spdx_licensee.specs.Satisfies.{satisfies}
 use Rattle.spdx_parser.specs.Tree.{Tree, leaves}
 use Rattle.sufficiency.specs.Selection.{IsWithin, everything}
 use Rattle.spdx_evaluation.specs.Truth.{holds}
-use Rattle.spdx_minimize.specs.Choice.{Choice, chosen, unmet, too_many, choice_by, choice_among, choice_of, chosen_of, any_chosen, suffices_for, satisfies_some, first_ones, useful, selections, without_and_with, least_of}
+use Rattle.spdx_minimize.specs.Choice.{Choice, chosen, unmet, too_many, choice_among, choice_of, chosen_of, any_chosen, suffices_for, satisfies_some, first_ones, useful, selections, without_and_with, least_of}
+use Rattle.spdx_minimize.proofs.Chooses.{choice_by}
 use Rattle.spdx_minimize.specs.GrowthLaws.{truth_grows}
 use Rattle.spdx_notice.specs.Choices.{own_choice, those_in}
 use Rattle.spdx_notice.specs.Refusals.{AreChosen}

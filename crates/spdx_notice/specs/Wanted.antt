@@ -1,12 +1,12 @@
 -- The names of the texts that a requirement wants.
-use Rattle.std.specs.Prelude.{ℕ, List, [], ◌∷◌, Option, Some, None}
+use Rattle.std.specs.Prelude.{ℕ, List, [], ◌∷◌, Option, Some, None, codes}
 use Rattle.spdx_requirement.specs.Items.{LicenseTerm, listed, referred, Addition, Requirement}
-use Rattle.spdx_requirement.specs.Texts.{license_prefix, reference_text, addition_text}
+use Rattle.spdx_requirement.specs.Texts.{reference_text, addition_text}
 
 -- of a listed licence that of its row, whatever its mark; of a reference the one that it is written by
 abbrev pub license_wants : LicenseTerm → List ℕ
 license_wants (listed r mark) = r.name
-license_wants (referred r) = reference_text license_prefix r
+license_wants (referred r) = reference_text (codes "LicenseRef-") r.document r.name
 
 -- of an addition the one that it is written by
 abbrev pub addition_wants : Option Addition → List (List ℕ)

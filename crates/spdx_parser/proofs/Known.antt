@@ -11,7 +11,8 @@ use Rattle.spdx_catalogue.proofs.Listed.{listed_is_license, caseless_is_license,
 use Rattle.spdx_lexer.specs.declared.token.ParseMode.{ParseMode}
 use Rattle.spdx_lexer.specs.Words.{Word, Spdx, LicenseRef, Exception, AdditionRef, Unknown, Plus, OpenParen, CloseParen, With, And, Or, Fault, Item, Placed, words}
 use Rattle.spdx_lexer.specs.Text.{white}
-use Rattle.spdx_lexer.specs.Lexeme.{sign_of, sign, whole, operator, name_behind, names_behind, reference as lexeme_reference, document_reference, lexeme}
+use Rattle.spdx_lexer.specs.Lexeme.{sign, whole, operator, name_behind, names_behind, reference as lexeme_reference, document_reference, lexeme}
+use Rattle.spdx_lexer.proofs.Allowed.{sign_of}
 use Rattle.spdx_lexer.specs.Groups.{license_reference, addition_reference, exact, referred as referred_run, caseless, by_run, unknown, imprecise}
 use Rattle.spdx_lexer.specs.Reading.{go_on, behind, items, reading}
 use Rattle.spdx_lexer.proofs.Found.{first_all, mapped, allowed, lexeme_all}

@@ -1,19 +1,23 @@
 -- The listed licence whose name has `-or-later` in place of `-only`.
 use Rattle.std.proofs.Common.{◌≡◌, ℕ, ◌-◌, Bool, true, false, List, ◌++◌, length, take, Option, Some, None, Bor, refl, sym, ◌∙◌, ap, subst}
 use Rattle.std.specs.Prelude.{unwrap_or, if◌then◌else◌, ◌||◌}
-use Rattle.std.specs.Option.{MatchOption}
+use Rattle.std.specs.Option.{MatchOption, option_map_or}
 use Rattle.std.specs.Str.Pattern.{StripsSuffix, FindsTextSuffix}
 use Rattle.std.proofs.lemmas.Bool.Decides.{Decides-eqb}
 use Rattle.std.proofs.lemmas.Slice.Eq.{ends_is}
 use Rattle.spdx_requirement.specs.Rows.{Rows, LicenseRow}
 use Rattle.spdx_requirement.specs.Flags.{is_gnu}
-use Rattle.spdx_requirement.specs.Endings.{only, or_later, ends_only, ends_or_later, has_suffix, without, without_only, ending}
-use Rattle.spdx_catalogue.specs.Names.{has_two_suffixes, still_has_suffix, without_plus}
+use Rattle.spdx_requirement.specs.Endings.{only, or_later, ends_or_later, has_suffix, without, without_only, ending}
+use Rattle.spdx_requirement.proofs.Suffixes.{ends_only}
+use Rattle.spdx_catalogue.specs.Names.{has_two_suffixes, without_plus}
 use Rattle.spdx_catalogue.specs.LookUps as LookUps
 use Rattle.spdx_catalogue.specs.RowRules.{is_well_formed}
 use Rattle.spdx_catalogue.proofs.Listed.{license_one_suffix}
 use Rattle.spdx_parser.specs.Grammar.{later_row}
 use Rattle.spdx_parser.specs.Code.{IsLicenseRow}
+
+abbrev still_has_suffix : Option (List ℕ) → Bool
+still_has_suffix front = option_map_or has_suffix front false
 
 -- what is left of a name where `-only` is stripped, if it is there
 pub strips : (name : List ℕ) (o : Option (Bor (List ℕ))) (whole : Bor (List ℕ)) → whole.now ≡ name → MatchOption o (FindsTextSuffix only name None) (λ (x : Bor (List ℕ)). StripsSuffix (FindsTextSuffix only) name x.now) → (unwrap_or o whole).now ≡ without_only name

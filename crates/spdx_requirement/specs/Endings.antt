@@ -14,17 +14,13 @@ or_later = codes "-or-later"
 abbrev pub ending : Bool → List ℕ
 ending later = if later then or_later else only
 
--- the name ends in `-only`
-abbrev pub ends_only : List ℕ → Bool
-ends_only name = ends_with nat_eq name only
-
 -- the name ends in `-or-later`
 abbrev pub ends_or_later : List ℕ → Bool
 ends_or_later name = ends_with nat_eq name or_later
 
 -- the name has one of the two endings
 abbrev pub has_suffix : List ℕ → Bool
-has_suffix name = ends_only name || ends_or_later name
+has_suffix name = ends_with nat_eq name only || ends_or_later name
 
 -- what stands before an ending
 abbrev pub without : List ℕ → List ℕ → Option (List ℕ)
@@ -33,7 +29,3 @@ without ending name = if ends_with nat_eq name ending then Some (take (length na
 -- the name, a final `-only` taken off
 abbrev pub without_only : List ℕ → List ℕ
 without_only name = unwrap_or (without only name) name
-
--- the name, the one ending taken off that it may have
-abbrev pub without_suffix : List ℕ → List ℕ
-without_suffix name = unwrap_or (without only name) (unwrap_or (without or_later name) name)

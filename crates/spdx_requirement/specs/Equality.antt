@@ -1,5 +1,5 @@
 -- Equality of requirements: rows are compared by their places in the list, references by their texts.
-use Rattle.std.specs.Prelude.{◌==◌, Bool, false, ◌&&◌, Option, bytes_eq}
+use Rattle.std.specs.Prelude.{◌==◌, Bool, false, ◌&&◌, bytes_eq}
 use Rattle.std.specs.Bool.{beq}
 use Rattle.std.specs.Option.{option_eq}
 use Rattle.spdx_requirement.specs.Items.{Reference, LicenseTerm, listed, referred, Addition, excepted, added, Requirement}
@@ -19,8 +19,5 @@ same_addition (added x) (added y) = same_reference x y
 same_addition (excepted r) (added y) = false
 same_addition (added x) (excepted s) = false
 
-abbrev pub same_additions : Option Addition → Option Addition → Bool
-same_additions a b = option_eq same_addition a b
-
 abbrev pub same_requirement : Requirement → Requirement → Bool
-same_requirement r s = same_license r.license s.license && same_additions r.addition s.addition
+same_requirement r s = same_license r.license s.license && option_eq same_addition r.addition s.addition

@@ -1,7 +1,8 @@
 // Equality of items and requirements, each as one function with its key.
 
 ghost use Rattle.std.specs.Prelude.{◌≡◌, ◌↔◌, IsTrue, option_map};
-ghost use Rattle.spdx_requirement.specs.Equality.{same_additions, same_requirement};
+ghost use Rattle.std.specs.Option.{option_eq};
+ghost use Rattle.spdx_requirement.specs.Equality.{same_addition, same_requirement};
 ghost use Rattle.spdx_requirement.specs.Items.{license_reference_of, addition_reference_of, license_of, addition_of, requirement_of};
 ghost use Rattle.spdx_requirement.specs.Keys.{license_key, addition_key, requirement_key};
 
@@ -40,8 +41,8 @@ pub fn are_same_addition(a: &AdditionItem<'_>, b: &AdditionItem<'_>) -> bool
 
 /// `==` of additions, or of none.
 pub fn are_same_additions(one: &Option<AdditionItem<'_>>, other: &Option<AdditionItem<'_>>) -> bool
-    ensures test { result ≡ same_additions (option_map addition_of one.now)
-        (option_map addition_of other.now) }
+    ensures test { result ≡ option_eq same_addition
+        (option_map addition_of one.now) (option_map addition_of other.now) }
     ensures same { IsTrue result
         ↔ (option_map addition_key (option_map addition_of one.now)
         ≡ option_map addition_key (option_map addition_of other.now)) }

@@ -1,9 +1,9 @@
 // References to what is not listed.
 
-ghost use Rattle.std.specs.Prelude.{◌≡◌, Some, IfOk, option_map, string_bytes};
+ghost use Rattle.std.specs.Prelude.{◌≡◌, Some, IfOk, codes, option_map, string_bytes};
 ghost use Rattle.std.specs.Option.{option_copied};
 ghost use Rattle.spdx_requirement.specs.Items.{license_reference_of, addition_reference_of};
-ghost use Rattle.spdx_requirement.specs.Texts.{license_prefix, addition_prefix, reference_text};
+ghost use Rattle.spdx_requirement.specs.Texts.{reference_text};
 
 use std::alloc::{AllocError, Global};
 use std::fmt;
@@ -27,7 +27,8 @@ pub struct AdditionRef {
 }
 
 impl fmt::Display for LicenseRef {
-    ghost output = { λ r. Some (reference_text license_prefix (license_reference_of r)) };
+    ghost output = { λ r. Some (reference_text (codes "LicenseRef-")
+        (option_map string_bytes r.doc_ref) (string_bytes r.lic_ref)) };
 
     fn fmt<W: fmt::Write>(&self, f: &mut fmt::Formatter<W>) -> fmt::Result {
         if let Some(doc) = &self.doc_ref {
@@ -38,7 +39,8 @@ impl fmt::Display for LicenseRef {
 }
 
 impl fmt::Display for AdditionRef {
-    ghost output = { λ r. Some (reference_text addition_prefix (addition_reference_of r)) };
+    ghost output = { λ r. Some (reference_text (codes "AdditionRef-")
+        (option_map string_bytes r.doc_ref) (string_bytes r.add_ref)) };
 
     fn fmt<W: fmt::Write>(&self, f: &mut fmt::Formatter<W>) -> fmt::Result {
         if let Some(doc) = &self.doc_ref {

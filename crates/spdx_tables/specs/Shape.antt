@@ -10,12 +10,9 @@ use Rattle.spdx_tables.specs.declared.error.Field.TheVariants.{Version, Licenses
 abbrev pub text_at : List ℕ → Data → Option (List ℕ)
 text_at key d = option_and_then as_str (get key d)
 
-abbrev pub byte_of : ℕ → Option ℕ
-byte_of n = if nat_le n 255 then Some n else None
-
 -- the whole number to 255 at a key
 abbrev pub byte_at : List ℕ → Data → Option ℕ
-byte_at key d = option_and_then byte_of (option_and_then as_u64 (option_and_then as_number (get key d)))
+byte_at key d = option_and_then (λ n. if nat_le n 255 then Some n else None) (option_and_then as_u64 (option_and_then as_number (get key d)))
 
 -- the array at a key
 abbrev pub items_at : List ℕ → Data → Option Items

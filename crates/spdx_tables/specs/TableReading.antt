@@ -1,12 +1,12 @@
 -- Which tables bytes hold.
 use Rattle.std.specs.Prelude.{ℕ, List, Option, Some, None, Result, Ok, Err, map, string_bytes, if◌then◌else◌}
+use Rattle.std.specs.Result.{result_map_both}
 use Rattle.std.specs.Str.{is_utf8}
 use Rattle.serde_json.specs.Data.{Data}
 use Rattle.serde_json.specs.Read.{read}
 use Rattle.serde_json.specs.Written.{has_float}
 use Rattle.spdx_requirement.specs.Rows.{Rows, row_of, exception_of, imprecise_of}
 use Rattle.spdx_tables.specs.Shape.{tables}
-use Rattle.spdx_tables.specs.declared.error.Field.{Field}
 use Rattle.spdx_tables.specs.declared.error.TableFault.{TableFault}
 use Rattle.spdx_tables.specs.declared.error.TableFault.TheVariants as fault
 use Rattle.spdx_tables.specs.declared.tables.Tables.{Tables}
@@ -19,15 +19,10 @@ rows_of t = record { version = string_bytes t.version; licenses = map row_of t.l
 abbrev pub value_in : List ℕ → Option Data
 value_in bytes = if is_utf8 bytes then read bytes else None
 
--- a field that is missing or not of its shape is the fault
-abbrev pub shaped : Result Rows Field → Result Rows TableFault
-shaped (Err field) = Err (fault.Shape field)
-shaped (Ok rows) = Ok rows
-
--- the tables of a value, in which no number is a float
+-- the tables of a value, in which no number is a float; a field that is missing or not of its shape is the fault
 abbrev pub tables_of : Option Data → Result Rows TableFault
 tables_of None = Err fault.NotJson
-tables_of (Some d) = if has_float d then Err fault.Float else shaped (tables d)
+tables_of (Some d) = if has_float d then Err fault.Float else result_map_both (λ rows. rows) fault.Shape (tables d)
 
 -- the tables that the bytes hold, or the first fault that applies
 abbrev pub tables_in : List ℕ → Result Rows TableFault

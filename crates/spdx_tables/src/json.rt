@@ -1,6 +1,6 @@
 // JSON values, and the tables that they hold.
 
-ghost use Rattle.std.specs.Prelude.{◌≡◌, ◌<◌, Some, None, IfOk, IfErr, option_map};
+ghost use Rattle.std.specs.Prelude.{◌≡◌, ◌<◌, Some, None, IfOk, IfErr, nat_le, option_map, if◌then◌else◌};
 ghost use Rattle.std.specs.Option.{option_copied};
 ghost use Rattle.serde_json.specs.View.{view, items_view, members_view};
 ghost use Rattle.serde_json.specs.Written as written;
@@ -37,7 +37,7 @@ pub(crate) fn text_at<'v>(value: &'v Value, key: &str) -> Option<&'v str>
 }
 
 fn byte_of(n: u64) -> Option<u8>
-    ensures { result ≡ shape.byte_of n }
+    ensures { result ≡ (if nat_le n 255 then Some n else None) }
 {
     if n <= 255 { Some(n as u8) } else { None }
 }

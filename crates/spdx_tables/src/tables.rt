@@ -1,10 +1,12 @@
 // The tables of a catalogue, before their rows are checked.
 
 ghost use Rattle.std.specs.Prelude.{◌≡◌, Ok, Err, IfOk, IfErr};
+ghost use Rattle.std.specs.Result.{result_map_both};
 ghost use Rattle.serde_json.specs.View.{view};
 ghost use Rattle.spdx_requirement.specs.Failures.{IfRefused};
 ghost use Rattle.spdx_tables.specs.Shape as shape;
-ghost use Rattle.spdx_tables.specs.TableReading.{rows_of, shaped, tables_in};
+ghost use Rattle.spdx_tables.specs.declared.error.TableFault.TheVariants.{Shape};
+ghost use Rattle.spdx_tables.specs.TableReading.{rows_of, tables_in};
 
 use crate::error::{Field, TableFault};
 use crate::json::{has_float, text_at, value_of};
@@ -52,7 +54,8 @@ impl Tables {
 // The tables that a value without floats holds.
 fn from_value(alloc: Global, value: &Value) -> Result<Tables, Failure<TableFault>>
     ensures ok { IfOk result (λ t. shape.tables (view value.now) ≡ Ok (rows_of t)) }
-    ensures err { IfErr result (IfRefused (λ f. shaped (shape.tables (view value.now)) ≡ Err f)) }
+    ensures err { IfErr result (IfRefused (λ f.
+        result_map_both (λ rows. rows) Shape (shape.tables (view value.now)) ≡ Err f)) }
 {
     let Some(version) = text_at(value, "version") else {
         return Err(Failure::Refused(TableFault::Shape(Field::Version)));

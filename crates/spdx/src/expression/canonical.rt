@@ -1,11 +1,11 @@
 //! The canonical text of an expression.
 
 ghost use Rattle.std.specs.Prelude.{◌≡◌, IfOk, IfErr, Ok, Err, None, option_map, string_bytes};
+ghost use Rattle.spdx_lexer.specs.Faults.{fault_of};
 ghost use Rattle.spdx_lexer.specs.Code.{span_of};
 ghost use Rattle.spdx_lexer.specs.Layout.{IsPlace};
 ghost use Rattle.spdx_canonical.specs.Canonical.{canonical_of, answer_to};
 ghost use Rattle.spdx_requirement.specs.Failures.{IfRefused};
-ghost use Rattle.spdx_canonical.specs.Code.{placed_fault};
 ghost use Rattle.spdx_canonical.specs.Law.{CanonicalLaws};
 
 use crate::expression::Expression;
@@ -39,7 +39,8 @@ impl<'c> Expression<'c> {
             answer_to text.now (canonical_of cat.now text.now)
             ≡ Ok (option_map string_bytes answer)) }
         ensures refusal { IfErr result
-            (IfRefused (λ error. (canonical_of cat.now text.now ≡ Err (placed_fault error))
+            (IfRefused (λ error.
+            (canonical_of cat.now text.now ≡ Err (fault_of error.reason, span_of error.span))
             × (error.original.now ≡ text.now))) }
         ensures place { IfErr result (IfRefused (λ error. IsPlace text.now (span_of error.span))) }
         ensures itself { canonical_of cat.now text.now ≡ Ok text.now → result ≡ Ok None }

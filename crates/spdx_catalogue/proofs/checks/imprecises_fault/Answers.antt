@@ -1,5 +1,5 @@
 use Rattle.std.proofs.Common.{arith, sym, ◌≤◌, ◌+◌, length, map}
-use Rattle.spdx_catalogue.specs.RowRules.{imprecise_rules}
+use Rattle.spdx_catalogue.specs.RowChecks.{imprecise_rules}
 use Rattle.spdx_requirement.specs.Rows.{row_of, imprecise_of}
 use Rattle.spdx_catalogue.proofs.First.{below_next, below_more}
 use Rattle.spdx_catalogue.proofs.checks.imprecises_fault.Goals as goal

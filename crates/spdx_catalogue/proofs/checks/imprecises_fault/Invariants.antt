@@ -1,5 +1,5 @@
 use Rattle.std.proofs.Common.{◌≡◌, None, map}
-use Rattle.spdx_catalogue.specs.RowRules.{first_broken, all_below, imprecise_rules}
+use Rattle.spdx_catalogue.specs.RowChecks.{first_broken, all_below, imprecise_rules}
 use Rattle.spdx_requirement.specs.Rows.{row_of, imprecise_of}
 use Rattle.spdx_catalogue.proofs.checks.imprecises_fault.Given as goal
 

@@ -1,5 +1,5 @@
 use Rattle.std.proofs.Common.{arith, sym, ◌≤◌, ◌+◌, length, map}
-use Rattle.spdx_catalogue.specs.RowRules.{rules_at}
+use Rattle.spdx_catalogue.specs.RowChecks.{rules_at}
 use Rattle.spdx_catalogue.proofs.First.{below_next, below_more}
 use Rattle.spdx_catalogue.proofs.checks.rows_fault.Goals as goal
 

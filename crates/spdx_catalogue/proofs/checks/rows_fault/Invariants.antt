@@ -1,5 +1,5 @@
 use Rattle.std.proofs.Common.{◌≡◌, None, map}
-use Rattle.spdx_catalogue.specs.RowRules.{first_broken, all_below, rules_at}
+use Rattle.spdx_catalogue.specs.RowChecks.{first_broken, all_below, rules_at}
 use Rattle.spdx_catalogue.proofs.checks.rows_fault.Given as goal
 
 abbrev pub invariant-loop-row : goal.invariant-loop-row

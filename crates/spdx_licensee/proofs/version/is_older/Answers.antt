@@ -1,6 +1,6 @@
 use Rattle.std.proofs.Common.{sym, ◌∙◌}
 use Rattle.std.specs.List.{after_first}
-use Rattle.spdx_requirement.specs.Versions.{is_dot}
+use Rattle.spdx_licensee.proofs.Marks.{is_dot}
 use Rattle.spdx_licensee.proofs.Pieces.{front_digits, rest_version, older_by_first, older_by_rest}
 use Rattle.spdx_licensee.proofs.version.is_older.Goals as goal
 

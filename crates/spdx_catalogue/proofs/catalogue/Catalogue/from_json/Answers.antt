@@ -2,7 +2,8 @@ use Rattle.std.proofs.Common.{rules, ◌≡◌, None, Some, Ok, Err, sym, ◌∙
 use Rattle.spdx_requirement.specs.Rows.{Rows}
 use Rattle.spdx_tables.specs.TableReading.{rows_of, tables_in}
 use Rattle.spdx_catalogue.specs.RowRules.{first_fault}
-use Rattle.spdx_catalogue.specs.Reading.{unless_fault, checked, catalogue_in}
+use Rattle.spdx_catalogue.specs.Reading.{checked, catalogue_in}
+use Rattle.spdx_catalogue.proofs.Faulted.{unless_fault}
 use Rattle.spdx_catalogue.proofs.catalogue.Catalogue.from_json.Goals as goal
 
 pub returns-in-Err-Refused-clause-err : goal.returns-in-Err-Refused-clause-err

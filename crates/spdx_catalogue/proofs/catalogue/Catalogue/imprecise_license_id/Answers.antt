@@ -2,7 +2,7 @@ use Rattle.std.proofs.Common.{◌≡◌, rules, length, List, Some, string_bytes
 use Rattle.std.proofs.lemmas.Str.{IsUtf8-string_bytes}
 use Rattle.spdx_catalogue.specs.Names.{begins_caseless}
 use Rattle.spdx_requirement.specs.Rows.{ImpreciseRow, imprecise_of}
-use Rattle.spdx_catalogue.specs.LookUps.{imprecise_row}
+use Rattle.spdx_catalogue.proofs.Spellings.{imprecise_row}
 use Rattle.spdx_catalogue.proofs.Caseless.{find_passes, caseless_cut}
 use Rattle.spdx_catalogue.proofs.catalogue.Catalogue.imprecise_license_id.Goals as goal
 

@@ -3,7 +3,7 @@ use Rattle.std.specs.Option.{option_copied}
 use Rattle.spdx_catalogue.specs.Names.{begins_caseless}
 use Rattle.spdx_requirement.specs.Rows.{ImpreciseRow, imprecise_of}
 use Rattle.spdx_requirement.specs.declared.row.ImpreciseName.{ImpreciseName}
-use Rattle.spdx_catalogue.specs.LookUps.{imprecise_row}
+use Rattle.spdx_catalogue.proofs.Spellings.{imprecise_row}
 use Rattle.spdx_catalogue.specs.CatalogueModel.{rows_shown}
 use Rattle.spdx_catalogue.proofs.Listed.{prefix_taken}
 use Rattle.spdx_catalogue.proofs.Mapped.{find_map}

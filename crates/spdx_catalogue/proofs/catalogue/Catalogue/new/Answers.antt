@@ -10,7 +10,7 @@ use Rattle.spdx_catalogue.proofs.catalogue.Catalogue.new.Goals as goal
 pub invariant_of-result : goal.invariant_of-result
 invariant_of-result c = record {
   rules = search rules;
-  licenses = subst (λ (xs : List License). IsIndexed (λ r. Some (license_name (row_of r))) xs c.index_of-license_index.result) c.deref-in-None.ensures.value c.index_of-license_index.ensures;
-  exceptions = subst (λ (xs : List Exception). IsIndexed (λ r. Some (exception_name (exception_of r))) xs c.index_of-exception_index.result) c.deref-in-None-2.ensures.value c.index_of-exception_index.ensures;
+  licenses = subst (λ (xs : List License). IsIndexed (λ r. Some (string_bytes r.name)) xs c.index_of-license_index.result) c.deref-in-None.ensures.value c.index_of-license_index.ensures;
+  exceptions = subst (λ (xs : List Exception). IsIndexed (λ r. Some (string_bytes r.name)) xs c.index_of-exception_index.result) c.deref-in-None-2.ensures.value c.index_of-exception_index.ensures;
   prefixes = subst (λ (xs : List ImpreciseName). IsIndexed (λ r. whole_front (string_bytes r.prefix)) xs c.index_of-prefix_index.result) c.deref-in-None-3.ensures.value c.index_of-prefix_index.ensures;
 }

@@ -1,5 +1,5 @@
 use Rattle.std.proofs.Common.{arith}
-use Rattle.spdx_requirement.specs.Versions.{is_hyphen}
+use Rattle.spdx_licensee.proofs.Marks.{is_hyphen}
 use Rattle.spdx_licensee.proofs.Pieces.{split_found, split_absent}
 use Rattle.spdx_licensee.proofs.version.FamilyParts.next_part.Goals as goal
 
