@@ -7,6 +7,9 @@
 ghost use Rattle.std.specs.Prelude.{◌≡◌, ◌+◌, ◌*◌, ◌/◌, ◌^◌, ◌<◌, ◌≤◌, ℕ, Bool, List, [], ◌∷◌, ◌++◌, length, true, false, ◌&&◌, ◌||◌, IfOk, IsOk};
 ghost use Rattle.bit_stack.specs.Truths.{Stack, join_newest};
 
+pub mod word;
+
+pub use crate::word::WordTruths;
 use smallvec::SmallVec;
 use std::alloc::{AllocError, Global};
 use std::marker::Model;

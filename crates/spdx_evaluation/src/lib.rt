@@ -3,6 +3,7 @@
 
 pub mod failures;
 pub mod truth;
+mod word;
 
 pub use crate::failures::evaluate_with_failures;
 pub use crate::truth::evaluate;

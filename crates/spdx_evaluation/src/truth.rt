@@ -9,6 +9,7 @@ ghost use Rattle.spdx_evaluation.specs.Calls.{Evaluates};
 ghost use Rattle.spdx_evaluation.specs.ByRequirement.{AnswersBy};
 ghost use Rattle.spdx_evaluation.specs.Truth.{holds};
 
+use crate::word::truth_in_word;
 use bit_stack::Truths;
 use spdx_catalogue::LicenseReq;
 use spdx_parser::node::{ExprNode, Operator};
@@ -40,6 +41,9 @@ pub fn evaluate<'c, F: FnMut(&LicenseReq<'c>) -> bool>(
         && let ExprNode::Req(requirement) = node
     {
         return Ok(f(&requirement.req));
+    }
+    if nodes.len() <= 64 {
+        return Ok(truth_in_word(nodes, f));
     }
     let mut truths = Truths::with_room(alloc, nodes.len())?;
     Ok(truth_over(&mut truths, nodes, f))

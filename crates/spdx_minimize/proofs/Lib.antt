@@ -5,3 +5,4 @@ pub mod Places
 pub mod Chosen
 pub mod Doubles
 pub mod FirstPlaces
+pub mod OneRequirement

@@ -9,6 +9,7 @@ ghost use Rattle.spdx_minimize.specs.MinimizeFaults.{refused_choice};
 ghost use Rattle.spdx_minimize.specs.Places.{question_tree, IsOver};
 ghost use Rattle.spdx_minimize.specs.Trees.{trees_in};
 
+use crate::first::choice_for_one;
 use crate::held::HeldJudge;
 use crate::judge::{question_of, questions_of};
 use crate::nodes::TreeNodes;
@@ -18,6 +19,7 @@ use smallvec::SmallVec;
 use spdx_catalogue::{Failure, LicenseReq};
 use spdx_error::MinimizeError;
 use spdx_licensee::Licensee;
+use spdx_parser::node::ExprNode;
 use std::alloc::{AllocError, Global};
 use std::slice;
 use sufficiency::least_selection;
@@ -33,8 +35,8 @@ type Selection = SmallVec<bool, 32>;
 /// against each other one, leaves out the last licensee on which the two differ. Without an
 /// expression the choice is empty.
 ///
-/// Each licensee is compared with each requirement at most twice, and each useful one with the licensees
-/// before it. Then at most one question more than there are
+/// For one requirement the licensees are asked in turn up to the first that satisfies it. Else each licensee is compared
+/// with each requirement at most twice, and each useful one with the licensees before it. Then at most one question more than there are
 /// useful licensees is asked, each a walk over the nodes of the expressions.
 ///
 /// # Errors
@@ -55,6 +57,14 @@ pub fn least_choice<'a, 'c: 'a>(
         IsLeastChoice (trees_in lists.now) (useful (trees_in lists.now) accepted.now)
         (map requirement_of reqs.items)) }
 {
+    // Most expressions are one requirement.
+    if let [list] = lists
+        && let [node] = list.nodes
+        && let ExprNode::Req(requirement) = node
+        && accepted.len() <= 1024
+    {
+        return choice_for_one(alloc, &requirement.req, accepted);
+    }
     let members = useful_members(alloc, lists, accepted)?;
     choice_among_members(alloc, lists, members.as_slice())
 }

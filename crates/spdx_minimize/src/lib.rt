@@ -3,6 +3,7 @@
 
 pub mod accepted;
 pub mod choice;
+mod first;
 mod found;
 mod held;
 pub mod judge;

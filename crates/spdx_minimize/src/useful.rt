@@ -80,7 +80,7 @@ pub(crate) fn satisfies(licensee: &Licensee<'_>, requirement: &LicenseReq<'_>) -
 }
 
 // Whether the licence that is held may cover the required one: where both are listed, another one can only where later
-// versions may be meant.
+// versions are meant.
 #[inline(always)]
 fn may_cover(held: &LicenseItem<'_>, required: &LicenseItem<'_>) -> bool
     ensures { result ≡ false →
@@ -93,7 +93,11 @@ fn may_cover(held: &LicenseItem<'_>, required: &LicenseItem<'_>) -> bool
                 id: required,
                 or_later,
             },
-        ) => held == required || *or_later || required.is_gnu(),
+        ) => {
+            held == required
+                || *or_later
+                || required.is_gnu() && required.license().name.as_bytes().ends_with(b"-or-later")
+        }
         (LicenseItem::Other(_), LicenseItem::Other(_)) => true,
         _ => false,
     }

@@ -25,3 +25,6 @@ returns-in_err-truths-clause-no_memory g c = λ few.
 
 pub returns-2-clause-by : goal.returns-2-clause-by
 returns-2-clause-by g c = λ h by. holds_by (CalledAt g.F.FnMut) c.args.f.now h by (tree_in c.args.nodes.now) c.truth_over.result c.truth_over.new.f c.truth_over.ensures.truth
+
+pub returns-then-nodes-le64-clause-by : goal.returns-then-nodes-le64-clause-by
+returns-then-nodes-le64-clause-by g c = λ h by. holds_by (CalledAt g.F.FnMut) c.args.f.now h by (tree_in c.args.nodes.now) c.truth_in_word.result c.truth_in_word.new.f c.truth_in_word.ensures.truth
