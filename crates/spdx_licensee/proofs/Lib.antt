@@ -3,3 +3,4 @@ pub mod Digits
 pub mod Padding
 pub mod Pieces
 pub mod Theorem
+pub mod FirstLetters

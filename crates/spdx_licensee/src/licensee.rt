@@ -14,7 +14,7 @@ ghost use Rattle.spdx_licensee.specs.Answers.{TellsAFault};
 ghost use Rattle.spdx_licensee.specs.Satisfies as spec;
 
 use crate::reading::read_requirement;
-use crate::version::{is_older, same_family, version};
+use crate::version::{begin_apart, is_older, same_family, version};
 use spdx_catalogue::{Catalogue, LicenseId, LicenseItem, LicenseReq};
 use spdx_lexer::{Failure, Lexer, ParseError};
 use spdx_requirement::endings::without;
@@ -139,7 +139,7 @@ fn is_as_late(held: LicenseId<'_>, required: LicenseId<'_>) -> bool
 {
     let held = versioned_name(held);
     let required = versioned_name(required);
-    if !same_family(held, required) {
+    if begin_apart(held, required) || !same_family(held, required) {
         return false;
     }
     match (version(held), version(required)) {

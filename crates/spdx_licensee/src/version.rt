@@ -1,6 +1,6 @@
 //! The family and the version that a licence's name tells.
 
-ghost use Rattle.std.specs.Prelude.{◌≡◌, ◌==◌, ◌+◌, ◌<◌, ◌≤◌, IsTrue, IfSome, false};
+ghost use Rattle.std.specs.Prelude.{◌≡◌, ◌==◌, ◌+◌, ◌<◌, ◌≤◌, IsTrue, IfSome, true, false};
 ghost use Rattle.std.specs.List.{after_first, before_first, list_all, position};
 ghost use Rattle.std.specs.Option.{option_copied};
 ghost use Rattle.std.specs.Char.{is_ascii_digit};
@@ -137,6 +137,17 @@ impl<'n> Iterator for FamilyParts<'n> {
         self.version_passed = true;
         self.next_part()
     }
+}
+
+/// Whether two names begin with different letters, so that their families differ.
+pub(crate) fn begin_apart(a: &[u8], b: &[u8]) -> bool
+    ensures { result ≡ true → spec.same_parts (parted.without_version (parted.parts a.now))
+        (parted.without_version (parted.parts b.now)) ≡ false }
+{
+    let ([one, ..], [other, ..]) = (a, b) else {
+        return false;
+    };
+    one != other && one.is_ascii_alphabetic() && other.is_ascii_alphabetic()
 }
 
 /// Whether two names have the same parts between hyphens, in order, but for their versions.
