@@ -2,7 +2,8 @@
 use Rattle.std.proofs.Common.{◌≡◌, ◌≢◌, ℕ, true, false, List, [], ◌∷◌, refl, arith, nat_eq}
 use Rattle.std.specs.Char.{is_ascii_alphabetic}
 use Rattle.std.proofs.lemmas.Bool.Decides.{nat_tests}
-use Rattle.spdx_requirement.specs.Versions.{is_hyphen, is_version_byte, parts, without_version}
+use Rattle.spdx_requirement.specs.Versions.{parts, without_version}
+use Rattle.spdx_licensee.proofs.Marks.{is_hyphen, is_version_byte}
 use Rattle.spdx_licensee.specs.Version.{same_parts}
 
 no_hyphen : (x : ℕ) → is_ascii_alphabetic x ≡ true → is_hyphen x ≡ false

@@ -12,7 +12,7 @@ ghost use Rattle.spdx_minimize.specs.Places.{places, met_by, any_at, question_tr
 use crate::nodes::TreeNodes;
 use crate::question::{Part, PartList, PlaceList, Question};
 use crate::useful::satisfies;
-use bit_stack::Truths;
+use bit_stack::{Truths, WordTruths};
 use spdx_catalogue::LicenseReq;
 use spdx_licensee::Licensee;
 use spdx_parser::node::{ExprNode, Operator};
@@ -186,8 +186,45 @@ pub(crate) fn are_all_true(
     true
 }
 
-// Whether the selection makes the expression true.
+// Whether the selection makes the expression true; for few nodes over a word.
 fn is_true(truths: &mut Truths, question: &Question<'_, '_>, selection: &[bool]) -> bool
+    requires { length question.now.nodes.now ≤ truths.old.room }
+    ensures answer { result ≡ answered selection.now question.now }
+    ensures room { truths.new.room ≡ truths.old.room }
+{
+    if question.nodes.len() <= 64 {
+        return is_true_in_word(question, selection);
+    }
+    is_true_over(truths, question, selection)
+}
+
+// The same of at most 64 nodes.
+fn is_true_in_word(question: &Question<'_, '_>, selection: &[bool]) -> bool
+    requires { length question.now.nodes.now ≤ 64 }
+    ensures { result ≡ answered selection.now question.now }
+{
+    let nodes = question.nodes;
+    let places = question.places.as_slice();
+    let parts = question.parts.as_slice();
+    let mut leaf = 0;
+    let mut truths = WordTruths::new();
+    for node in nodes {
+        match node {
+            ExprNode::Req(_) => {
+                let part = &parts[leaf];
+                let meeting = &places[part.start..part.end];
+                truths.push(is_any_chosen(meeting, selection));
+                leaf += 1;
+            }
+            ExprNode::Op(Operator::And) => truths.both(),
+            ExprNode::Op(Operator::Or) => truths.either(),
+        }
+    }
+    truths.take()
+}
+
+// The same over a stack that has room for the nodes.
+fn is_true_over(truths: &mut Truths, question: &Question<'_, '_>, selection: &[bool]) -> bool
     requires { length question.now.nodes.now ≤ truths.old.room }
     ensures answer { result ≡ answered selection.now question.now }
     ensures room { truths.new.room ≡ truths.old.room }

@@ -5,15 +5,15 @@ use Rattle.spdx_parser.specs.declared.node.ExprNode.TheVariants.{Op}
 use Rattle.spdx_minimize.specs.Places.{part_of, met_by, any_at, question_tree}
 use Rattle.spdx_minimize.proofs.Asking.{begins, leaf_there, reads_requirement, reads_operator, finishes}
 use Rattle.spdx_minimize.proofs.Places.{each_answer, answer_at}
-use Rattle.spdx_minimize.proofs.judge.is_true.Goals as goal
-use Rattle.spdx_minimize.proofs.judge.is_true.Goals.{in-Req, in-Op-And, in-Op-Or}
+use Rattle.spdx_minimize.proofs.judge.is_true_in_word.Goals as goal
+use Rattle.spdx_minimize.proofs.judge.is_true_in_word.Goals.{in-Req, in-Op-And, in-Op-Or}
 
 pub loop-node-init : goal.loop-node-init
 loop-node-init c =
     let t = question_tree c.args.question.now in
     record {
-      so_far = begins _ _ _ t c.args.question.now.postfix (each_answer c.args.selection.now c.args.question.now) c.clear.ensures.items (omega (arith, c.requires, c.clear.ensures.room));
-      room = c.clear.ensures.room;
+      so_far = begins _ _ _ t c.args.question.now.postfix (each_answer c.args.selection.now c.args.question.now) c.new-truths.ensures.empty (omega (arith, c.requires, c.new-truths.ensures.room));
+      room = c.new-truths.ensures.room;
     }
 
 pub loop-node-preserved : goal.loop-node-preserved
@@ -48,7 +48,7 @@ loop-node-preserved c = elim c.match-node.branch [
       }
 ]
 
-pub returns-clause-answer : goal.returns-clause-answer
-returns-clause-answer c =
+pub returns : goal.returns
+returns c =
     let t = question_tree c.args.question.now in
     finishes _ _ _ _ _ _ _ t c.loop-node.invariant.so_far (search rules) c.take.ensures.items c.args.question.now.postfix (each_answer c.args.selection.now c.args.question.now)

@@ -1,7 +1,7 @@
 use Rattle.std.proofs.Common.{◌≡◌, map}
 use Rattle.spdx_minimize.specs.Places.{met_by, any_at}
 use Rattle.spdx_minimize.proofs.Asking.{Asking}
-use Rattle.spdx_minimize.proofs.judge.is_true.Given as goal
+use Rattle.spdx_minimize.proofs.judge.is_true_over.Given as goal
 
 abbrev pub invariant-loop-node : goal.invariant-loop-node
 invariant-loop-node l = record {
