@@ -7,9 +7,9 @@ use Rattle.spdx_lexer.specs.Layout.{IsPlace, place_of}
 use Rattle.spdx_requirement.specs.Rows.{LicenseRow}
 use Rattle.spdx_requirement.specs.Flags.{is_gnu}
 use Rattle.spdx_lexer.specs.Words.{Word, Spdx, Plus, Fault, Span, Item, Unexpected}
-use Rattle.spdx_canonical.specs.Canonical.{written_name, word_text, text_behind, is_spdx, is_misplaced, canonical_fault}
-use Rattle.spdx_canonical.proofs.Parts.{words_of}
-use Rattle.spdx_canonical.specs.NextText.{gnu_name, marked_name, license_and_plus, is_plus_word, decided_text, own_text, next_text, waiting}
+use Rattle.spdx_canonical.specs.Canonical.{written_name, word_text, text_behind, canonical_fault}
+use Rattle.spdx_canonical.proofs.Parts.{fault_at, is_spdx, words_of}
+use Rattle.spdx_canonical.specs.NextText.{is_misplaced, gnu_name, marked_name, license_and_plus, is_plus_word, decided_text, own_text, next_text, waiting}
 use Rattle.spdx_canonical.specs.Draft.{Drafted, extended, IsOff}
 use Rattle.spdx_canonical.proofs.Drafts.{not_off_text}
 
@@ -55,13 +55,16 @@ step d before w s items h =
     let more = text_behind false (waiting_words (waiting w) (words_of items)) in
     let bytes : d.bytes ++ text_behind false (waiting_words before (w ∷ words_of items)) ≡ (d.bytes ++ (decided_text before (is_plus_word w) ++ own_text w)) ++ more =
     ap (λ (t : List ℕ). d.bytes ++ t) (adds before w (words_of items) h) ∙ sym (append_assoc d.bytes (decided_text before (is_plus_word w) ++ own_text w) more) in
-    ap (λ b. unless (cond b (Some (Unexpected (codes "<license>" ∷ []), s)) (canonical_fault (is_spdx w) items)) (d.bytes ++ text_behind false (waiting_words before (w ∷ words_of items)))) h
+    ap (λ o. unless o (d.bytes ++ text_behind false (waiting_words before (w ∷ words_of items)))) (fault_at (is_some before) w s items)
+    ∙ ap (λ b. unless (cond b (Some (Unexpected (codes "<license>" ∷ []), s)) (canonical_fault (is_spdx w) items)) (d.bytes ++ text_behind false (waiting_words before (w ∷ words_of items)))) h
     ∙ ap (λ b. unless (canonical_fault b items) (d.bytes ++ text_behind false (waiting_words before (w ∷ words_of items)))) (spdx_waits w)
     ∙ ap (unless (canonical_fault (is_some (waiting w)) items)) bytes
 
 -- a plus that is misplaced
 pub refused : (d : Drafted) (before : Option LicenseRow) (w : Word) (s : Span) (items : List Item) → is_misplaced (is_some before) w ≡ true → continued d before (Ok (w, s) ∷ items) ≡ Err (Unexpected (codes "<license>" ∷ []), s)
-refused d before w s items h = ap (λ b. unless (cond b (Some (Unexpected (codes "<license>" ∷ []), s)) (canonical_fault (is_spdx w) items)) (d.bytes ++ text_behind false (waiting_words before (w ∷ words_of items)))) h
+refused d before w s items h =
+    ap (λ o. unless o (d.bytes ++ text_behind false (waiting_words before (w ∷ words_of items)))) (fault_at (is_some before) w s items)
+    ∙ ap (λ b. unless (cond b (Some (Unexpected (codes "<license>" ∷ []), s)) (canonical_fault (is_spdx w) items)) (d.bytes ++ text_behind false (waiting_words before (w ∷ words_of items)))) h
 
 -- the end
 pub ended : (d : Drafted) (before : Option LicenseRow) → continued d before [] ≡ Ok (d.bytes ++ decided_text before false)

@@ -6,9 +6,10 @@ use Rattle.spdx_lexer.specs.Words.{Word, Spdx, Unknown, OpenParen, Fault, Span}
 use Rattle.spdx_parser.specs.Last as last
 use Rattle.spdx_parser.specs.Last.{Last, Joined, next_last}
 use Rattle.spdx_parser.specs.Heard.{listed_last, Along, HearsAll}
-use Rattle.spdx_canonical.specs.Canonical.{text_behind, canonical_text, is_spdx, is_misplaced, answer_to}
+use Rattle.spdx_canonical.specs.Canonical.{text_behind, canonical_text, answer_to}
+use Rattle.spdx_canonical.proofs.Parts.{is_spdx}
+use Rattle.spdx_canonical.specs.NextText.{is_misplaced, decided_text, next_text, heard_text, waiting}
 use Rattle.spdx_canonical.specs.Draft.{Drafted, extended, difference}
-use Rattle.spdx_canonical.specs.NextText.{decided_text, next_text, heard_text, waiting}
 use Rattle.spdx_canonical.proofs.Continued.{waiting_words, adds}
 use Rattle.spdx_canonical.proofs.Neighbours.{AreApart}
 use Rattle.spdx_canonical.proofs.Sound.{placed}

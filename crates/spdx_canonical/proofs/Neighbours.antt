@@ -13,7 +13,7 @@ use Rattle.spdx_requirement.specs.Texts.{reference_text}
 use Rattle.spdx_parser.specs.Tree.{Tree}
 use Rattle.spdx_parser.specs.Grammar.{may_stand, Derives}
 use Rattle.spdx_parser.proofs.Threaded.{LicenseOf, plain, marked, later, named, unknown, AdditionOf, exception, named_addition, unknown_addition, LeafOf, alone, joined, PrimaryOf, leaf, group, AndOf, one_primary, and_more, OrOf, one_and, or_more, threaded}
-use Rattle.spdx_canonical.specs.Canonical.{is_spdx}
+use Rattle.spdx_canonical.proofs.Parts.{is_spdx}
 
 -- whether a name may not stand next
 abbrev pub ends_term : Word → Bool

@@ -21,7 +21,8 @@ use Rattle.spdx_parser.specs.Tree.{Tree}
 use Rattle.spdx_parser.specs.Grammar.{may_stand}
 use Rattle.spdx_parser.proofs.Threaded.{LicenseOf, plain, marked, named}
 use Rattle.spdx_canonical.proofs.Lexed.{lexeme_none}
-use Rattle.spdx_canonical.specs.Canonical.{is_spdx, written_name, plus_follows, text_behind, canonical_text, words_by}
+use Rattle.spdx_canonical.specs.Canonical.{written_name, plus_follows, text_behind, canonical_text, words_by}
+use Rattle.spdx_canonical.proofs.Parts.{is_spdx}
 use Rattle.spdx_canonical.specs.Law.{EachName, is_good, IsReferenceName, tree_by, Accepts}
 use Rattle.spdx_canonical.proofs.Known.{license_named, license_itself}
 use Rattle.spdx_canonical.proofs.Neighbours.{takes_license, is_with, AreApart, IsReference, AreRead, is_gnu_word, MayStand, apart, stand}

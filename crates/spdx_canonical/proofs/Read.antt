@@ -18,7 +18,7 @@ use Rattle.spdx_lexer.specs.Groups.{Found, license_reference, addition_reference
 use Rattle.spdx_lexer.proofs.Allowed.{if_allowed}
 use Rattle.spdx_requirement.specs.Texts.{reference_text}
 use Rattle.spdx_lexer.specs.Reading.{reading, said}
-use Rattle.spdx_canonical.specs.Canonical.{is_spdx}
+use Rattle.spdx_canonical.proofs.Parts.{is_spdx}
 use Rattle.spdx_canonical.proofs.Neighbours.{ends_term, takes_license, is_with, AreApart, IsReference, IsRead, AreRead}
 use Rattle.spdx_canonical.proofs.Known.{license_named, exception_named, license_itself, license_caseless, exception_itself, exception_caseless}
 use Rattle.spdx_lexer.proofs.Found.{first_all, allowed, lexeme_all}

@@ -10,7 +10,8 @@ use Rattle.spdx_lexer.specs.Words.{Word, Spdx, LicenseRef, Exception, AdditionRe
 use Rattle.spdx_lexer.specs.Text.{is_run_byte}
 use Rattle.spdx_lexer.specs.Lexeme.{lexeme}
 use Rattle.spdx_requirement.specs.Texts.{reference_text}
-use Rattle.spdx_canonical.specs.Canonical.{is_spdx, written_name, plus_follows, text_behind, words_by}
+use Rattle.spdx_canonical.specs.Canonical.{written_name, plus_follows, text_behind, words_by}
+use Rattle.spdx_canonical.proofs.Parts.{is_spdx}
 use Rattle.spdx_canonical.proofs.Neighbours.{ends_term, is_operator_word, AreApart, AreRead, is_gnu_word}
 use Rattle.spdx_canonical.proofs.Terms.{Stops, says, Opens, reads, reads_spaced, skips, says_nil, IsTerm, term_says, opens_name, first_of_name, exception_term, license_ref_term, addition_ref_term}
 use Rattle.spdx_canonical.proofs.Written.{written_is_name}

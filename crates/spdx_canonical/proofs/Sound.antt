@@ -17,9 +17,9 @@ use Rattle.spdx_parser.specs.Tree.{Tree}
 use Rattle.spdx_parser.specs.Grammar.{may_stand, later_row}
 use Rattle.spdx_parser.proofs.Threaded.{LicenseOf, plain, marked}
 use Rattle.spdx_parser.proofs.Complete.{the_only}
-use Rattle.spdx_canonical.specs.Canonical.{is_spdx, is_misplaced, canonical_fault, canonical_of, written_name, plus_follows, canonical_text, only_row, canonical_row, canonical_words}
-use Rattle.spdx_canonical.proofs.Parts.{words_of}
-use Rattle.spdx_canonical.specs.NextText.{gnu_name}
+use Rattle.spdx_canonical.specs.Canonical.{canonical_fault, canonical_of, written_name, plus_follows, canonical_text, only_row, canonical_row, canonical_words}
+use Rattle.spdx_canonical.proofs.Parts.{fault_at, is_spdx, words_of}
+use Rattle.spdx_canonical.specs.NextText.{is_misplaced, gnu_name}
 use Rattle.spdx_canonical.specs.Law.{EachName, is_good, only_license, tree_by, Accepts, IsSound, IsFaithful}
 use Rattle.spdx_canonical.proofs.Known.{license_named}
 use Rattle.spdx_canonical.proofs.Neighbours.{may_follow, AreApart, AreRead, apart}
@@ -51,7 +51,7 @@ whole last (Ok x ∷ items) (w ∷ ws) e a =
     let more : map said items ≡ map Ok ws = cc in
     let rest = whole w items ws more a.1 in
     record {
-      no_fault = ap (λ (v : Word). cond (is_misplaced (is_spdx last) v) (Some (Unexpected (codes "<license>" ∷ []), x.1)) (canonical_fault (is_spdx v) items)) same ∙ ap (λ b. cond b (Some (Unexpected (codes "<license>" ∷ []), x.1)) (canonical_fault (is_spdx w) items)) (placed last w a.0) ∙ rest.no_fault;
+      no_fault = fault_at (is_spdx last) x.0 x.1 items ∙ ap (λ (v : Word). cond (is_misplaced (is_spdx last) v) (Some (Unexpected (codes "<license>" ∷ []), x.1)) (canonical_fault (is_spdx v) items)) same ∙ ap (λ b. cond b (Some (Unexpected (codes "<license>" ∷ []), x.1)) (canonical_fault (is_spdx w) items)) (placed last w a.0) ∙ rest.no_fault;
       words = ap (λ (v : Word). v ∷ words_of items) same ∙ ap (λ (vs : List Word). w ∷ vs) rest.words;
     }
 

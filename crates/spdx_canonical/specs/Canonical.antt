@@ -78,22 +78,15 @@ canonical_words c ws = words_by (λ plus r. Spdx (canonical_row c plus r)) false
 
 -- ---- where there is a canonical text
 
--- a listed licence
-abbrev pub is_spdx : Word → Bool
-is_spdx (Spdx r) = true
-is_spdx _ = false
-
--- a `+` that does not stand directly behind a listed licence
-abbrev pub is_misplaced : Bool → Word → Bool
-is_misplaced behind_spdx Plus = not behind_spdx
-is_misplaced behind_spdx _ = false
-
--- the first thing in the text that has no canonical text: a fault of the lexer, or a misplaced `+`, where a licence was expected
+-- The first thing in the text that has no canonical text: a fault of the lexer, or a `+` that does not stand directly behind
+-- a listed licence, where a licence was expected.
 abbrev pub canonical_fault : Bool → List Item → Option (Fault × Span)
 canonical_fault behind_spdx [] = None
 canonical_fault behind_spdx (Err fault ∷ items) = Some fault
-canonical_fault behind_spdx (Ok found ∷ items) =
-    if is_misplaced behind_spdx found.0 then Some (Unexpected (codes "<license>" ∷ []), found.1) else canonical_fault (is_spdx found.0) items
+canonical_fault behind_spdx (Ok (Plus, s) ∷ items) =
+    if behind_spdx then canonical_fault false items else Some (Unexpected (codes "<license>" ∷ []), s)
+canonical_fault behind_spdx (Ok (Spdx r, s) ∷ items) = canonical_fault true items
+canonical_fault behind_spdx (Ok (w, s) ∷ items) = canonical_fault false items
 
 -- the answer to a text: no other text where the canonical one is the text itself
 abbrev pub answer_to : List ℕ → Result (List ℕ) (Fault × Span) → Result (Option (List ℕ)) (Fault × Span)

@@ -1,5 +1,5 @@
 -- The text so far, where the name of the licence that was read last is not written yet: the next word decides it.
-use Rattle.std.specs.Prelude.{ℕ, Bool, true, false, List, [], ◌++◌, Option, Some, None, if◌then◌else◌, codes}
+use Rattle.std.specs.Prelude.{ℕ, Bool, true, false, not, List, [], ◌++◌, Option, Some, None, if◌then◌else◌, codes}
 use Rattle.spdx_requirement.specs.Rows.{LicenseRow}
 use Rattle.spdx_requirement.specs.Flags.{is_gnu}
 use Rattle.spdx_requirement.specs.Endings.{only, or_later, has_suffix, without_only}
@@ -22,6 +22,11 @@ license_and_plus plus r = if is_gnu r.flags then gnu_name plus r.name else marke
 abbrev pub is_plus_word : Word → Bool
 is_plus_word Plus = true
 is_plus_word _ = false
+
+-- a `+` that does not stand directly behind a listed licence
+abbrev pub is_misplaced : Bool → Word → Bool
+is_misplaced behind_spdx Plus = not behind_spdx
+is_misplaced behind_spdx _ = false
 
 -- what the next word makes of the licence before it
 abbrev pub decided_text : Option LicenseRow → Bool → List ℕ

@@ -7,10 +7,10 @@ ghost use Rattle.spdx_requirement.specs.Texts.{reference_text};
 ghost use Rattle.spdx_lexer.specs.Faults.{fault_of};
 ghost use Rattle.spdx_lexer.specs.Code.{word_of, document_of, span_of};
 ghost use Rattle.spdx_lexer.specs.Layout.{IsPlace};
-ghost use Rattle.spdx_canonical.specs.Canonical.{word_text, is_misplaced, canonical_of, answer_to};
+ghost use Rattle.spdx_canonical.specs.Canonical.{word_text, canonical_of, answer_to};
+ghost use Rattle.spdx_canonical.specs.NextText.{is_misplaced, license_and_plus, is_plus_word, next_text, own_text, waiting};
 ghost use Rattle.spdx_canonical.specs.Law.{CanonicalLaws};
 ghost use Rattle.spdx_canonical.specs.Draft.{extended, IsOff};
-ghost use Rattle.spdx_canonical.specs.NextText.{license_and_plus, is_plus_word, next_text, own_text, waiting};
 ghost use Rattle.spdx_requirement.specs.Failures.{IfRefused};
 
 use crate::draft::Draft;

@@ -4,9 +4,8 @@ use Rattle.spdx_requirement.specs.Ids.{id_row}
 use Rattle.spdx_lexer.specs.Layout.{IsPlace, place_of}
 use Rattle.spdx_lexer.specs.Code.{word_of, span_of, item_of}
 use Rattle.spdx_lexer.specs.Remainder.{items_left}
-use Rattle.spdx_canonical.specs.Canonical.{is_misplaced}
+use Rattle.spdx_canonical.specs.NextText.{is_misplaced, next_text, waiting}
 use Rattle.spdx_canonical.specs.Draft.{Drafted, extended}
-use Rattle.spdx_canonical.specs.NextText.{next_text, waiting}
 use Rattle.spdx_canonical.proofs.Continued.{continued, step, is_some-map, never_off, never_off_at_end, Places, first_place, other_places}
 use Rattle.spdx_canonical.proofs.text.canonical.Goals as goal
 
