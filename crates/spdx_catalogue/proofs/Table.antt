@@ -69,7 +69,7 @@ fault_is c =
     let of_exceptions : List RowRule = rules_from (λ before. exception_row_rules (option_map exception_name before)) None 0 c.exceptions in
     let spelled : List RowRule = rules_from (λ before. imprecise_row_rules c.licenses) None 0 c.imprecise in
     let table : rules_of c ≡ names ++ (excepted ++ all_below (imprecise_rules c.licenses c.imprecise) (length c.imprecise)) =
-      ap (λ (l : List RowRule). l ++ (of_exceptions ++ spelled)) (named_rows license_name license_row_rules c.licenses)
-      ∙ ap (λ (l : List RowRule). names ++ (l ++ spelled)) (named_rows exception_name exception_row_rules c.exceptions)
-      ∙ ap (λ (l : List RowRule). names ++ (excepted ++ l)) (in_turn (λ before. imprecise_row_rules c.licenses) (imprecise_rules c.licenses c.imprecise) c.imprecise (λ i. refl)) in
+    ap (λ (l : List RowRule). l ++ (of_exceptions ++ spelled)) (named_rows license_name license_row_rules c.licenses)
+    ∙ ap (λ (l : List RowRule). names ++ (l ++ spelled)) (named_rows exception_name exception_row_rules c.exceptions)
+    ∙ ap (λ (l : List RowRule). names ++ (excepted ++ l)) (in_turn (λ before. imprecise_row_rules c.licenses) (imprecise_rules c.licenses c.imprecise) c.imprecise (λ i. refl)) in
     first_is (rules_of c) ∙ ap first_broken table
