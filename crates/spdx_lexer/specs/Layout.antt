@@ -23,7 +23,8 @@ IsImprecise c m r text =
 
 -- the prefixes and the parts, which are of a name's bytes
 abbrev pub IsReference : List ℕ → Option (List ℕ) → List ℕ → List ℕ → Type 0
-IsReference prefix d y text = (text ≡ reference_text prefix d y) × ((list_all is_name_byte y ≡ true) × IfSome d (λ (x : List ℕ). list_all is_name_byte x ≡ true))
+IsReference prefix d y text =
+    (text ≡ reference_text prefix d y) × ((list_all is_name_byte y ≡ true) × IfSome d (λ (x : List ℕ). list_all is_name_byte x ≡ true))
 
 -- an id names the row of the catalogue that stands at its index
 abbrev pub IsSpelt : Rows → ParseMode → Word → List ℕ → Type 0

@@ -52,7 +52,8 @@ reference prefix word run = option_map (λ y. (word None y, length (reference_te
 
 -- the same with a document
 abbrev pub document_reference : List ℕ → (Option (List ℕ) → List ℕ → Word) → List ℕ → Option (Word × ℕ)
-document_reference prefix word run = option_map (λ (n : List ℕ × List ℕ). (word (Some n.0) n.1, length (reference_text prefix (Some n.0) n.1))) (names_behind prefix run)
+document_reference prefix word run =
+    option_map (λ (n : List ℕ × List ℕ). (word (Some n.0) n.1, length (reference_text prefix (Some n.0) n.1))) (names_behind prefix run)
 
 -- ---- the rules together
 
