@@ -10,7 +10,9 @@ use bit_stack::WordTruths;
 use spdx_catalogue::LicenseReq;
 use spdx_parser::node::{ExprNode, Operator};
 
-// The truth of the tree whose postfix list the nodes are, where they are few: it takes no memory.
+// The truth of the tree whose postfix list the nodes are, where they are few: it takes no memory. A call of its own,
+// since inlined it slows the caller's path of one requirement.
+#[inline(never)]
 pub(crate) fn truth_in_word<'c, F: FnMut(&LicenseReq<'c>) -> bool>(
     nodes: &[ExprNode<'c>],
     f: &mut F,

@@ -35,9 +35,10 @@ type Selection = SmallVec<bool, 32>;
 /// against each other one, leaves out the last licensee on which the two differ. Without an
 /// expression the choice is empty.
 ///
-/// For one requirement the licensees are asked in turn up to the first that satisfies it. Else each licensee is compared
-/// with each requirement at most twice, and each useful one with the licensees before it. Then at most one question more than there are
-/// useful licensees is asked, each a walk over the nodes of the expressions.
+/// For one requirement the licensees are asked in turn up to the first that satisfies it. Else each
+/// licensee is compared with each requirement at most twice, and each useful one with the licensees
+/// before it. Then at most one question more than there are useful licensees is asked, each a walk over
+/// the nodes of the expressions.
 ///
 /// # Errors
 ///
