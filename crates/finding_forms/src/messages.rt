@@ -64,7 +64,8 @@ fn put_named(line: &mut String, how: Escape, name: &str) -> Result<(), AllocErro
 
 fn put_names(line: &mut String, how: Escape, names: &[&str]) -> Result<(), AllocError>
     ensures { OnOk result (string_bytes line.new ≡
-        string_bytes line.old ++ help_text how (name_aid (map (λ (x : Bor (List ℕ)). x.now) names.now))) }
+        string_bytes line.old
+        ++ help_text how (name_aid (map (λ (x : Bor (List ℕ)). x.now) names.now))) }
 {
     let Some((first, others)) = names.split_first() else {
         return Ok(());

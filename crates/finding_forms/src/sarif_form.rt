@@ -141,7 +141,8 @@ fn put_message_object(
     finding: &Finding<'_>,
 ) -> Result<(), AllocError>
     ensures tokens { OnOk result (writer.new.tokens ≡
-        writer.old.tokens ++ json_tokens (text_object (message_text Escape.Raw (told finding.now)))) }
+        writer.old.tokens
+        ++ json_tokens (text_object (message_text Escape.Raw (told finding.now)))) }
     ensures before { OnOk result (writer.new.before ≡ writer.old.before) }
 {
     let mut message = String::new(alloc);

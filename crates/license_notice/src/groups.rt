@@ -22,7 +22,8 @@ fn first_requirement<'t>(stands: &[Stand<'t>]) -> &'t str
 
 // How many of the first rows have the requirement.
 fn run_len(requirement: &str, stands: &[Stand<'_>]) -> usize
-    ensures value { result ≡ prefix_len (λ s. bytes_eq s.requirement.now requirement.now) stands.now }
+    ensures value { result
+        ≡ prefix_len (λ s. bytes_eq s.requirement.now requirement.now) stands.now }
     ensures within { result ≤ length stands.now }
 {
     stands

@@ -236,7 +236,8 @@ pub extern "C" fn spdx_slices_choose(
     licensees: &[u8],
     out: &mut [u8],
 ) -> Report
-    ensures call { IsChoiceCall (rows_lent list.old) mode text.now licensees.now out.old out.new result }
+    ensures call { IsChoiceCall (rows_lent list.old) mode text.now licensees.now
+        out.old out.new result }
     ensures unwritten { result.status ≢ 0 → out.new ≡ out.old }
     ensures kept { rows_lent list.new ≡ rows_lent list.old }
 {
@@ -261,7 +262,8 @@ pub extern "C" fn spdx_slices_lines(
     input: &[u8],
     out: &mut [u8],
 ) -> Report
-    ensures call { IsLinesCall (rows_lent list.old) mode licensees.now input.now out.old out.new result }
+    ensures call { IsLinesCall (rows_lent list.old) mode licensees.now input.now
+        out.old out.new result }
     ensures unwritten { result.status ≢ 0 → out.new ≡ out.old }
     ensures kept { rows_lent list.new ≡ rows_lent list.old }
 {

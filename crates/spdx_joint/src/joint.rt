@@ -80,7 +80,8 @@ fn own_choice(
     question: &Question<'_, '_>,
     selection: &[bool],
 ) -> Result<Remedy, AllocError>
-    ensures { IfOk result (λ choice. advised choice ≡ own_in selection.now (asked_of question.now)) }
+    ensures { IfOk result (λ choice.
+        advised choice ≡ own_in selection.now (asked_of question.now)) }
 {
     let nothing = Vec::from_elem(alloc, false, question.allowed.len())?;
     let candidates = met_of(alloc, question, selection)?;

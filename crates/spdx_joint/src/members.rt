@@ -68,8 +68,8 @@ fn put_new<'c>(
 
 // Whether one of these is the same requirement.
 fn is_among(requirement: &LicenseReq<'_>, others: &[LicenseReq<'_>]) -> bool
-    ensures { result ≡
-        list_any (λ b. same_requirement (requirement_of b) (requirement_of requirement.now)) others.now }
+    ensures { result ≡ list_any
+        (λ b. same_requirement (requirement_of b) (requirement_of requirement.now)) others.now }
 {
     others
         .iter()

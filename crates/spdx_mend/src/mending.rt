@@ -29,7 +29,10 @@ fn put(mended: &mut Mended, text: &[u8], fix: Option<String>) -> Result<(), Allo
     ensures bytes { OnOk result (mended.new.bytes.items
         ≡ mended.old.bytes.items ++ unwrap_or (option_map string_bytes fix) text.now) }
     ensures spans { OnOk result (mended.new.spans.items ≡ mended.old.spans.items
-        ++ record { start = length mended.old.bytes.items; end = length mended.new.bytes.items } ∷ []) }
+        ++ record {
+          start = length mended.old.bytes.items;
+          end = length mended.new.bytes.items;
+        } ∷ []) }
     ensures count { OnOk result (mended.new.count
         ≡ mended.old.count + (if is_some fix then 1 else 0)) }
 {

@@ -160,7 +160,8 @@ fn flags_of(alloc: Global, key: Key, words: &[String]) -> Result<Vec<Flag>, Fail
 }
 
 fn flags_at(alloc: Global, members: &Table, key: Key) -> Result<Vec<Flag>, Failure<ShapeFault>>
-    ensures ok { IfOk result (λ flags. spec.flags_at key (table_view members.now) ≡ Ok flags.items) }
+    ensures ok { IfOk result (λ flags.
+        spec.flags_at key (table_view members.now) ≡ Ok flags.items) }
     ensures err { IfErr result (IfRefused (λ f.
         spec.flags_at key (table_view members.now) ≡ Err (shape_of f))) }
 {

@@ -68,8 +68,8 @@ impl<'c> Policy<'c> {
         name: &str,
         version: Option<&str>,
     ) -> Result<Vec<usize>, AllocError>
-        ensures { IfOk result (λ tables.
-            tables.items ≡ places (holds name.now (option_copied version.entry)) self.now.exempted) }
+        ensures { IfOk result (λ tables. tables.items
+            ≡ places (holds name.now (option_copied version.entry)) self.now.exempted) }
     {
         self.exempted.holding(alloc, name, version)
     }
@@ -81,8 +81,8 @@ impl<'c> Policy<'c> {
         name: &str,
         version: Option<&str>,
     ) -> Result<Option<usize>, AllocError>
-        ensures { IfOk result (λ table. table
-            ≡ slice_get (places (holds name.now (option_copied version.entry)) self.now.clarified) 0) }
+        ensures { IfOk result (λ table. table ≡ slice_get
+            (places (holds name.now (option_copied version.entry)) self.now.clarified) 0) }
     {
         let tables = self.clarified.holding(alloc, name, version)?;
         Ok(tables.first().copied())

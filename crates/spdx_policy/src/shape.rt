@@ -233,7 +233,8 @@ fn row_of<R: Row>(
     key: Key,
     number: usize,
 ) -> Result<R, Failure<ShapeFault>>
-    ensures ok { IfOk result (λ r. spec.row_of R.reads key number (view item.now) ≡ Ok (R.shown r)) }
+    ensures ok { IfOk result (λ r.
+        spec.row_of R.reads key number (view item.now) ≡ Ok (R.shown r)) }
     ensures err { IfErr result (IfRefused (λ f.
         spec.row_of R.reads key number (view item.now) ≡ Err (shape_of f))) }
 {
