@@ -23,6 +23,6 @@ pub fn better_text<'t>(
         canonical_of catalogue.now text.now ≡ Ok (option_map_or string_bytes better text.now)) }
     ensures err { IfErr result (IfParse (IsRefused catalogue.now lax text.now)) }
 {
-    Expression::parse_mode(alloc, catalogue, text, ParseMode::LAX)?;
-    Ok(Expression::canonicalize(alloc, catalogue, text)?)
+    let (_, better) = Expression::parse_canonical(alloc, catalogue, text, ParseMode::LAX)?;
+    Ok(better)
 }
