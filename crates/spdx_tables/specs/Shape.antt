@@ -39,7 +39,7 @@ rows_from row index (item d ds) = option_and_then (λ r. option_map (λ rs. r �
 
 -- the rows of the array at a key
 abbrev pub rows_at : {A : Type 0} → (ℕ → Data → Option A) → List ℕ → Data → Option (List A)
-rows_at row key d = option_and_then (rows_from row 0) (items_at key d)
+rows_at read key d = option_and_then (rows_from read 0) (items_at key d)
 
 -- what is missing at a field is its fault
 abbrev pub need : {A B : Type 0} → Field → Option A → (A → Result B Field) → Result B Field
