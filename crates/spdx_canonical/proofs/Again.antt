@@ -5,9 +5,8 @@ use Rattle.spdx_requirement.specs.Flags.{is_gnu}
 use Rattle.spdx_catalogue.specs.LookUps.{listed}
 use Rattle.spdx_catalogue.specs.RowRules.{is_well_formed}
 use Rattle.spdx_lexer.specs.Words.{Word, Spdx, LicenseRef, Exception, AdditionRef, Unknown, Plus, OpenParen, CloseParen, With, And, Or}
-use Rattle.spdx_canonical.specs.Canonical.{written_name, plus_follows, word_text, text_behind, canonical_row, words_by}
+use Rattle.spdx_canonical.specs.Canonical.{gnu_name, written_name, plus_follows, word_text, text_behind, canonical_row, words_by}
 use Rattle.spdx_canonical.proofs.Parts.{is_spdx}
-use Rattle.spdx_canonical.specs.NextText.{gnu_name}
 use Rattle.spdx_canonical.specs.Law.{EachName}
 use Rattle.spdx_canonical.proofs.Known.{license_named}
 use Rattle.spdx_canonical.proofs.Neighbours.{AreApart, AreRead, is_gnu_word}

@@ -7,9 +7,9 @@ use Rattle.spdx_lexer.specs.Layout.{IsPlace, place_of}
 use Rattle.spdx_requirement.specs.Rows.{LicenseRow}
 use Rattle.spdx_requirement.specs.Flags.{is_gnu}
 use Rattle.spdx_lexer.specs.Words.{Word, Spdx, Plus, Fault, Span, Item, Unexpected}
-use Rattle.spdx_canonical.specs.Canonical.{written_name, word_text, text_behind, canonical_fault}
+use Rattle.spdx_canonical.specs.Canonical.{gnu_name, written_name, word_text, text_behind, canonical_fault}
 use Rattle.spdx_canonical.proofs.Parts.{fault_at, is_spdx, words_of}
-use Rattle.spdx_canonical.specs.NextText.{is_misplaced, gnu_name, marked_name, license_and_plus, is_plus_word, decided_text, own_text, next_text, waiting}
+use Rattle.spdx_canonical.specs.NextText.{is_misplaced, marked_name, license_and_plus, is_plus_word, decided_text, own_text, next_text, waiting}
 use Rattle.spdx_canonical.specs.Draft.{Drafted, extended, IsOff}
 use Rattle.spdx_canonical.proofs.Drafts.{not_off_text}
 

@@ -3,7 +3,8 @@ use Rattle.std.proofs.Common.{◌≡◌, ℕ, Bool, true, false, cond, List, ◌
 use Rattle.spdx_requirement.specs.Rows.{LicenseRow}
 use Rattle.spdx_requirement.specs.Flags.{is_gnu}
 use Rattle.spdx_requirement.specs.Endings.{only, has_suffix}
-use Rattle.spdx_canonical.specs.NextText.{gnu_name, marked_name, license_and_plus}
+use Rattle.spdx_canonical.specs.Canonical.{gnu_name}
+use Rattle.spdx_canonical.specs.NextText.{marked_name, license_and_plus}
 use Rattle.spdx_canonical.proofs.Drafts.{still_off, off_more, off_same}
 use Rattle.std.specs.Prelude.{codes}
 use Rattle.spdx_requirement.specs.Texts.{reference_text}

@@ -17,9 +17,9 @@ use Rattle.spdx_parser.specs.Tree.{Tree}
 use Rattle.spdx_parser.specs.Grammar.{may_stand, later_row}
 use Rattle.spdx_parser.proofs.Threaded.{LicenseOf, plain, marked}
 use Rattle.spdx_parser.proofs.Complete.{the_only}
-use Rattle.spdx_canonical.specs.Canonical.{canonical_fault, canonical_of, written_name, plus_follows, canonical_text, only_row, canonical_row, canonical_words}
+use Rattle.spdx_canonical.specs.Canonical.{gnu_name, canonical_fault, canonical_of, written_name, plus_follows, canonical_text, only_row, canonical_row, canonical_words}
 use Rattle.spdx_canonical.proofs.Parts.{fault_at, is_spdx, words_of}
-use Rattle.spdx_canonical.specs.NextText.{is_misplaced, gnu_name}
+use Rattle.spdx_canonical.specs.NextText.{is_misplaced}
 use Rattle.spdx_canonical.specs.Law.{EachName, is_good, only_license, tree_by, Accepts, IsSound, IsFaithful}
 use Rattle.spdx_canonical.proofs.Known.{license_named}
 use Rattle.spdx_canonical.proofs.Neighbours.{may_follow, AreApart, AreRead, apart}

@@ -14,8 +14,7 @@ use Rattle.spdx_catalogue.specs.LookUps.{listed}
 use Rattle.spdx_catalogue.specs.RowRules.{is_well_formed}
 use Rattle.spdx_canonical.proofs.Lexed.{and_both}
 use Rattle.spdx_catalogue.proofs.Caseless.{bytes_same}
-use Rattle.spdx_canonical.specs.Canonical.{written_name, canonical_row}
-use Rattle.spdx_canonical.specs.NextText.{gnu_name}
+use Rattle.spdx_canonical.specs.Canonical.{gnu_name, written_name, canonical_row}
 use Rattle.spdx_canonical.proofs.Known.{license_named}
 use Rattle.spdx_canonical.proofs.Terms.{all_append, bytes_of_name}
 

@@ -14,14 +14,14 @@ use Rattle.spdx_parser.specs.Grammar.{later_row}
 
 -- ---- what is written
 
--- The name that is written for a licence, where a `+` follows or not. That of a GNU licence says which versions are
--- meant. Where a `+` follows: `-or-later`, in place of a final `-only`. Where none follows: the ending that it has, or
--- else `-only`.
+-- The name that says which versions of a GNU licence are meant. Where a `+` follows: `-or-later`, in place of a final
+-- `-only`. Where none follows: the ending that it has, or else `-only`.
+abbrev pub gnu_name : Bool → List ℕ → List ℕ
+gnu_name plus name = if plus then without_only name ++ or_later else if has_suffix name then name else name ++ only
+
+-- the name that is written for a licence, where a `+` follows or not
 abbrev pub written_name : Bool → LicenseRow → List ℕ
-written_name plus r =
-    if is_gnu r.flags then (
-    if plus then without_only r.name ++ or_later else
-    if has_suffix r.name then r.name else r.name ++ only) else r.name
+written_name plus r = if is_gnu r.flags then gnu_name plus r.name else r.name
 
 -- the next word is `+`
 abbrev pub plus_follows : List Word → Bool

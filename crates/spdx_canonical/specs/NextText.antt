@@ -2,13 +2,8 @@
 use Rattle.std.specs.Prelude.{ℕ, Bool, true, false, not, List, [], ◌++◌, Option, Some, None, if◌then◌else◌, codes}
 use Rattle.spdx_requirement.specs.Rows.{LicenseRow}
 use Rattle.spdx_requirement.specs.Flags.{is_gnu}
-use Rattle.spdx_requirement.specs.Endings.{only, or_later, has_suffix, without_only}
 use Rattle.spdx_lexer.specs.Words.{Word, Spdx, Plus}
-use Rattle.spdx_canonical.specs.Canonical.{word_text}
-
--- the name of a GNU licence, which a `+` follows or not
-abbrev pub gnu_name : Bool → List ℕ → List ℕ
-gnu_name plus name = if plus then without_only name ++ or_later else if has_suffix name then name else name ++ only
+use Rattle.spdx_canonical.specs.Canonical.{gnu_name, word_text}
 
 -- a `+` behind the name of a licence that is no GNU licence
 abbrev pub marked_name : Bool → List ℕ → List ℕ

@@ -12,9 +12,9 @@ is_run_byte b = is_name_byte b || b == 58
 abbrev pub name_at : List ℕ → List ℕ
 name_at text = take_while is_name_byte text
 
--- the longest front of the bytes of a name and of `:`
+-- the longest front of a run's bytes
 abbrev pub run_at : List ℕ → List ℕ
-run_at text = take_while (λ b. is_name_byte b || b == 58) text
+run_at text = take_while is_run_byte text
 
 -- how many bytes of white space, in the sense of Unicode, the text begins with
 abbrev pub white : List ℕ → ℕ
