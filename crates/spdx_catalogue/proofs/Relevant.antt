@@ -1,24 +1,35 @@
 -- Rows that fit what is looked for have its key.
-use Rattle.std.proofs.Common.{◌≡◌, ℕ, ◌+◌, ◌*◌, ◌%◌, ◌^◌, ◌≤◌, Bool, true, false, cond, List, length, take, map, Some, None, refl, sym, ◌∙◌, ap, arith, nat_lt}
+use Rattle.std.proofs.Common.{◌≡◌, ℕ, ◌+◌, ◌*◌, ◌%◌, ◌^◌, ◌≤◌, Bool, true, false, cond, List, [], ◌∷◌, length, take, map, Some, None, refl, sym, ◌∙◌, ap, arith, nat_eq, nat_lt, ⊎_elim}
 use Rattle.std.specs.Borrow.{Bor}
 use Rattle.std.specs.List.{fold}
 use Rattle.std.specs.Char.{to_ascii_lowercase}
 use Rattle.std.proofs.lemmas.List.{take-take, take-map}
 use Rattle.std.proofs.lemmas.List.Folds.{fold-map}
+use Rattle.std.proofs.lemmas.Bool.{agree_below_at, cases_lt, eqb-true}
 use Rattle.std.proofs.lemmas.Bool.Decides.{nat_tests}
-use Rattle.spdx_catalogue.specs.Index.{key_of, whole_front, IsRelevant}
+use Rattle.std.proofs.lemmas.Str.Ascii.{lowercase_is}
+use Rattle.std.specs.Int.Bits.{bit_or}
+use Rattle.spdx_catalogue.specs.Index.{mixed, key_of, whole_front, IsRelevant}
 use Rattle.spdx_catalogue.specs.declared.index.Sought.TheVariants.{Named, Alike, Front}
 use Rattle.spdx_catalogue.proofs.Caseless.{bytes_same}
 
-abbrev lowered_key : ℕ → ℕ → ℕ
-lowered_key key b = ((key + b) % 2 ^ 32 * 16777619) % 2 ^ 32
+-- a small letter and its capital are the same in a key; up to `Z` by computing
+set_lowered : (b : ℕ) → bit_or (to_ascii_lowercase b) 32 ≡ bit_or b 32
+set_lowered b = ⊎_elim
+    (λ under. eqb-true _ _ (agree_below_at (λ k. nat_eq (bit_or (to_ascii_lowercase k) 32) (bit_or k 32)) (λ k. true) 91 b refl under))
+    (λ over. ap (λ k. bit_or k 32) ((lowercase_is b).2 (omega arith)))
+    (cases_lt b 91)
 
 -- the case of ASCII letters does not count in a key
-key_lowered : (bytes : List ℕ) → fold lowered_key 0 (map to_ascii_lowercase bytes) ≡ key_of bytes
-key_lowered bytes = fold-map lowered_key to_ascii_lowercase 0 bytes
+key_lowered : (bytes : List ℕ) → key_of (map to_ascii_lowercase bytes) ≡ key_of bytes
+key_lowered bytes = ap (λ (k : ℕ). (k * 2654435761) % 2 ^ 32) (fold-map mixed to_ascii_lowercase 0 bytes ∙ same 0 bytes)
+  where
+    same : (key : ℕ) (bs : List ℕ) → fold (λ k b. mixed k (to_ascii_lowercase b)) key bs ≡ fold mixed key bs
+    same key [] = refl
+    same key (b ∷ bs) = ap (λ k. fold (λ k b. mixed k (to_ascii_lowercase b)) k bs) (ap (λ t. ((key * 9) % 2 ^ 32 + t) % 2 ^ 32) (set_lowered b)) ∙ same (mixed key b) bs
 
 alike_keys : (xs ys : List ℕ) → map to_ascii_lowercase xs ≡ map to_ascii_lowercase ys → key_of xs ≡ key_of ys
-alike_keys xs ys e = sym (key_lowered xs) ∙ ap (fold lowered_key 0) e ∙ key_lowered ys
+alike_keys xs ys e = sym (key_lowered xs) ∙ ap key_of e ∙ key_lowered ys
 
 module _ {A : Type 0} (text : A → List ℕ) where
   pub named_relevant : (name : Bor (List ℕ)) → IsRelevant (λ r. Some (text r)) text (Named name)

@@ -2,8 +2,7 @@
 use Rattle.std.proofs.Common.{◌≡◌, ℕ, zero, suc, ◌+◌, Bool, true, false, cond, List, [], ◌∷◌, ◌++◌, length, Option, Some, None, find, refl, sym, ◌∙◌, ap, subst, arith, append_assoc, append-nil}
 use Rattle.std.specs.Prelude.{slice_get, option_map}
 use Rattle.std.specs.Option.{option_map_or}
-use Rattle.spdx_requirement.specs.Rows.{Rows, LicenseRow, ExceptionRow, ImpreciseRow, license_name, exception_name}
-use Rattle.spdx_catalogue.specs.declared.error.CatalogueError.{CatalogueError}
+use Rattle.spdx_requirement.specs.Rows.{Rows, LicenseRow, ExceptionRow, license_name, exception_name}
 use Rattle.spdx_catalogue.specs.RowRules.{RowRule, license_row_rules, exception_row_rules, imprecise_row_rules, rules_from, rules_of, first_fault}
 use Rattle.spdx_catalogue.specs.RowChecks.{first_broken, all_below, rules_at, imprecise_rules}
 

@@ -2,19 +2,19 @@
 use Rattle.std.specs.Prelude.{◌≡◌, ℕ, ◌+◌, ◌*◌, ◌%◌, ◌<◌, ◌≤◌, ◌^◌, Bool, true, List, length, take, get_or, Option, Some, None, bytes_eq, nat_lt, if◌then◌else◌}
 use Rattle.std.specs.List.{fold, Contains}
 use Rattle.std.specs.List.Sorted.{IsNonDecreasing}
-use Rattle.std.specs.Char.{to_ascii_lowercase}
+use Rattle.std.specs.Int.Bits.{bit_or}
 use Rattle.std.specs.Str.{str_eq_ignore_ascii_case}
 use Rattle.spdx_catalogue.specs.Names.{begins_caseless}
 use Rattle.spdx_catalogue.specs.declared.index.Sought.{Sought}
 use Rattle.spdx_catalogue.specs.declared.index.Sought.TheVariants.{Named, Alike, Front}
 
--- a key with one more byte
+-- a key with one more byte, in which the bit is set that tells small letters from capitals
 abbrev pub mixed : ℕ → ℕ → ℕ
-mixed key b = ((key + to_ascii_lowercase b) % 2 ^ 32 * 16777619) % 2 ^ 32
+mixed key b = ((key * 9) % 2 ^ 32 + bit_or b 32) % 2 ^ 32
 
--- the key of some bytes, in which the case of ASCII letters does not count
+-- the key of some bytes, in which the case of ASCII letters does not count; the product spreads it over all bits
 abbrev pub key_of : List ℕ → ℕ
-key_of bytes = fold mixed 0 bytes
+key_of bytes = (fold mixed 0 bytes * 2654435761) % 2 ^ 32
 
 -- the bytes that make a prefix's key: so many of the prefix, which a short one lacks
 abbrev pub whole_front : List ℕ → Option (List ℕ)

@@ -15,6 +15,10 @@ use std::alloc::Global;
 // Places are below it, and so are keys.
 const SPAN: u64 = 4_294_967_296;
 
+// An odd number near 2^32 over the golden ratio: the upper bits of a product with it, which tell the bucket, hang on
+// all bits.
+const SPREAD: u32 = 2_654_435_761;
+
 // So many bytes of a prefix make its key.
 const FRONT: usize = 3;
 
@@ -98,8 +102,7 @@ pub(crate) enum Sought<'t> {
 fn mixed(key: u32, b: u8) -> u32
     ensures { result ≡ spec.mixed key b }
 {
-    key.wrapping_add(u32::from(b.to_ascii_lowercase()))
-        .wrapping_mul(16_777_619)
+    key.wrapping_mul(9).wrapping_add(u32::from(b | 0x20))
 }
 
 // The same for bytes that differ in the case of ASCII letters alone.
@@ -110,7 +113,7 @@ fn key_of(bytes: &[u8]) -> u32
     for b in bytes {
         key = mixed(key, *b);
     }
-    key
+    key.wrapping_mul(SPREAD)
 }
 
 fn code(key: u32, place: usize) -> u64
@@ -155,6 +158,7 @@ pub(crate) fn index_of<R: Keyed>(alloc: Global, rows: &[R]) -> Option<Index>
 }
 
 impl Sought<'_> {
+    #[inline(always)]
     fn key(self) -> u32
         ensures { result ≡ spec.sought_key self.entry }
     {
@@ -168,6 +172,7 @@ impl Sought<'_> {
         }
     }
 
+    #[inline(always)]
     fn fits(self, text: &str) -> bool
         ensures { result ≡ spec.fits self.entry text.now }
     {
@@ -206,6 +211,7 @@ fn least_at(index: &Index, key: u32) -> usize
 }
 
 // The first row that fits, by the index.
+#[inline(always)]
 fn first_indexed<'c, R: Keyed>(rows: &'c [R], index: &Index, sought: Sought<'_>) -> Option<&'c R>
     requires index { spec.IsIndexOf R.keyed_of rows.now index.now.codes.items }
     requires relevant { spec.IsRelevant R.keyed_of R.text_of sought }
@@ -230,6 +236,7 @@ fn first_indexed<'c, R: Keyed>(rows: &'c [R], index: &Index, sought: Sought<'_>)
 }
 
 /// The first row that fits. Where there is no index, a walk over the rows.
+#[inline(always)]
 pub(crate) fn first<'c, R: Keyed>(
     rows: &'c [R],
     index: &Option<Index>,

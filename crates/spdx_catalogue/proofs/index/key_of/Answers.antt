@@ -1,4 +1,4 @@
-use Rattle.std.proofs.Common.{◌≡◌, ◌∙◌, drop, ap, sym, ℕ, [], add-one, get_or, ◌∷◌, ◌+◌}
+use Rattle.std.proofs.Common.{◌≡◌, ◌∙◌, drop, ap, sym, ℕ, [], add-one, get_or, ◌∷◌, ◌+◌, ◌*◌, ◌%◌, ◌^◌}
 use Rattle.std.proofs.Math.Seq.{drop-cons}
 use Rattle.std.proofs.Math.ListN.{drop_of_length-le}
 use Rattle.std.specs.List.{fold}
@@ -17,4 +17,5 @@ returns c =
     let bs = c.args.bytes.now in
     let i = c.loop-b.b-index in
     let none : drop i bs ≡ [] = drop_of_length-le bs c.loop-b-test.false in
-    sym (ap (fold spec.mixed c.loop-b.key) none) ∙ c.loop-b.invariant
+    let folded : c.loop-b.key ≡ fold spec.mixed 0 bs = sym (ap (fold spec.mixed c.loop-b.key) none) ∙ c.loop-b.invariant in
+    ap (λ (k : ℕ). (k * 2654435761) % 2 ^ 32) folded

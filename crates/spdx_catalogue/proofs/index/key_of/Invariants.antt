@@ -4,4 +4,4 @@ use Rattle.spdx_catalogue.specs.Index as spec
 use Rattle.spdx_catalogue.proofs.index.key_of.Given as goal
 
 abbrev pub invariant-loop-b : goal.invariant-loop-b
-invariant-loop-b l = fold spec.mixed l.key (drop l.b-index l.bytes) ≡ spec.key_of l.bytes
+invariant-loop-b l = fold spec.mixed l.key (drop l.b-index l.bytes) ≡ fold spec.mixed 0 l.bytes

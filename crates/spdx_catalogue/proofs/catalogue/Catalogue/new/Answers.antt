@@ -1,5 +1,4 @@
 use Rattle.std.proofs.Common.{rules, List, Some, string_bytes, subst}
-use Rattle.spdx_requirement.specs.Rows.{row_of, exception_of, license_name, exception_name}
 use Rattle.spdx_requirement.specs.declared.row.License.{License}
 use Rattle.spdx_requirement.specs.declared.row.Exception.{Exception}
 use Rattle.spdx_requirement.specs.declared.row.ImpreciseName.{ImpreciseName}
