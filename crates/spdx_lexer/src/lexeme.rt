@@ -54,6 +54,7 @@ fn exact<'c, 't>(catalogue: &'c Catalogue, run: &str) -> Found<'c, 't>
 }
 
 // A listed name in another case.
+#[inline(never)]
 fn caseless<'c, 't>(catalogue: &'c Catalogue, mode: ParseMode, run: &str) -> Found<'c, 't>
     ensures value { option_map found_of result ≡ groups.caseless catalogue.now mode run.now }
     ensures len { IfSome result (λ f. f.1 ≤ length run.now) }
@@ -86,6 +87,7 @@ fn by_run<'c, 't>(catalogue: &'c Catalogue, mode: ParseMode, run: &'t str) -> Fo
 }
 
 // An imprecise name, which may end within the run or behind it.
+#[inline(never)]
 fn imprecise<'c, 't>(catalogue: &'c Catalogue, mode: ParseMode, text: &str) -> Found<'c, 't>
     ensures value { option_map found_of result ≡ groups.imprecise catalogue.now mode text.now }
     ensures cut { IfSome result (λ f. IsCharBoundary text.now f.1) }

@@ -79,6 +79,7 @@ fn addition_reference<'c, 't>(run: &'t str) -> Found<'c, 't>
 }
 
 // A reference, of a licence or else of an addition.
+#[inline(never)]
 pub(crate) fn referred<'c, 't>(run: &'t str) -> Found<'c, 't>
     ensures value { option_map found_of result ≡ groups.referred run.now }
     ensures len { IfSome result (λ f. f.1 ≤ length run.now) }
