@@ -184,7 +184,8 @@ pub fn canonical<'t>(
     text: &'t str,
 ) -> Result<Option<String>, Failure<ParseError<'t>>>
     ensures answer { IfOk result (λ answer.
-        answer_to text.now (canonical_of catalogue.now text.now) ≡ Ok (option_map string_bytes answer)) }
+        answer_to text.now (canonical_of catalogue.now text.now)
+        ≡ Ok (option_map string_bytes answer)) }
     ensures refusal { IfErr result (IfRefused (λ error.
         (canonical_of catalogue.now text.now ≡ Err (fault_of error.reason, span_of error.span))
         × (error.original.now ≡ text.now))) }

@@ -111,8 +111,8 @@ impl<'c, 't> Parser<'c, 't> {
 
     // A licence was read.
     fn name_as(&mut self, last: Last<'c>, name: Name<'c, 't>, place: Range<usize>)
-        ensures { self.new
-            ≡ states.name_as self.old (last_in last.entry) (name_license name.entry) (span_of place) }
+        ensures { self.new ≡ states.name_as self.old (last_in last.entry)
+            (name_license name.entry) (span_of place) }
     {
         self.last = last;
         self.license = Some(name);
