@@ -235,7 +235,8 @@ fn first_indexed<'c, R: Keyed>(rows: &'c [R], index: &Index, sought: Sought<'_>)
     None
 }
 
-/// The first row that fits. Where there is no index, a walk over the rows.
+/// The first row that fits. Where there is no index, a walk over the rows. It is inlined, so that
+/// each look-up compares in its own way alone.
 #[inline(always)]
 pub(crate) fn first<'c, R: Keyed>(
     rows: &'c [R],

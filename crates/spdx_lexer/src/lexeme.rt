@@ -53,7 +53,7 @@ fn exact<'c, 't>(catalogue: &'c Catalogue, run: &str) -> Found<'c, 't>
     None
 }
 
-// A listed name in another case.
+// A listed name in another case. Few words come so far, which goes for the other calls that are not inlined too.
 #[inline(never)]
 fn caseless<'c, 't>(catalogue: &'c Catalogue, mode: ParseMode, run: &str) -> Found<'c, 't>
     ensures value { option_map found_of result ≡ groups.caseless catalogue.now mode run.now }
