@@ -1,16 +1,18 @@
-# make run: the first verdicts, over the real list. make build: the proved programs. make install: puts them in place.
+# make run: the first verdicts, over the real list. make build: the proved programs. make install: puts them in place, or a
+# first spdx without proof, where they aren't built.
 # make install_library: the library for C, C++ and Python; make samples: its samples; make library_speed: measures it.
 # make speed CRATE=FOLDER: processor time against the published Rust crate, whose sources are in FOLDER; CORPUS=FILE has
 # expressions with their weights.
-# make test: the whole gate, of which make quotes, theorem, known, growths, program, commands and verdicts are parts: what README.md
-# and docs/THEOREM.md quote is what the files hold; the list inside is that of data/; each growth of memory refused to
-# each call; the built line program in hostile surroundings; the built program spdx as its users run it; its verdicts on
-# random packages.
+# make test: the whole gate. It has the proofs, the rows and the stored runs; make quotes, theorem and known: what the pages
+# and the list inside say is what the files hold; make growths: each growth of memory refused to each call; make program
+# and commands: the built programs as their users run them, in hostile surroundings too; make verdicts: verdicts on random
+# packages; make hostile: odd files, and kills; and a few of make planted: the wrong bodies of planted/, which the prover has to refuse.
 PREFIX ?= /usr/local
 LINES := crates/spdx_lines_main/out/spdx_lines_main
 SPDX := crates/spdx_main/out/spdx_main
 
-.PHONY: run build install install_library quotes theorem known growths program commands verdicts samples speed library_speed test
+.PHONY: run build install install_library quotes theorem known growths program commands verdicts hostile planted samples speed \
+	library_speed test
 
 run:
 	@tools/run
@@ -25,8 +27,12 @@ install:
 install_library:
 	@DESTDIR="$(DESTDIR)" tools/install_library "$(PREFIX)"
 
+# Whether the pages quote files as they are; whether the table of crates and the page of calls are what the sources say, which
+# tools/crates and tools/calling write.
 quotes:
 	@tools/quotes
+	@tools/crates --check
+	@tools/calling --check
 
 # Whether docs/THEOREM.md is what the sources say; tools/theorem writes it.
 theorem:
@@ -45,13 +51,22 @@ commands: $(SPDX)
 verdicts: $(SPDX)
 	@tools/verdicts $(SPDX)
 
+# The program over odd files and names, and killed while it writes: what docs/PROGRAM.md says that it keeps.
+hostile: $(SPDX)
+	@tools/hostile $(SPDX)
+
+# All wrong bodies of planted/, over what make build or rt check kept of the proofs.
+planted:
+	@tools/planted
+
 # The samples in C, C++ and Python, over the library, which is proved and built first where it isn't: minutes, so it is no
 # part of the gate.
 samples:
 	@tools/samples
 
-# Whether the list inside the program is what data/ has; tools/known writes it.
+# Whether data/ is as tools/list makes it, and the list inside the program is what data/ has; tools/known writes it.
 known:
+	@tools/list --check
 	@tools/known --check
 
 $(LINES):
@@ -67,7 +82,8 @@ speed:
 library_speed:
 	@tools/library_speed
 
-# The programs are run as rt ci has built them.
+# What takes seconds comes first. The programs are run as rt ci has built them.
 test:
-	@tools/gate tools/quotes "tools/theorem --check" "tools/known --check" tools/growths \
-		"tools/program $(LINES)" "tools/commands $(SPDX)" "tools/verdicts $(SPDX)"
+	@tools/gate tools/quotes "tools/crates --check" "tools/calling --check" "tools/theorem --check" "tools/list --check" "tools/known --check" "tools/planted --check" \
+		"rt ci" tools/growths "tools/program $(LINES)" "tools/commands $(SPDX)" "tools/verdicts $(SPDX)" "tools/hostile $(SPDX)" tools/truth_tables \
+		"tools/planted --few"

@@ -7,15 +7,18 @@
     licences.evaluate_bits("MIT OR Zlib", [False, True])    # True: requirement by requirement
     licences.lines(["MIT", "Apache2"], ["MIT"])             # a verdict for each, in one call
 
-Texts are str or bytes; places are in bytes of UTF-8. `Licences` reads its list once, and any number of threads may ask
-it at once; Python's lock is free meanwhile. Its memory is given back with the object, or before, by `close` or the end
-of a `with`, which are for when no other thread asks it.
+Texts are str or bytes; places are in bytes of UTF-8. `TypeError` is raised where another value is given for a text, or
+one text for several; a number that has more than 32 bits is a `ValueError`.
+
+`Licences` reads its list once, and any number of threads may ask it at once; Python's lock is free meanwhile. Its memory
+is given back with the object, or before, by `close` or the end of a `with`, which are for when no other thread asks it.
 """
 
 from __future__ import annotations
 
 import ctypes
 import ctypes.util
+import operator
 import os
 from typing import Iterable, NamedTuple, Optional, Union
 
@@ -104,8 +107,22 @@ def _library() -> ctypes.CDLL:
 _LIBRARY = _library()
 
 
+def _given(data: Union[bytes, bytearray, memoryview]) -> bytes:
+    if isinstance(data, (bytes, bytearray, memoryview)):
+        return bytes(data)
+    raise TypeError(f"a text or bytes are due, not {type(data).__name__}")
+
+
 def _encoded(text: Text) -> bytes:
-    return text.encode("utf-8", "surrogatepass") if isinstance(text, str) else bytes(text)
+    return text.encode("utf-8", "surrogatepass") if isinstance(text, str) else _given(text)
+
+
+def _number(number: int) -> int:
+    """A number of 32 bits. C would take a greater one modulo 2 ** 32."""
+    index = operator.index(number)
+    if 0 <= index < 2**32:
+        return index
+    raise ValueError(f"{index} is no number of 32 bits")
 
 
 def _bytes(text: bytes) -> _Bytes:
@@ -113,6 +130,8 @@ def _bytes(text: bytes) -> _Bytes:
 
 
 def _joined(lines: Iterable[Text]) -> bytes:
+    if isinstance(lines, (str, bytes, bytearray, memoryview)):
+        raise TypeError("several texts are due, as in a list, and not one text")
     parts = [_encoded(line) for line in lines]
     if any(b"\n" in part for part in parts):
         raise ValueError("a newline in a line")
@@ -131,7 +150,7 @@ def _written(call, *given, guess: int = 256) -> tuple[_Report, bytes]:
 
 def reason(number: int) -> str:
     """What a reason says, apart from the words that were expected."""
-    report, text = _written(_LIBRARY.spdx_reason, number)
+    report, text = _written(_LIBRARY.spdx_reason, _number(number))
     _raise(report)
     return text.decode()
 
@@ -161,8 +180,9 @@ class Licences:
     """A list of licences, in the JSON of `spdx list make`. `SpdxError` where the bytes are none."""
 
     def __init__(self, json: bytes):
+        given = _given(json)
         self._list = _List()
-        _raise(_LIBRARY.spdx_open(_bytes(bytes(json)), self._list))
+        _raise(_LIBRARY.spdx_open(_bytes(given), self._list))
 
     def close(self) -> None:
         """Gives the list's memory back. The calls raise `SpdxError` from then on; a second close does nothing."""
@@ -175,7 +195,9 @@ class Licences:
         self.close()
 
     def __del__(self, close=_LIBRARY.spdx_close) -> None:
-        close(self._list)
+        opened = getattr(self, "_list", None)
+        if opened is not None:
+            close(opened)
 
     @classmethod
     def read(cls, path: Union[str, os.PathLike]) -> "Licences":
@@ -185,15 +207,15 @@ class Licences:
 
     def check(self, text: Text, mode: int = STRICT) -> None:
         """Raises `Refused` where the text is no expression."""
-        _raise(_LIBRARY.spdx_check(self._list, mode, _bytes(_encoded(text))))
+        _raise(_LIBRARY.spdx_check(self._list, _number(mode), _bytes(_encoded(text))))
 
     def canonical(self, text: Text, mode: int = STRICT) -> str:
         """The canonical text of an expression."""
-        return self._text(_LIBRARY.spdx_canonical, mode, _bytes(_encoded(text)))
+        return self._text(_LIBRARY.spdx_canonical, _number(mode), _bytes(_encoded(text)))
 
     def normal(self, text: Text, mode: int = STRICT) -> str:
         """The one text of its tree."""
-        return self._text(_LIBRARY.spdx_normal, mode, _bytes(_encoded(text)))
+        return self._text(_LIBRARY.spdx_normal, _number(mode), _bytes(_encoded(text)))
 
     def fix(self, text: Text) -> Optional[str]:
         """What to write in place of a text that is refused, where there is a fix."""
@@ -205,7 +227,7 @@ class Licences:
 
     def evaluate(self, text: Text, licensees: Iterable[Text], mode: int = STRICT) -> bool:
         """Whether those who hold these licences may use what comes under the expression."""
-        report = _LIBRARY.spdx_evaluate(self._list, mode, _bytes(_encoded(text)), _bytes(_joined(licensees)))
+        report = _LIBRARY.spdx_evaluate(self._list, _number(mode), _bytes(_encoded(text)), _bytes(_joined(licensees)))
         if report.status == _UNMET:
             return False
         _raise(report)
@@ -213,7 +235,7 @@ class Licences:
 
     def requirements(self, text: Text, mode: int = STRICT) -> list[str]:
         """The requirements of an expression, from left to right."""
-        return self._text(_LIBRARY.spdx_requirements, mode, _bytes(_encoded(text))).split("\n")[:-1]
+        return self._text(_LIBRARY.spdx_requirements, _number(mode), _bytes(_encoded(text))).split("\n")[:-1]
 
     def evaluate_bits(self, text: Text, met: Iterable[bool], mode: int = STRICT) -> bool:
         """Whether the expression is true where each of its `requirements`, in their order, is met or not. `ValueError`
@@ -222,7 +244,7 @@ class Licences:
         bits = bytearray(len(answers) // 8 + 1)
         for place, answer in enumerate(answers):
             bits[place // 8] |= answer << place % 8
-        report = _LIBRARY.spdx_evaluate_bits(self._list, mode, _bytes(_encoded(text)), bytes(bits), len(answers))
+        report = _LIBRARY.spdx_evaluate_bits(self._list, _number(mode), _bytes(_encoded(text)), bytes(bits), len(answers))
         if report.status == _UNMET:
             return False
         if report.status == _ARGUMENT and report.number:
@@ -232,14 +254,14 @@ class Licences:
 
     def choose(self, text: Text, licensees: Iterable[Text], mode: int = STRICT) -> list[str]:
         """The requirements of the least choice among the licensees; `Unmet` where there is none."""
-        chosen = self._text(_LIBRARY.spdx_choose, mode, _bytes(_encoded(text)), _bytes(_joined(licensees)))
+        chosen = self._text(_LIBRARY.spdx_choose, _number(mode), _bytes(_encoded(text)), _bytes(_joined(licensees)))
         return chosen.split("\n")[:-1]
 
     def lines(self, texts: Iterable[Text], licensees: Iterable[Text] = (), mode: int = STRICT) -> Lines:
         """The verdict on each text, by one call."""
         given = _bytes(_joined(texts))
         report, out = _written(
-            _LIBRARY.spdx_lines, self._list, mode, _bytes(_joined(licensees)), given, guess=4 * given.length + 256
+            _LIBRARY.spdx_lines, self._list, _number(mode), _bytes(_joined(licensees)), given, guess=4 * given.length + 256
         )
         _raise(report)
         return Lines(out.decode().split("\n")[:-1], report.lines, report.refused)

@@ -43,6 +43,15 @@ def refused_by(call, *given):
     return None
 
 
+def raises(error, call, *given):
+    """Whether the call raises this error, and no other."""
+    try:
+        call(*given)
+    except error:
+        return True
+    return False
+
+
 def main(list_path, corpus_path, *wanted_paths):
     *wanted_paths, bits_path, each = wanted_paths
     licences = spdx.Licences.read(list_path)
@@ -92,13 +101,21 @@ def main(list_path, corpus_path, *wanted_paths):
             expect(False, "a wrong argument")
         except spdx.SpdxError as error:
             expect(not isinstance(error, spdx.Refused), "a wrong argument")
+    for wrong in (5, None, ["MIT"]):
+        expect(raises(TypeError, licences.check, wrong), "no text")
+    for one in ("MIT", b"MIT"):
+        expect(raises(TypeError, licences.evaluate, "MIT", one), "one text for several")
+    for number in (-1, 2**32, 2**64):
+        expect(raises(ValueError, licences.check, "MIT", number), "a mode of more than 32 bits")
+        expect(raises(ValueError, spdx.reason, number), "a reason of more than 32 bits")
+    expect(raises(TypeError, spdx.Licences, 5), "a number for a list")
     try:
         spdx.Licences(b"{}")
         expect(False, "no list")
     except spdx.SpdxError:
         expect(True, "no list")
-    with ThreadPoolExecutor(4) as pool:
-        answers = list(pool.map(lambda _: licences.lines(corpus, HELD).refused, range(4)))
+    with ThreadPoolExecutor(8) as pool:
+        answers = list(pool.map(lambda _: licences.lines(corpus, HELD).refused, range(8)))
     expect(len(set(answers)) == 1, "threads")
     print(f"{sum(results)} passed, {len(results) - sum(results)} failed")
     return not all(results)

@@ -1,7 +1,15 @@
 //! A stack of truths, packed 64 to a word.
 //!
-//! The contracts see a list, the newest truth first, and the room of the stack. How the truths lie
-//! in words is private: a word is itself a small stack, whose lowest bit is its newest truth.
+//! The contracts see a list, the newest truth first, and the room of the stack. How the truths lie in words is
+//! private: a word is itself a small stack, whose lowest bit is its newest truth.
+//!
+//! ```rust
+//! // crates/spdx_evaluation/src/truth.rt
+//! let mut truths = Truths::with_room(alloc, nodes.len())?;
+//! Ok(truth_over(&mut truths, nodes, f))
+//! ```
+//!
+//! It stands on `smallvec` alone, and knows nothing of licences.
 #![tactic(auto)]
 
 ghost use Rattle.std.specs.Prelude.{◌≡◌, ◌+◌, ◌*◌, ◌/◌, ◌^◌, ◌<◌, ◌≤◌, ℕ, Bool, List, [], ◌∷◌, ◌++◌, length, true, false, ◌&&◌, ◌||◌, IfOk, IsOk};

@@ -4,8 +4,8 @@ use Rattle.json.specs.Json.{Json}
 use Rattle.json.specs.Print.{IsNumber}
 use Rattle.json.specs.Tree.{depth, items_depth, members_depth, HasNumbers, ItemsHaveNumbers, MembersHaveNumbers}
 use Rattle.json.proofs.Printed.Decimals.{IsNumber-decimal}
-use Rattle.finding_forms.specs.declared.escapes.Escape.TheVariants.{Raw, Path}
-use Rattle.finding_forms.specs.Escapes.{escaped}
+use Rattle.foreign_text.specs.declared.sinks.Sink.TheVariants.{Message, Path}
+use Rattle.foreign_text.specs.Written.{text_for}
 use Rattle.finding_forms.specs.Message.{message_text}
 use Rattle.finding_forms.specs.Finding.{Aid, nothing, write, names, Told, column_behind, fault_column, before_of, fault_of}
 use Rattle.finding_forms.specs.SarifLog.{text_object, artifact, items_of}
@@ -38,10 +38,10 @@ fixes_numbers path t (names listed) h k = tt
 
 result_numbers : (t : Told) → IsNumbered t → HasNumbers (result_of t)
 result_numbers t h =
-    let path = escaped Path t.file in
+    let path = text_for Path t.file in
     let line = IsNumber-decimal t.line h.line in
     let column = IsNumber-decimal t.column h.column in
-    (tt, (tt, (text_numbers (message_text Raw t), ((location_numbers path t line column, tt), fixes_numbers path t t.aid line column))))
+    (tt, (tt, (text_numbers (message_text Message t), ((location_numbers path t line column, tt), fixes_numbers path t t.aid line column))))
 
 results_numbers : (ts : List Told) → AreNumbered ts → ItemsHaveNumbers (items_of (map result_of ts))
 results_numbers [] h = tt
@@ -55,7 +55,7 @@ fixes_depth path t (write mended) = omega arith
 fixes_depth path t (names listed) = omega arith
 
 result_depth : (t : Told) → depth (result_of t) ≤ 13
-result_depth t = omega (arith, fixes_depth (escaped Path t.file) t t.aid)
+result_depth t = omega (arith, fixes_depth (text_for Path t.file) t t.aid)
 
 results_depth : (ts : List Told) → items_depth (items_of (map result_of ts)) ≤ 13
 results_depth [] = omega arith

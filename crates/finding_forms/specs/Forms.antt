@@ -1,12 +1,12 @@
 -- A finding in each form.
 use Rattle.std.specs.Prelude.{◌≡◌, ℕ, max, List, [], ◌∷◌, ◌++◌, Bool, false, if◌then◌else◌, chars, codes, decimal, replicate}
 use Rattle.unicode_width.specs.Width.{str_width}
-use Rattle.finding_forms.specs.declared.escapes.Escape.TheVariants.{Shown, Data, Property}
+use Rattle.foreign_text.specs.declared.sinks.Sink.TheVariants.{Line, Command, Property}
 use Rattle.finding_forms.specs.declared.forms.Style.{Style}
 use Rattle.finding_forms.specs.declared.forms.Style.TheVariants.{Plain, Coloured}
 use Rattle.finding_forms.specs.declared.forms.Form.{Form}
 use Rattle.finding_forms.specs.declared.forms.Form.TheVariants.{Human, Short, Json, Github, Sarif}
-use Rattle.finding_forms.specs.Escapes.{escaped}
+use Rattle.foreign_text.specs.Written.{text_for}
 use Rattle.finding_forms.specs.Finding.{Aid, Told, before_of, fault_of, fault_column}
 use Rattle.finding_forms.specs.Message.{helps, help_text, message_text, place_text}
 use Rattle.finding_forms.specs.Json.{HasNoNewline, json_line}
@@ -38,15 +38,15 @@ cyan = codes "[1;36m"
 
 -- what is wrong, to the end of its line
 abbrev pub reason_text : Style → Told → List ℕ
-reason_text style t = codes ": " ++ (painted style red (codes "error") ++ (codes ": " ++ (escaped Shown t.reason ++ 10 ∷ [])))
+reason_text style t = codes ": " ++ (painted style red (codes "error") ++ (codes ": " ++ (text_for Line t.reason ++ 10 ∷ [])))
 
 -- the place, and what is wrong
 abbrev pub reason_line : Style → Told → List ℕ
-reason_line style t = painted style bold (place_text Shown t) ++ reason_text style t
+reason_line style t = painted style bold (place_text Line t) ++ reason_text style t
 
 -- how many columns of a terminal a text takes as it is shown
 abbrev pub shown_width : List ℕ → ℕ
-shown_width text = str_width false (chars (escaped Shown text))
+shown_width text = str_width false (chars (text_for Line text))
 
 -- carets under the fault, one at least; the expression above stands two columns in
 abbrev pub caret_line : Style → Told → List ℕ
@@ -55,11 +55,11 @@ caret_line style t =
 
 abbrev pub help_line : Style → Aid → List ℕ
 help_line style aid =
-    if helps aid then codes "  " ++ (painted style cyan (codes "help") ++ (codes ": " ++ (help_text Shown aid ++ 10 ∷ []))) else []
+    if helps aid then codes "  " ++ (painted style cyan (codes "help") ++ (codes ": " ++ (help_text Line aid ++ 10 ∷ []))) else []
 
 abbrev pub human_text : Style → Told → List ℕ
 human_text style t =
-    reason_line style t ++ (codes "  " ++ (escaped Shown t.expression ++ (10 ∷ (caret_line style t ++ help_line style t.aid))))
+    reason_line style t ++ (codes "  " ++ (text_for Line t.expression ++ (10 ∷ (caret_line style t ++ help_line style t.aid))))
 
 -- ---- a line each
 
@@ -68,7 +68,7 @@ abbrev pub IsOneLine : List ℕ → Type 0
 IsOneLine text = (line : List ℕ) × (text ≡ line ++ 10 ∷ []) × HasNoNewline line
 
 abbrev pub short_text : Told → List ℕ
-short_text t = place_text Shown t ++ (codes ": " ++ (message_text Shown t ++ 10 ∷ []))
+short_text t = place_text Line t ++ (codes ": " ++ (message_text Line t ++ 10 ∷ []))
 
 -- the line and the column of an error of a workflow
 abbrev pub github_place : Told → List ℕ
@@ -77,7 +77,7 @@ github_place t = codes ",line=" ++ (decimal t.line ++ (codes ",col=" ++ (decimal
 -- an error of a workflow
 abbrev pub github_text : Told → List ℕ
 github_text t =
-    codes "::error file=" ++ (escaped Property t.file ++ (github_place t ++ (message_text Data t ++ 10 ∷ [])))
+    codes "::error file=" ++ (text_for Property t.file ++ (github_place t ++ (message_text Command t ++ 10 ∷ [])))
 
 -- ---- any form
 

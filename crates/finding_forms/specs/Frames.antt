@@ -1,11 +1,11 @@
 -- A finding's text round the number of its line, which alone differs between the findings of one expression in one file.
 use Rattle.std.specs.Prelude.{◌≡◌, ℕ, List, [], ◌∷◌, ◌++◌, Bool, true, false, codes, decimal, string_bytes}
-use Rattle.finding_forms.specs.declared.escapes.Escape.TheVariants.{Shown}
+use Rattle.foreign_text.specs.declared.sinks.Sink.TheVariants.{Line}
 use Rattle.finding_forms.specs.declared.forms.Style.{Style}
 use Rattle.finding_forms.specs.declared.forms.Form.{Form}
 use Rattle.finding_forms.specs.declared.forms.Form.TheVariants.{Human, Short, Json, Github, Sarif}
 use Rattle.finding_forms.specs.declared.frames.Frame.{Frame}
-use Rattle.finding_forms.specs.Escapes.{escaped}
+use Rattle.foreign_text.specs.Written.{text_for}
 use Rattle.finding_forms.specs.Finding.{Told, fault_column}
 use Rattle.finding_forms.specs.Message.{message_text}
 use Rattle.finding_forms.specs.Forms.{bold, caret_line, finding_text, help_line, paint_begins, paint_ends, reason_text}
@@ -33,7 +33,7 @@ has_frame Sarif = false
 -- ---- what stands before the number and behind it. Only private clauses cite it.
 
 abbrev pub before_human : Style → List ℕ → List ℕ
-before_human style file = paint_begins style bold ++ (escaped Shown file ++ 58 ∷ [])
+before_human style file = paint_begins style bold ++ (text_for Line file ++ 58 ∷ [])
 
 -- the column of the fault, and the end of the place
 abbrev pub column_human : Style → Told → List ℕ
@@ -41,10 +41,10 @@ column_human style t = 58 ∷ (decimal (fault_column t) ++ paint_ends style)
 
 abbrev pub behind_human : Style → Told → List ℕ
 behind_human style t =
-    column_human style t ++ (reason_text style t ++ (codes "  " ++ (escaped Shown t.expression ++ (10 ∷ (caret_line style t ++ help_line style t.aid)))))
+    column_human style t ++ (reason_text style t ++ (codes "  " ++ (text_for Line t.expression ++ (10 ∷ (caret_line style t ++ help_line style t.aid)))))
 
 abbrev pub before_short : List ℕ → List ℕ
-before_short file = escaped Shown file ++ 58 ∷ []
+before_short file = text_for Line file ++ 58 ∷ []
 
 abbrev pub behind_short : Told → List ℕ
-behind_short t = 58 ∷ (decimal (fault_column t) ++ (codes ": " ++ (message_text Shown t ++ 10 ∷ [])))
+behind_short t = 58 ∷ (decimal (fault_column t) ++ (codes ": " ++ (message_text Line t ++ 10 ∷ [])))

@@ -1,5 +1,5 @@
 pub mod Finding
-pub mod Escapes
+pub mod Rule
 pub mod Message
 pub mod Json
 pub mod JsonTokens

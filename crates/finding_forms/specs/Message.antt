@@ -1,7 +1,7 @@
 -- What is wrong and what helps, as one text, and the place.
 use Rattle.std.specs.Prelude.{ℕ, List, [], ◌∷◌, ◌++◌, Bool, true, false, if◌then◌else◌, codes, decimal}
-use Rattle.finding_forms.specs.declared.escapes.Escape.{Escape}
-use Rattle.finding_forms.specs.Escapes.{escaped}
+use Rattle.foreign_text.specs.declared.sinks.Sink.{Sink}
+use Rattle.foreign_text.specs.Written.{text_for}
 use Rattle.finding_forms.specs.Finding.{Aid, nothing, write, names, Told, fault_column}
 
 abbrev pub helps : Aid → Bool
@@ -11,16 +11,16 @@ helps (names []) = false
 helps (names (first ∷ others)) = true
 
 -- the text between backquotes
-abbrev pub named : Escape → List ℕ → List ℕ
-named how text = codes "`" ++ (escaped how text ++ codes "`")
+abbrev pub named : Sink → List ℕ → List ℕ
+named how text = codes "`" ++ (text_for how text ++ codes "`")
 
 -- what follows the first of several names: commas, and `or` before the last
-abbrev pub other_names : Escape → List (List ℕ) → List ℕ
+abbrev pub other_names : Sink → List (List ℕ) → List ℕ
 other_names how [] = []
 other_names how (last ∷ []) = codes " or " ++ named how last
 other_names how (name ∷ next ∷ others) = codes ", " ++ (named how name ++ other_names how (next ∷ others))
 
-abbrev pub help_text : Escape → Aid → List ℕ
+abbrev pub help_text : Sink → Aid → List ℕ
 help_text how nothing = []
 help_text how (write mended) = codes "write " ++ named how mended
 help_text how (names []) = []
@@ -28,9 +28,9 @@ help_text how (names (first ∷ others)) =
     codes "did you mean " ++ (named how first ++ (other_names how others ++ codes "?"))
 
 -- the reason, and behind it what helps
-abbrev pub message_text : Escape → Told → List ℕ
-message_text how t = escaped how t.reason ++ (if helps t.aid then codes "; " ++ help_text how t.aid else [])
+abbrev pub message_text : Sink → Told → List ℕ
+message_text how t = text_for how t.reason ++ (if helps t.aid then codes "; " ++ help_text how t.aid else [])
 
 -- the file, the line and the column of the fault
-abbrev pub place_text : Escape → Told → List ℕ
-place_text how t = escaped how t.file ++ (58 ∷ (decimal t.line ++ (58 ∷ decimal (fault_column t))))
+abbrev pub place_text : Sink → Told → List ℕ
+place_text how t = text_for how t.file ++ (58 ∷ (decimal t.line ++ (58 ∷ decimal (fault_column t))))

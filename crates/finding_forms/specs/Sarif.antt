@@ -4,8 +4,9 @@ use Rattle.json.specs.Json.{Json, number, string, array, object, document, Items
 use Rattle.json.specs.Token.{Token}
 use Rattle.json.specs.Print.{print}
 use Rattle.json.specs.Tree.{json_tokens}
-use Rattle.finding_forms.specs.declared.escapes.Escape.TheVariants.{Raw, Path, Rule}
-use Rattle.finding_forms.specs.Escapes.{escaped}
+use Rattle.foreign_text.specs.declared.sinks.Sink.TheVariants.{Message, Path}
+use Rattle.foreign_text.specs.Written.{text_for}
+use Rattle.finding_forms.specs.Rule.{rule_name}
 use Rattle.finding_forms.specs.Finding.{Aid, nothing, write, names, Told, column_behind, fault_column, fault_of}
 use Rattle.finding_forms.specs.Message.{message_text}
 use Rattle.finding_forms.specs.SarifLog.{text_object, artifact, log_of, log_text}
@@ -54,11 +55,11 @@ fix_members path t = fixes_of path t t.aid
 -- the reason with hyphens names the rule
 abbrev pub result_of : Told → Json
 result_of t =
-    let path = escaped Path t.file in
+    let path = text_for Path t.file in
     object
-    (member (codes "ruleId") (string (escaped Rule t.reason))
+    (member (codes "ruleId") (string (rule_name t.reason))
     (member (codes "level") (string (codes "error"))
-    (member (codes "message") (text_object (message_text Raw t))
+    (member (codes "message") (text_object (message_text Message t))
     (member (codes "locations") (array (item (location path t) no_items)) (fix_members path t)))))
 
 abbrev pub sarif_result : Told → List ℕ

@@ -5,11 +5,11 @@ ghost use Rattle.finding_forms.specs.Finding.{told, aid_of};
 ghost use Rattle.finding_forms.specs.Forms.{caret_line, help_line, human_text, paint_begins, paint_ends, painted, reason_text, shown_width};
 ghost use Rattle.finding_forms.specs.Frames.{before_human, behind_human, column_human, framed, on_line};
 
-use crate::escapes::{Escape, escaped_text, put_escaped};
 use crate::findings::{Finding, Help};
 use crate::forms::Style;
 use crate::frames::Frame;
 use crate::messages::{put_column, put_help};
+use foreign_text::{Sink, put_text, text_for};
 use std::alloc::{AllocError, Global};
 use unicode_width::UnicodeWidthStr;
 
@@ -53,7 +53,7 @@ fn before_human(alloc: Global, style: Style, file: &str) -> Result<String, Alloc
 {
     let mut lines = String::new(alloc);
     begin_paint(&mut lines, style, "[1m")?;
-    put_escaped(&mut lines, Escape::Shown, file)?;
+    put_text(&mut lines, Sink::Line, file)?;
     lines.push(':')?;
     Ok(lines)
 }
@@ -66,7 +66,7 @@ fn behind_human(alloc: Global, style: Style, finding: &Finding<'_>) -> Result<St
     put_place_end(&mut lines, style, finding)?;
     put_reason(&mut lines, style, finding)?;
     lines.push_str("  ")?;
-    put_escaped(&mut lines, Escape::Shown, finding.expression)?;
+    put_text(&mut lines, Sink::Line, finding.expression)?;
     lines.push('\n')?;
     put_carets(alloc, &mut lines, style, finding)?;
     put_help_line(&mut lines, style, &finding.help)?;
@@ -91,7 +91,7 @@ fn put_reason(lines: &mut String, style: Style, finding: &Finding<'_>) -> Result
     lines.push_str(": ")?;
     put_painted(lines, style, "[1;31m", "error")?;
     lines.push_str(": ")?;
-    put_escaped(lines, Escape::Shown, finding.reason)?;
+    put_text(lines, Sink::Line, finding.reason)?;
     lines.push('\n')?;
     Ok(())
 }
@@ -127,7 +127,7 @@ fn put_help_line(lines: &mut String, style: Style, help: &Help<'_>) -> Result<()
     lines.push_str("  ")?;
     put_painted(lines, style, "[1;36m", "help")?;
     lines.push_str(": ")?;
-    put_help(lines, Escape::Shown, help)?;
+    put_help(lines, Sink::Line, help)?;
     lines.push('\n')
 }
 
@@ -135,7 +135,7 @@ fn put_help_line(lines: &mut String, style: Style, help: &Help<'_>) -> Result<()
 fn shown_width(alloc: Global, text: &str) -> Result<usize, AllocError>
     ensures { IfOk result (λ width. width ≡ shown_width text.now) }
 {
-    let shown = escaped_text(alloc, Escape::Shown, text)?;
+    let shown = text_for(alloc, Sink::Line, text)?;
     Ok(shown.as_str().width())
 }
 

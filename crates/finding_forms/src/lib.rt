@@ -3,18 +3,17 @@
 #![tactic(auto)]
 
 mod carets;
-mod escapes;
 mod findings;
 mod forms;
 mod frames;
 mod json_form;
 mod line_forms;
 mod messages;
+mod rules;
 mod sarif_form;
 mod total_line;
 
 pub use carets::put_human;
-pub use escapes::{Escape, escaped_text, put_escaped};
 pub use findings::{Finding, Help, Place};
 pub use forms::{Form, Style, put_beginning, put_ending, put_finding};
 pub use frames::{Frame, frame_of};

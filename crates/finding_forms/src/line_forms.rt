@@ -5,10 +5,10 @@ ghost use Rattle.finding_forms.specs.Finding.{told};
 ghost use Rattle.finding_forms.specs.Forms.{IsOneLine, short_text, github_place, github_text};
 ghost use Rattle.finding_forms.specs.Frames.{before_short, behind_short, framed, on_line};
 
-use crate::escapes::{Escape, escaped_text, put_escaped};
 use crate::findings::Finding;
 use crate::frames::Frame;
 use crate::messages::{put_column, put_message};
+use foreign_text::{Sink, put_text, text_for};
 use std::alloc::{AllocError, Global};
 
 /// Appends a finding as one line: `deps.txt:3:1: unknown term; did you mean `MIT`?`.
@@ -39,7 +39,7 @@ pub(crate) fn short_frame(alloc: Global, finding: &Finding<'_>) -> Result<Frame,
 fn before_short(alloc: Global, file: &str) -> Result<String, AllocError>
     ensures { IfOk result (λ line. string_bytes line ≡ before_short file.now) }
 {
-    let mut line = escaped_text(alloc, Escape::Shown, file)?;
+    let mut line = text_for(alloc, Sink::Line, file)?;
     line.push(':')?;
     Ok(line)
 }
@@ -51,7 +51,7 @@ fn behind_short(alloc: Global, finding: &Finding<'_>) -> Result<String, AllocErr
     let mut line = String::new(alloc);
     put_column(&mut line, finding)?;
     line.push_str(": ")?;
-    put_message(&mut line, Escape::Shown, finding)?;
+    put_message(&mut line, Sink::Line, finding)?;
     line.push('\n')?;
     Ok(line)
 }
@@ -79,9 +79,9 @@ fn github_line(alloc: Global, finding: &Finding<'_>) -> Result<String, AllocErro
 {
     let mut line = String::new(alloc);
     line.push_str("::error file=")?;
-    put_escaped(&mut line, Escape::Property, finding.place.file)?;
+    put_text(&mut line, Sink::Property, finding.place.file)?;
     put_properties(&mut line, finding)?;
-    put_message(&mut line, Escape::Data, finding)?;
+    put_message(&mut line, Sink::Command, finding)?;
     line.push('\n')?;
     Ok(line)
 }

@@ -5,8 +5,8 @@ ghost use Rattle.std.specs.Borrow.{Bor};
 ghost use Rattle.finding_forms.specs.Finding.{told, aid_of, fault_column, names as name_aid};
 ghost use Rattle.finding_forms.specs.Message.{named, other_names, help_text, message_text};
 
-use crate::escapes::{Escape, put_escaped};
 use crate::findings::{Finding, Help};
+use foreign_text::{Sink, put_text};
 use std::alloc::AllocError;
 
 /// Appends a colon and the column of the fault.
@@ -24,13 +24,13 @@ pub(crate) fn put_column(line: &mut String, finding: &Finding<'_>) -> Result<(),
 /// Appends the reason, and behind it what helps.
 pub(crate) fn put_message(
     line: &mut String,
-    how: Escape,
+    how: Sink,
     finding: &Finding<'_>,
 ) -> Result<(), AllocError>
     ensures { OnOk result (
         string_bytes line.new ≡ string_bytes line.old ++ message_text how (told finding.now)) }
 {
-    put_escaped(line, how, finding.reason)?;
+    put_text(line, how, finding.reason)?;
     if !finding.help.helps() {
         return Ok(());
     }
@@ -39,7 +39,7 @@ pub(crate) fn put_message(
 }
 
 /// Appends what helps.
-pub(crate) fn put_help(line: &mut String, how: Escape, help: &Help<'_>) -> Result<(), AllocError>
+pub(crate) fn put_help(line: &mut String, how: Sink, help: &Help<'_>) -> Result<(), AllocError>
     ensures { OnOk result (
         string_bytes line.new ≡ string_bytes line.old ++ help_text how (aid_of help.now)) }
 {
@@ -53,16 +53,16 @@ pub(crate) fn put_help(line: &mut String, how: Escape, help: &Help<'_>) -> Resul
     }
 }
 
-fn put_named(line: &mut String, how: Escape, name: &str) -> Result<(), AllocError>
+fn put_named(line: &mut String, how: Sink, name: &str) -> Result<(), AllocError>
     ensures { OnOk result (
         string_bytes line.new ≡ string_bytes line.old ++ named how name.now) }
 {
     line.push('`')?;
-    put_escaped(line, how, name)?;
+    put_text(line, how, name)?;
     line.push('`')
 }
 
-fn put_names(line: &mut String, how: Escape, names: &[&str]) -> Result<(), AllocError>
+fn put_names(line: &mut String, how: Sink, names: &[&str]) -> Result<(), AllocError>
     ensures { OnOk result (string_bytes line.new ≡
         string_bytes line.old
         ++ help_text how (name_aid (map (λ (x : Bor (List ℕ)). x.now) names.now))) }
@@ -78,7 +78,7 @@ fn put_names(line: &mut String, how: Escape, names: &[&str]) -> Result<(), Alloc
 }
 
 // Commas stand between the names, and `or` before the last.
-fn put_others(line: &mut String, how: Escape, names: &[&str]) -> Result<(), AllocError>
+fn put_others(line: &mut String, how: Sink, names: &[&str]) -> Result<(), AllocError>
     ensures { OnOk result (string_bytes line.new ≡
         string_bytes line.old ++ other_names how (map (λ (x : Bor (List ℕ)). x.now) names.now)) }
 {

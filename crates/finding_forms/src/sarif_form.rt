@@ -7,9 +7,10 @@ ghost use Rattle.finding_forms.specs.Message.{message_text};
 ghost use Rattle.finding_forms.specs.Sarif.{LogReadsBack, fix, fix_members, location, region, region_tokens, replacement, result_of, sarif_result};
 ghost use Rattle.finding_forms.specs.SarifLog.{artifact, sarif_beginning, sarif_ending, text_object, tool_tokens};
 
-use crate::escapes::{Escape, escaped_text};
 use crate::findings::{Finding, Help, Place, column_behind};
 use crate::messages::put_message;
+use crate::rules::rule_name;
+use foreign_text::{Sink, text_for};
 use json::Writer;
 use std::alloc::{AllocError, Global};
 
@@ -118,8 +119,8 @@ fn put_result(alloc: Global, writer: &mut Writer, finding: &Finding<'_>) -> Resu
         writer.new.tokens ≡ writer.old.tokens ++ json_tokens (result_of (told finding.now))) }
     ensures before { OnOk result (writer.new.before ≡ writer.old.before) }
 {
-    let rule = escaped_text(alloc, Escape::Rule, finding.reason)?;
-    let path = escaped_text(alloc, Escape::Path, finding.place.file)?;
+    let rule = rule_name(alloc, finding.reason)?;
+    let path = text_for(alloc, Sink::Path, finding.place.file)?;
     writer.begin_object()?;
     writer.key("ruleId")?;
     writer.string(rule.as_str())?;
@@ -142,11 +143,11 @@ fn put_message_object(
 ) -> Result<(), AllocError>
     ensures tokens { OnOk result (writer.new.tokens ≡
         writer.old.tokens
-        ++ json_tokens (text_object (message_text Escape.Raw (told finding.now)))) }
+        ++ json_tokens (text_object (message_text Sink.Message (told finding.now)))) }
     ensures before { OnOk result (writer.new.before ≡ writer.old.before) }
 {
     let mut message = String::new(alloc);
-    put_message(&mut message, Escape::Raw, finding)?;
+    put_message(&mut message, Sink::Message, finding)?;
     put_text_object(writer, message.as_str())?;
     Ok(())
 }

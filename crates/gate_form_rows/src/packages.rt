@@ -1,6 +1,6 @@
 // Packages, and what a policy says of them.
 
-use gate_forms::{Node, Report, Verdict, Why};
+use gate_forms::{Baseline, Node, Report, Verdict, Why};
 
 pub const HOSTILE: &str =
     "</h3><script>alert('1')</script>\"&amp;\x1b[31m\t\u{202e}名::\r\n::error::x";
@@ -20,6 +20,7 @@ pub fn package<'r>(
         version: Some("1.0.14"),
         expression,
         verdict,
+        baseline: Baseline::Absent,
         why,
         nodes,
     }

@@ -52,7 +52,7 @@ fn put_each(alloc: Global, shown: &mut Vec<u8>, report: &Report<'_>) -> Result<(
         unstated: 0,
     };
     put_totals(alloc, shown, &totals)?;
-    put_unused(alloc, shown, "policy.toml", "allow \"Zlib\"\n")?;
+    put_unused(alloc, shown, "policy.toml", &["allow \"Zlib\"\n"])?;
     put_page(
         alloc,
         shown,

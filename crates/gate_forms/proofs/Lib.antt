@@ -1,4 +1,5 @@
 mod Tokens
+mod RefusalLaws
 mod JsonLaws
 mod PageLaws
 mod SarifLaw

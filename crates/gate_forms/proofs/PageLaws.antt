@@ -3,7 +3,7 @@ use Rattle.std.proofs.Common.{◌≡◌, ◌≢◌, ℕ, List, [], ◌∷◌, �
 use Rattle.std.proofs.lemmas.Bool.Decides.{nat_tests}
 use Rattle.html_text.specs.Text.{HasNoMarkup, is_mark, page_text}
 use Rattle.html_text.proofs.Laws.{no_markup}
-use Rattle.finding_forms.specs.declared.escapes.Escape.TheVariants.{Raw}
+use Rattle.foreign_text.specs.declared.sinks.Sink.TheVariants.{Line}
 use Rattle.gate_forms.specs.declared.reports.Node.{Node}
 use Rattle.gate_forms.specs.declared.reports.Verdict.{Verdict}
 use Rattle.gate_forms.specs.declared.reports.Verdict.TheVariants.{Allowed, ByException, Refused, Unstated}
@@ -14,7 +14,7 @@ use Rattle.gate_forms.specs.declared.reports.Totals.{Totals}
 use Rattle.gate_forms.specs.Report.{advice_text, package_text, part_text, verdict_text}
 use Rattle.gate_forms.specs.Totals.{totals_words}
 use Rattle.gate_forms.specs.Top.{page_top}
-use Rattle.gate_forms.specs.Page.{element, node_begins, node_part, tree_part, why_part, head_part, refused_part, item_sign, unstated_part, allowed_part, in_refused, in_unstated, in_allowed, refused_section, unstated_section, allowed_section, title_part, page_with, marks, left_out}
+use Rattle.gate_forms.specs.Page.{element, node_begins, node_part, tree_part, why_part, news_part, head_part, refused_part, item_sign, unstated_part, allowed_part, in_refused, in_unstated, in_allowed, refused_section, unstated_section, allowed_section, title_part, page_with, marks, left_out}
 
 -- the two have the same marks
 record Same (xs ys : List ℕ) : Type 0 where
@@ -55,7 +55,7 @@ each f g h (x ∷ xs) = both (h x) (each f g h xs)
 -- ---- a refused package
 
 a_node : (node : Node) → Same (node_part page_text node) (node_part left_out node)
-a_node node = an_element (node_begins node) (part_text Raw node.part) (codes "</li>\n")
+a_node node = an_element (node_begins node) (part_text Line node.part) (codes "</li>\n")
 
 a_tree : (nodes : List Node) → Same (tree_part page_text nodes) (tree_part left_out nodes)
 a_tree nodes = both (equal (codes "<ul class=\"tree\">\n")) (both (each (node_part page_text) (node_part left_out) a_node nodes) (equal (codes "</ul>\n")))
@@ -63,13 +63,14 @@ a_tree nodes = both (equal (codes "<ul class=\"tree\">\n")) (both (each (node_pa
 a_why : (why : Why) → Same (why_part page_text why) (why_part left_out why)
 a_why Nothing = equal []
 a_why (Fault reason start end) = an_element (codes "<p class=\"no\">") reason.now (codes "</p>\n")
-a_why (Missing leaves advice) = an_element (codes "<p class=\"advice\">") (advice_text Raw advice) (codes "</p>\n")
+a_why (Missing leaves advice) = an_element (codes "<p class=\"advice\">") (advice_text Line advice) (codes "</p>\n")
 
 a_head : (r : Report) → Same (head_part page_text r) (head_part left_out r)
 a_head r =
-    both (an_element (codes "<article>\n<h3>") (package_text Raw r) (codes "</h3>\n"))
+    both (an_element (codes "<article>\n<h3>") (package_text Line r) (codes "</h3>\n"))
+    (both (equal (news_part r.baseline))
     (both (an_element (codes "<p class=\"file\">") r.file.now (codes "</p>\n"))
-    (an_element (codes "<p class=\"no\"><b>-</b> ") (verdict_text Raw r) (codes "</p>\n")))
+    (an_element (codes "<p class=\"no\"><b>-</b> ") (verdict_text Line r) (codes "</p>\n"))))
 
 a_refused : (r : Report) → Same (refused_part page_text r) (refused_part left_out r)
 a_refused r =
@@ -81,13 +82,14 @@ a_refused r =
 
 an_unstated : (allowed : Bool) (r : Report) → Same (unstated_part page_text allowed r) (unstated_part left_out allowed r)
 an_unstated allowed r =
-    both (an_element (item_sign allowed) (package_text Raw r) (codes " ")) (an_element (codes "<span class=\"file\">") r.file.now (codes "</span></li>\n"))
+    both (an_element (item_sign allowed) (package_text Line r) (codes " "))
+    (both (equal (news_part r.baseline)) (an_element (codes "<span class=\"file\">") r.file.now (codes "</span></li>\n")))
 
 an_allowed : (r : Report) → Same (allowed_part page_text r) (allowed_part left_out r)
 an_allowed r =
-    both (an_element (codes "<li class=\"yes\"><b>+</b> ") (package_text Raw r) (codes ": "))
+    both (an_element (codes "<li class=\"yes\"><b>+</b> ") (package_text Line r) (codes ": "))
     (both (an_element [] r.expression.now (codes " "))
-    (an_element (codes "<span class=\"file\">") (verdict_text Raw r) (codes "</span></li>\n")))
+    (an_element (codes "<span class=\"file\">") (verdict_text Line r) (codes "</span></li>\n")))
 
 -- ---- the page
 

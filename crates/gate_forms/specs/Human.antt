@@ -1,17 +1,17 @@
 -- A package as people read it.
-use Rattle.std.specs.Prelude.{ℕ, ◌+◌, ◌*◌, ◌-◌, max, min, List, [], ◌∷◌, ◌++◌, Bool, false, nat_le, if◌then◌else◌, Option, chars, codes, decimal, flat_map, length, replicate, slice_range, take}
-use Rattle.std.specs.Borrow.{Bor}
+use Rattle.std.specs.Prelude.{ℕ, ◌+◌, ◌*◌, ◌-◌, max, min, List, [], ◌∷◌, ◌++◌, Bool, false, nat_le, if◌then◌else◌, chars, codes, decimal, flat_map, length, replicate, slice_range, take}
 use Rattle.unicode_width.specs.Width.{str_width}
 use Rattle.finding_forms.specs.declared.forms.Style.{Style}
 use Rattle.finding_forms.specs.Finding.{place_in}
 use Rattle.finding_forms.specs.Forms.{bold, red, painted}
-use Rattle.finding_forms.specs.declared.escapes.Escape.TheVariants.{Shown}
+use Rattle.foreign_text.specs.declared.sinks.Sink.TheVariants.{Line}
+use Rattle.gate_forms.specs.declared.reports.Advice.{Advice}
 use Rattle.gate_forms.specs.declared.reports.Leaf.{Leaf}
 use Rattle.gate_forms.specs.declared.reports.Node.{Node}
 use Rattle.gate_forms.specs.declared.reports.Why.{Why}
 use Rattle.gate_forms.specs.declared.reports.Why.TheVariants.{Nothing, Fault, Missing}
 use Rattle.gate_forms.specs.declared.reports.Report.{Report}
-use Rattle.finding_forms.specs.Escapes.{escaped}
+use Rattle.foreign_text.specs.Written.{text_for}
 use Rattle.gate_forms.specs.Report.{advice_text, is_part_accepted, is_refused, leaf_decided, package_text, part_text, verdict_text}
 
 -- ---- carets
@@ -25,7 +25,7 @@ marked_of text start end = slice_range text (place_in text start) (max (place_in
 
 -- how many columns of a terminal a text takes as it is shown
 abbrev pub shown_width : List ℕ → ℕ
-shown_width text = str_width false (chars (escaped Shown text))
+shown_width text = str_width false (chars (text_for Line text))
 
 -- carets under the part, one at least; the expression above stands two columns in
 abbrev pub caret_part : Style → List ℕ → ℕ → ℕ → List ℕ
@@ -37,20 +37,20 @@ caret_part style text start end =
 
 abbrev pub package_line : Style → Report → List ℕ
 package_line style r =
-    painted style bold (package_text Shown r) ++ (codes ": " ++ (verdict_text Shown r ++ 10 ∷ []))
+    painted style bold (package_text Line r) ++ (codes ": " ++ (verdict_text Line r ++ 10 ∷ []))
 
 abbrev pub head_line : Style → Report → List ℕ
 head_line style r = painted style red (codes "error") ++ (codes ": " ++ package_line style r)
 
 abbrev pub expression_line : List ℕ → List ℕ
 expression_line [] = []
-expression_line (b ∷ bs) = codes "  " ++ (escaped Shown (b ∷ bs) ++ 10 ∷ [])
+expression_line (b ∷ bs) = codes "  " ++ (text_for Line (b ∷ bs) ++ 10 ∷ [])
 
 abbrev pub fault_line : Style → List ℕ → List ℕ → ℕ → ℕ → List ℕ
-fault_line style text reason start end = caret_part style text start end ++ (escaped Shown reason ++ 10 ∷ [])
+fault_line style text reason start end = caret_part style text start end ++ (text_for Line reason ++ 10 ∷ [])
 
 abbrev pub leaf_line : Style → List ℕ → Leaf → List ℕ
-leaf_line style text leaf = caret_part style text leaf.start leaf.end ++ (leaf_decided Shown leaf ++ 10 ∷ [])
+leaf_line style text leaf = caret_part style text leaf.start leaf.end ++ (leaf_decided Line leaf ++ 10 ∷ [])
 
 -- how many more there are than twenty
 abbrev pub more_line : ℕ → List ℕ
@@ -59,8 +59,8 @@ more_line n = if nat_le n 20 then [] else codes "  and " ++ (decimal (n - 20) ++
 abbrev pub leaf_lines : Style → List ℕ → List Leaf → List ℕ
 leaf_lines style text leaves = flat_map (leaf_line style text) (take 20 leaves) ++ more_line (length leaves)
 
-abbrev pub advice_line : Option (Bor (List (Bor (List ℕ)))) → List ℕ
-advice_line advice = codes "  " ++ (advice_text Shown advice ++ 10 ∷ [])
+abbrev pub advice_line : Advice → List ℕ
+advice_line advice = codes "  " ++ (advice_text Line advice ++ 10 ∷ [])
 
 abbrev pub why_lines : Style → List ℕ → Why → List ℕ
 why_lines style text Nothing = []
@@ -90,7 +90,7 @@ indent depth = replicate (2 + 2 * min depth 24) 32 ++ (if nat_le depth 24 then [
 
 abbrev pub node_line : Style → Node → List ℕ
 node_line style node =
-    indent node.depth ++ (sign style (is_part_accepted node.part) ++ (32 ∷ (part_text Shown node.part ++ 10 ∷ [])))
+    indent node.depth ++ (sign style (is_part_accepted node.part) ++ (32 ∷ (part_text Line node.part ++ 10 ∷ [])))
 
 abbrev pub closing_lines : Style → List ℕ → Why → List ℕ
 closing_lines style text Nothing = []

@@ -6,6 +6,10 @@ use Rattle.json.specs.Json.{Json, null, number, string, array, object, Items, no
 use Rattle.json.specs.Print.{print}
 use Rattle.json.specs.Tree.{json_tokens}
 use Rattle.finding_forms.specs.Json.{texts_of}
+use Rattle.gate_forms.specs.declared.reports.Advice.{Advice}
+use Rattle.gate_forms.specs.declared.reports.Advice.TheVariants.{Unmet, Allow, NotSought}
+use Rattle.gate_forms.specs.declared.reports.Baseline.{Baseline}
+use Rattle.gate_forms.specs.declared.reports.Baseline.TheVariants.{Absent, New, Known}
 use Rattle.gate_forms.specs.declared.reports.Leaf.{Leaf}
 use Rattle.gate_forms.specs.declared.reports.Verdict.{Verdict}
 use Rattle.gate_forms.specs.declared.reports.Verdict.TheVariants.{Allowed, ByException, Refused, Unstated}
@@ -28,10 +32,11 @@ abbrev pub leaf_texts : List Leaf → Items
 leaf_texts [] = no_items
 leaf_texts (leaf ∷ leaves) = item (string leaf.text.now) (leaf_texts leaves)
 
--- the advice stands there exactly where something helps
-abbrev pub advice_members : Option (Bor (List (Bor (List ℕ)))) → Members
-advice_members None = no_members
-advice_members (Some names) = member (codes "advice") (array (texts_of (map (λ (x : Bor (List ℕ)). x.now) names.now))) no_members
+-- `advice` stands there exactly where something helps, `advice_from` where that was not sought
+abbrev pub advice_members : Advice → Members
+advice_members Unmet = no_members
+advice_members (Allow names) = member (codes "advice") (array (texts_of (map (λ (x : Bor (List ℕ)). x.now) names.now))) no_members
+advice_members (NotSought entries) = member (codes "advice_from") (number (decimal entries)) no_members
 
 abbrev pub fault_members : List ℕ → ℕ → ℕ → Members
 fault_members reason start end =
@@ -44,6 +49,12 @@ why_members Nothing = no_members
 why_members (Fault reason start end) = fault_members reason.now start end
 why_members (Missing leaves advice) = member (codes "missing") (array (leaf_texts leaves.now)) (advice_members advice)
 
+-- whether the refusal is known, before the other members; nothing where there is no baseline
+abbrev pub baseline_members : Baseline → Members → Members
+baseline_members Absent more = more
+baseline_members New more = member (codes "baseline") (string (codes "new")) more
+baseline_members Known more = member (codes "baseline") (string (codes "known")) more
+
 abbrev pub json_of : Report → Json
 json_of r =
     object
@@ -51,7 +62,7 @@ json_of r =
     (member (codes "name") (string r.name.now)
     (member (codes "version") (version_json r.version)
     (member (codes "expression") (string r.expression.now)
-    (member (codes "verdict") (string (verdict_word r.verdict)) (why_members r.why))))))
+    (member (codes "verdict") (string (verdict_word r.verdict)) (baseline_members r.baseline (why_members r.why)))))))
 
 abbrev pub json_text : Report → List ℕ
 json_text r = print (json_tokens (json_of r))
@@ -68,6 +79,15 @@ abbrev pub package_tokens : Report → List Token
 package_tokens r =
     Token.key (codes "file") ∷ Token.string r.file.now ∷ Token.key (codes "name") ∷ Token.string r.name.now ∷ Token.key (codes "version") ∷ json_tokens (version_json r.version)
 
+abbrev pub state_tokens : List ℕ → List Token
+state_tokens state = Token.key (codes "baseline") ∷ Token.string state ∷ []
+
+abbrev pub baseline_tokens : Baseline → List Token
+baseline_tokens Absent = []
+baseline_tokens New = state_tokens (codes "new")
+baseline_tokens Known = state_tokens (codes "known")
+
 abbrev pub verdict_tokens : Report → List Token
 verdict_tokens r =
-    Token.key (codes "expression") ∷ Token.string r.expression.now ∷ Token.key (codes "verdict") ∷ Token.string (verdict_word r.verdict) ∷ []
+    Token.key (codes "expression") ∷ Token.string r.expression.now ∷ Token.key (codes "verdict") ∷
+    Token.string (verdict_word r.verdict) ∷ baseline_tokens r.baseline

@@ -1,8 +1,12 @@
 pub mod Report
 pub mod Lines
 pub mod Human
+pub mod Refusals
+pub mod Tellings
 pub mod Totals
+pub mod Summary
 pub mod Top
 pub mod Page
 pub mod Json
 pub mod Sarif
+pub mod Known

@@ -1,7 +1,9 @@
 -- Verdicts as a page of HTML. How a text of others is put is a parameter, so that it can be said what such texts add.
 use Rattle.std.specs.Prelude.{ℕ, min, List, [], ◌∷◌, ◌++◌, Bool, nat_le, if◌then◌else◌, codes, decimal, flat_map}
 use Rattle.html_text.specs.Text.{is_mark}
-use Rattle.finding_forms.specs.declared.escapes.Escape.TheVariants.{Raw}
+use Rattle.foreign_text.specs.declared.sinks.Sink.TheVariants.{Line}
+use Rattle.gate_forms.specs.declared.reports.Baseline.{Baseline}
+use Rattle.gate_forms.specs.declared.reports.Baseline.TheVariants.{Absent, New, Known}
 use Rattle.gate_forms.specs.declared.reports.Node.{Node}
 use Rattle.gate_forms.specs.declared.reports.Verdict.{Verdict}
 use Rattle.gate_forms.specs.declared.reports.Verdict.TheVariants.{Allowed, ByException, Refused, Unstated}
@@ -35,7 +37,7 @@ node_begins node =
     codes "<li style=\"--d:" ++ (decimal (min node.depth 24) ++ (sign_part (is_part_accepted node.part) ++ depth_part node.depth))
 
 abbrev pub node_part : (List ℕ → List ℕ) → Node → List ℕ
-node_part w node = node_begins node ++ (w (part_text Raw node.part) ++ codes "</li>\n")
+node_part w node = node_begins node ++ (w (part_text Line node.part) ++ codes "</li>\n")
 
 abbrev pub tree_part : (List ℕ → List ℕ) → List Node → List ℕ
 tree_part w nodes = codes "<ul class=\"tree\">\n" ++ (flat_map (node_part w) nodes ++ codes "</ul>\n")
@@ -43,14 +45,21 @@ tree_part w nodes = codes "<ul class=\"tree\">\n" ++ (flat_map (node_part w) nod
 abbrev pub why_part : (List ℕ → List ℕ) → Why → List ℕ
 why_part w Nothing = []
 why_part w (Fault reason start end) = element w (codes "<p class=\"no\">") reason.now (codes "</p>\n")
-why_part w (Missing leaves advice) = element w (codes "<p class=\"advice\">") (advice_text Raw advice) (codes "</p>\n")
+why_part w (Missing leaves advice) = element w (codes "<p class=\"advice\">") (advice_text Line advice) (codes "</p>\n")
+
+-- whether the refusal is known, where there is a baseline
+abbrev pub news_part : Baseline → List ℕ
+news_part Absent = []
+news_part New = codes "<b>new</b>\n"
+news_part Known = codes "<span class=\"file\">known</span>\n"
 
 -- the package, its file, and the verdict
 abbrev pub head_part : (List ℕ → List ℕ) → Report → List ℕ
 head_part w r =
-    element w (codes "<article>\n<h3>") (package_text Raw r) (codes "</h3>\n") ++
+    element w (codes "<article>\n<h3>") (package_text Line r) (codes "</h3>\n") ++
+    (news_part r.baseline ++
     (element w (codes "<p class=\"file\">") r.file.now (codes "</p>\n") ++
-    element w (codes "<p class=\"no\"><b>-</b> ") (verdict_text Raw r) (codes "</p>\n"))
+    element w (codes "<p class=\"no\"><b>-</b> ") (verdict_text Line r) (codes "</p>\n")))
 
 abbrev pub refused_part : (List ℕ → List ℕ) → Report → List ℕ
 refused_part w r =
@@ -63,12 +72,13 @@ item_sign accepted = if accepted then codes "<li class=\"yes\"><b>+</b> " else c
 
 abbrev pub unstated_part : (List ℕ → List ℕ) → Bool → Report → List ℕ
 unstated_part w allowed r =
-    element w (item_sign allowed) (package_text Raw r) (codes " ") ++ element w (codes "<span class=\"file\">") r.file.now (codes "</span></li>\n")
+    element w (item_sign allowed) (package_text Line r) (codes " ") ++
+    (news_part r.baseline ++ element w (codes "<span class=\"file\">") r.file.now (codes "</span></li>\n"))
 
 abbrev pub allowed_part : (List ℕ → List ℕ) → Report → List ℕ
 allowed_part w r =
-    element w (codes "<li class=\"yes\"><b>+</b> ") (package_text Raw r) (codes ": ") ++
-    (element w [] r.expression.now (codes " ") ++ element w (codes "<span class=\"file\">") (verdict_text Raw r) (codes "</span></li>\n"))
+    element w (codes "<li class=\"yes\"><b>+</b> ") (package_text Line r) (codes ": ") ++
+    (element w [] r.expression.now (codes " ") ++ element w (codes "<span class=\"file\">") (verdict_text Line r) (codes "</span></li>\n"))
 
 -- ---- the page
 

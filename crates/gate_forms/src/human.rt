@@ -7,8 +7,9 @@ ghost use Rattle.gate_forms.specs.Human.{advice_line, expression_line, fault_lin
 
 use crate::messages::{put_advice, put_decided, put_package, put_verdict};
 use crate::paint::{begin_paint, end_paint, put_carets, put_painted};
-use crate::reports::{Leaf, Report, Why};
-use finding_forms::{Escape, Style, put_escaped};
+use crate::reports::{Advice, Leaf, Report, Why};
+use finding_forms::Style;
+use foreign_text::{Sink, put_text};
 use std::alloc::{AllocError, Global};
 
 /// Appends a refused package as people read it: the package and the verdict, the expression, carets under each part that
@@ -34,7 +35,12 @@ pub fn put_human(
     text.extend_from_slice(lines.as_bytes())
 }
 
-fn refused_lines(alloc: Global, style: Style, report: &Report<'_>) -> Result<String, AllocError>
+/// The lines of a refused package.
+pub(crate) fn refused_lines(
+    alloc: Global,
+    style: Style,
+    report: &Report<'_>,
+) -> Result<String, AllocError>
     ensures { IfOk result (λ lines. string_bytes lines ≡ refused_lines style report.now) }
 {
     let mut lines = String::new(alloc);
@@ -64,22 +70,23 @@ pub(crate) fn put_package_line(
 {
     put_bold_package(lines, style, report)?;
     lines.push_str(": ")?;
-    put_verdict(lines, Escape::Shown, report)?;
+    put_verdict(lines, Sink::Line, report)?;
     lines.push('\n')?;
     Ok(())
 }
 
 fn put_bold_package(lines: &mut String, style: Style, report: &Report<'_>) -> Result<(), AllocError>
     ensures { OnOk result (string_bytes lines.new ≡
-        string_bytes lines.old ++ painted style bold (package_text Escape.Shown report.now)) }
+        string_bytes lines.old ++ painted style bold (package_text Sink.Line report.now)) }
 {
     begin_paint(lines, style, "[1m")?;
-    put_package(lines, Escape::Shown, report)?;
+    put_package(lines, Sink::Line, report)?;
     end_paint(lines, style)?;
     Ok(())
 }
 
-fn put_reasons(
+/// Appends the expression, and why it is refused.
+pub(crate) fn put_reasons(
     alloc: Global,
     lines: &mut String,
     style: Style,
@@ -112,7 +119,7 @@ pub(crate) fn put_expression(lines: &mut String, expression: &str) -> Result<(),
         return Ok(());
     }
     lines.push_str("  ")?;
-    put_escaped(lines, Escape::Shown, expression)?;
+    put_text(lines, Sink::Line, expression)?;
     lines.push('\n')?;
     Ok(())
 }
@@ -131,7 +138,7 @@ pub(crate) fn put_fault(
         string_bytes lines.old ++ fault_line style expression.now reason.now start end) }
 {
     put_carets(alloc, lines, style, expression, start, end)?;
-    put_escaped(lines, Escape::Shown, reason)?;
+    put_text(lines, Sink::Line, reason)?;
     lines.push('\n')?;
     Ok(())
 }
@@ -189,7 +196,7 @@ fn put_leaf_line(
         string_bytes lines.old ++ leaf_line style expression.now leaf.now) }
 {
     put_carets(alloc, lines, style, expression, leaf.start, leaf.end)?;
-    put_decided(lines, Escape::Shown, leaf)?;
+    put_decided(lines, Sink::Line, leaf)?;
     lines.push('\n')?;
     Ok(())
 }
@@ -208,12 +215,12 @@ fn put_more_line(lines: &mut String, count: usize) -> Result<(), AllocError>
 }
 
 /// Appends what would help, as a line.
-pub(crate) fn put_advice_line(lines: &mut String, advice: Option<&[&str]>) -> Result<(), AllocError>
+pub(crate) fn put_advice_line(lines: &mut String, advice: Advice<'_>) -> Result<(), AllocError>
     ensures { OnOk result (
         string_bytes lines.new ≡ string_bytes lines.old ++ advice_line advice.entry) }
 {
     lines.push_str("  ")?;
-    put_advice(lines, Escape::Shown, advice)?;
+    put_advice(lines, Sink::Line, advice)?;
     lines.push('\n')?;
     Ok(())
 }

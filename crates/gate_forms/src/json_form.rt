@@ -6,15 +6,16 @@ ghost use Rattle.json.specs.Json.{document, array};
 ghost use Rattle.json.specs.Tree.{json_tokens, members_tokens};
 ghost use Rattle.finding_forms.specs.Json.{HasNoNewline, texts_of};
 ghost use Rattle.gate_forms.specs.Report.{is_refused};
-ghost use Rattle.gate_forms.specs.Json.{advice_members, fault_members, json_line, json_lines, json_of, json_text, leaf_texts, package_tokens, version_json, verdict_tokens, verdict_word, why_members};
+ghost use Rattle.gate_forms.specs.Json.{advice_members, baseline_tokens, fault_members, json_line, json_lines, json_of, json_text, leaf_texts, package_tokens, state_tokens, version_json, verdict_tokens, verdict_word, why_members};
 
-use crate::reports::{Leaf, Report, Verdict, Why};
+use crate::reports::{Advice, Baseline, Leaf, Report, Verdict, Why};
 use json::Writer;
 use std::alloc::{AllocError, Global};
 
 /// Appends a refused package as a line of JSON, which reads back as what it says: the file, the package and its version,
-/// the expression, the verdict, and the reason with its bytes, or the requirements that are missing and the advice, where
-/// something helps. Of a package that passes nothing is said.
+/// the expression, the verdict, and the reason with its bytes, or the requirements that are missing and what would help:
+/// `advice` where something does, and `advice_from` with the number of entries where it was not sought among so many. With
+/// a baseline, the member `baseline` is `new` or `known`. Of a package that passes nothing is said.
 ///
 /// # Errors
 ///
@@ -83,6 +84,29 @@ fn put_verdict_members(writer: &mut Writer, report: &Report<'_>) -> Result<(), A
     writer.string(report.expression)?;
     writer.key("verdict")?;
     writer.string(report.verdict.word())?;
+    put_baseline_member(writer, report.baseline)?;
+    Ok(())
+}
+
+fn put_baseline_member(writer: &mut Writer, baseline: Baseline) -> Result<(), AllocError>
+    ensures tokens { OnOk result (
+        writer.new.tokens ≡ writer.old.tokens ++ baseline_tokens baseline) }
+    ensures before { OnOk result (writer.new.before ≡ writer.old.before) }
+{
+    match baseline {
+        Baseline::Absent => Ok(()),
+        Baseline::New => put_state(writer, "new"),
+        Baseline::Known => put_state(writer, "known"),
+    }
+}
+
+fn put_state(writer: &mut Writer, state: &str) -> Result<(), AllocError>
+    ensures tokens { OnOk result (
+        writer.new.tokens ≡ writer.old.tokens ++ state_tokens state.now) }
+    ensures before { OnOk result (writer.new.before ≡ writer.old.before) }
+{
+    writer.key("baseline")?;
+    writer.string(state)?;
     Ok(())
 }
 
@@ -137,16 +161,22 @@ fn put_leaf_texts(writer: &mut Writer, leaves: &[Leaf<'_>]) -> Result<(), AllocE
     Ok(())
 }
 
-fn put_advice_members(writer: &mut Writer, advice: Option<&[&str]>) -> Result<(), AllocError>
+fn put_advice_members(writer: &mut Writer, advice: Advice<'_>) -> Result<(), AllocError>
     ensures tokens { OnOk result (writer.new.tokens ≡ writer.old.tokens
         ++ members_tokens (advice_members advice.entry)) }
     ensures before { OnOk result (writer.new.before ≡ writer.old.before) }
 {
     match advice {
-        None => writer.end_object(),
-        Some(names) => {
+        Advice::Unmet => writer.end_object(),
+        Advice::Allow(names) => {
             writer.key("advice")?;
             put_texts(writer, names)?;
+            writer.end_object()?;
+            Ok(())
+        }
+        Advice::NotSought { entries } => {
+            writer.key("advice_from")?;
+            writer.u64(entries as u64)?;
             writer.end_object()?;
             Ok(())
         }

@@ -4,22 +4,30 @@
 
 mod human;
 mod json_form;
+mod known;
 mod lines;
 mod messages;
 mod page;
 mod paint;
 mod pieces;
+mod refusals;
 mod reports;
 mod sarif_form;
+mod summary;
 mod top;
 mod totals;
 mod tree;
 
 pub use human::put_human;
 pub use json_form::put_json;
+pub use known::put_known;
 pub use lines::{put_github, put_short};
 pub use page::put_page;
-pub use reports::{Leaf, Mark, Node, Part, Report, Totals, Verdict, Why};
+pub use refusals::put_refusals;
+pub use reports::{
+    Advice, Baseline, Leaf, Mark, Need, Node, Part, Report, Summary, Totals, Verdict, Why,
+};
 pub use sarif_form::{put_sarif_beginning, put_sarif_ending, put_sarif_result};
+pub use summary::put_summary;
 pub use totals::{put_totals, put_unused};
 pub use tree::put_explained;

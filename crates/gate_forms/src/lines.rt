@@ -5,7 +5,7 @@ ghost use Rattle.gate_forms.specs.Lines.{short_line, short_text, github_line, gi
 
 use crate::messages::put_message;
 use crate::reports::Report;
-use finding_forms::{Escape, put_escaped};
+use foreign_text::{Sink, put_text};
 use std::alloc::{AllocError, Global};
 
 /// Appends a refused package as one line: `Cargo.lock: ring 0.17: refused by policy.toml: OpenSSL not allowed; ..`.
@@ -29,9 +29,9 @@ fn short_line(alloc: Global, report: &Report<'_>) -> Result<String, AllocError>
     ensures { IfOk result (λ line. string_bytes line ≡ short_line report.now) }
 {
     let mut line = String::new(alloc);
-    put_escaped(&mut line, Escape::Shown, report.file)?;
+    put_text(&mut line, Sink::Line, report.file)?;
     line.push_str(": ")?;
-    put_message(&mut line, Escape::Shown, report)?;
+    put_message(&mut line, Sink::Line, report)?;
     line.push('\n')?;
     Ok(line)
 }
@@ -58,9 +58,9 @@ fn github_line(alloc: Global, report: &Report<'_>) -> Result<String, AllocError>
 {
     let mut line = String::new(alloc);
     line.push_str("::error file=")?;
-    put_escaped(&mut line, Escape::Property, report.file)?;
+    put_text(&mut line, Sink::Property, report.file)?;
     line.push_str("::")?;
-    put_message(&mut line, Escape::Data, report)?;
+    put_message(&mut line, Sink::Command, report)?;
     line.push('\n')?;
     Ok(line)
 }

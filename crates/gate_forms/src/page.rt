@@ -2,18 +2,19 @@
 
 ghost use Rattle.std.specs.Prelude.{◌≡◌, ◌++◌, OnOk, OnErr, IfOk, flat_map};
 ghost use Rattle.html_text.specs.Text.{page_text};
-ghost use Rattle.gate_forms.specs.Page.{allowed_part, allowed_section, expression_part, head_part, in_allowed, in_refused, in_unstated, item_sign, left_out, marks, page_with, refused_part, refused_section, title_part, tree_part, unstated_part, unstated_section, why_part};
+ghost use Rattle.gate_forms.specs.Page.{allowed_part, allowed_section, expression_part, head_part, in_allowed, in_refused, in_unstated, item_sign, left_out, marks, news_part, page_with, refused_part, refused_section, title_part, tree_part, unstated_part, unstated_section, why_part};
 
 use crate::pieces::{
     advice_words, package_words, put_decimal, put_element, put_node_item, verdict_words,
 };
-use crate::reports::{Node, Report, Totals, Verdict, Why};
+use crate::reports::{Baseline, Node, Report, Totals, Verdict, Why};
 use crate::top::put_top;
 use crate::totals::totals_words;
 use std::alloc::{AllocError, Global};
 
 /// Appends a page of HTML of the verdicts: the totals, the refused packages with the tree of their expressions and what
-/// would help, those without a licence, and, folded, the allowed ones. It needs no script and nothing beside it. What is
+/// would help, those without a licence, and, folded, the allowed ones. Of each refusal it says whether it is new or
+/// known, where there is a baseline. It needs no script and nothing beside it. What is
 /// accepted in a tree stands behind `+`, and what is not behind `-`, besides the colour. No text of the reports adds
 /// markup: `<`, `>` and quotes stand in the page as if each text were left out.
 ///
@@ -134,6 +135,7 @@ fn put_item_head(alloc: Global, page: &mut Vec<u8>, report: &Report<'_>) -> Resu
     let package = package_words(alloc, report)?;
     let verdict = verdict_words(alloc, report)?;
     put_element(page, "<article>\n<h3>", package.as_str(), "</h3>\n")?;
+    put_news(page, report.baseline)?;
     put_element(page, "<p class=\"file\">", report.file, "</p>\n")?;
     put_element(
         page,
@@ -142,6 +144,17 @@ fn put_item_head(alloc: Global, page: &mut Vec<u8>, report: &Report<'_>) -> Resu
         "</p>\n",
     )?;
     Ok(())
+}
+
+// Whether the refusal is known, where there is a baseline.
+fn put_news(page: &mut Vec<u8>, baseline: Baseline) -> Result<(), AllocError>
+    ensures { OnOk result (page.new.items ≡ page.old.items ++ news_part baseline) }
+{
+    match baseline {
+        Baseline::Absent => Ok(()),
+        Baseline::New => page.extend_from_slice(b"<b>new</b>\n"),
+        Baseline::Known => page.extend_from_slice(b"<span class=\"file\">known</span>\n"),
+    }
 }
 
 fn put_tree(alloc: Global, page: &mut Vec<u8>, nodes: &[Node<'_>]) -> Result<(), AllocError>
@@ -222,6 +235,7 @@ fn put_unstated_item(
 {
     let package = package_words(alloc, report)?;
     put_element(page, item_sign(allowed), package.as_str(), " ")?;
+    put_news(page, report.baseline)?;
     put_element(page, "<span class=\"file\">", report.file, "</span></li>\n")?;
     Ok(())
 }

@@ -5,7 +5,8 @@ ghost use Rattle.finding_forms.specs.Finding.{place_in};
 ghost use Rattle.finding_forms.specs.Forms.{paint_begins, paint_ends, painted};
 ghost use Rattle.gate_forms.specs.Human.{before_of, marked_of, caret_part, shown_width};
 
-use finding_forms::{Escape, Style, escaped_text};
+use finding_forms::Style;
+use foreign_text::{Sink, text_for};
 use std::alloc::{AllocError, Global};
 use unicode_width::UnicodeWidthStr;
 
@@ -67,7 +68,7 @@ pub(crate) fn put_carets(
 fn shown_width(alloc: Global, text: &str) -> Result<usize, AllocError>
     ensures { IfOk result (λ width. width ≡ shown_width text.now) }
 {
-    let shown = escaped_text(alloc, Escape::Shown, text)?;
+    let shown = text_for(alloc, Sink::Line, text)?;
     Ok(shown.as_str().width())
 }
 

@@ -6,9 +6,9 @@ ghost use Rattle.gate_forms.specs.Report.{advice_text, package_text, part_text, 
 ghost use Rattle.gate_forms.specs.Page.{depth_part, element, node_begins, node_part, sign_part};
 
 use crate::messages::{put_advice, put_package, put_verdict};
-use crate::reports::{Node, Part, Report};
+use crate::reports::{Advice, Node, Part, Report};
 use crate::tree::put_part;
-use finding_forms::Escape;
+use foreign_text::Sink;
 use html_text::put_text;
 use std::alloc::{AllocError, Global};
 
@@ -40,34 +40,34 @@ pub(crate) fn put_decimal(alloc: Global, page: &mut Vec<u8>, number: u64) -> Res
 }
 
 pub(crate) fn package_words(alloc: Global, report: &Report<'_>) -> Result<String, AllocError>
-    ensures { IfOk result (λ words. string_bytes words ≡ package_text Escape.Raw report.now) }
+    ensures { IfOk result (λ words. string_bytes words ≡ package_text Sink.Line report.now) }
 {
     let mut words = String::new(alloc);
-    put_package(&mut words, Escape::Raw, report)?;
+    put_package(&mut words, Sink::Line, report)?;
     Ok(words)
 }
 
 pub(crate) fn verdict_words(alloc: Global, report: &Report<'_>) -> Result<String, AllocError>
-    ensures { IfOk result (λ words. string_bytes words ≡ verdict_text Escape.Raw report.now) }
+    ensures { IfOk result (λ words. string_bytes words ≡ verdict_text Sink.Line report.now) }
 {
     let mut words = String::new(alloc);
-    put_verdict(&mut words, Escape::Raw, report)?;
+    put_verdict(&mut words, Sink::Line, report)?;
     Ok(words)
 }
 
-pub(crate) fn advice_words(alloc: Global, advice: Option<&[&str]>) -> Result<String, AllocError>
-    ensures { IfOk result (λ words. string_bytes words ≡ advice_text Escape.Raw advice.entry) }
+pub(crate) fn advice_words(alloc: Global, advice: Advice<'_>) -> Result<String, AllocError>
+    ensures { IfOk result (λ words. string_bytes words ≡ advice_text Sink.Line advice.entry) }
 {
     let mut words = String::new(alloc);
-    put_advice(&mut words, Escape::Raw, advice)?;
+    put_advice(&mut words, Sink::Line, advice)?;
     Ok(words)
 }
 
 fn part_words(alloc: Global, part: &Part<'_>) -> Result<String, AllocError>
-    ensures { IfOk result (λ words. string_bytes words ≡ part_text Escape.Raw part.now) }
+    ensures { IfOk result (λ words. string_bytes words ≡ part_text Sink.Line part.now) }
 {
     let mut words = String::new(alloc);
-    put_part(&mut words, Escape::Raw, part)?;
+    put_part(&mut words, Sink::Line, part)?;
     Ok(words)
 }
 

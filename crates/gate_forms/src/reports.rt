@@ -50,6 +50,17 @@ pub enum Verdict {
     Unstated { allowed: bool },
 }
 
+/// What would make a refused package pass.
+#[derive(Clone, Copy)]
+pub enum Advice<'r> {
+    /// Nothing that may be allowed does.
+    Unmet,
+    /// These, allowed besides.
+    Allow(&'r [&'r str]),
+    /// It was not sought among so many entries.
+    NotSought { entries: usize },
+}
+
 /// Why a package is refused.
 #[derive(Clone, Copy)]
 pub enum Why<'r> {
@@ -60,12 +71,22 @@ pub enum Why<'r> {
         start: usize,
         end: usize,
     },
-    /// The requirements that the refusal hangs on, and the least choice of them that makes the package pass; `None` where
-    /// nothing that may be allowed does.
+    /// The requirements that the refusal hangs on, and what would make the package pass.
     Missing {
         leaves: &'r [Leaf<'r>],
-        advice: Option<&'r [&'r str]>,
+        advice: Advice<'r>,
     },
+}
+
+/// Whether a refusal is known: whether it was there before, among the refusals of a baseline.
+#[derive(Clone, Copy)]
+pub enum Baseline {
+    /// There is no baseline.
+    Absent,
+    /// It isn't in the baseline.
+    New,
+    /// It is in the baseline.
+    Known,
 }
 
 /// The verdict of a policy on a package. Any values are a report: a place that is within a character or past the end of
@@ -80,6 +101,8 @@ pub struct Report<'r> {
     pub version: Option<&'r str>,
     pub expression: &'r str,
     pub verdict: Verdict,
+    /// Of a refusal, whether it is known.
+    pub baseline: Baseline,
     pub why: Why<'r>,
     /// The parts of the expression.
     pub nodes: &'r [Node<'r>],
@@ -94,6 +117,24 @@ pub struct Totals {
     pub by_exception: u64,
     pub refused: u64,
     pub unstated: u64,
+}
+
+/// An entry that would make refused packages pass.
+#[derive(Clone, Copy)]
+pub struct Need<'r> {
+    pub entry: &'r str,
+    /// How many refused packages need it.
+    pub packages: u64,
+}
+
+/// What would make all refused packages pass.
+#[derive(Clone, Copy)]
+pub struct Summary<'r> {
+    pub needs: &'r [Need<'r>],
+    /// How many packages nothing that may be allowed makes pass.
+    pub unmet: u64,
+    /// For how many it was not sought, among too many entries.
+    pub not_sought: u64,
 }
 
 impl Verdict {

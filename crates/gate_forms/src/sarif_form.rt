@@ -4,11 +4,11 @@ ghost use Rattle.std.specs.Prelude.{◌≡◌, ◌++◌, ◌∷◌, [], OnOk, On
 ghost use Rattle.json.specs.Tree.{json_tokens};
 ghost use Rattle.finding_forms.specs.SarifLog.{artifact, text_object, sarif_beginning, sarif_ending};
 ghost use Rattle.gate_forms.specs.Report.{message_text};
-ghost use Rattle.gate_forms.specs.Sarif.{LogReadsBack, location, result_of, sarif_result, sarif_text};
+ghost use Rattle.gate_forms.specs.Sarif.{LogReadsBack, level_tokens, location, result_of, sarif_result, sarif_text, state_tokens, text_tokens};
 
 use crate::messages::put_message;
-use crate::reports::Report;
-use finding_forms::{Escape, escaped_text};
+use crate::reports::{Baseline, Report};
+use foreign_text::{Sink, text_for};
 use json::Writer;
 use std::alloc::{AllocError, Global};
 
@@ -28,8 +28,8 @@ pub fn put_sarif_beginning(
     finding_forms::put_sarif_beginning(alloc, text, version)
 }
 
-/// Appends a refused package as a result, behind a comma where it isn't the first. Of a package that passes nothing is
-/// said.
+/// Appends a refused package as a result, behind a comma where it isn't the first. With a baseline it has a
+/// `baselineState`, and one that is known is a note, and no error. Of a package that passes nothing is said.
 ///
 /// # Errors
 ///
@@ -85,8 +85,7 @@ fn put_result(alloc: Global, writer: &mut Writer, report: &Report<'_>) -> Result
     writer.begin_object()?;
     writer.key("ruleId")?;
     writer.string(report.verdict.word())?;
-    writer.key("level")?;
-    writer.string("error")?;
+    put_level(writer, report.baseline)?;
     writer.key("message")?;
     put_message_object(alloc, writer, report)?;
     writer.key("locations")?;
@@ -97,17 +96,49 @@ fn put_result(alloc: Global, writer: &mut Writer, report: &Report<'_>) -> Result
     Ok(())
 }
 
+// How much a result counts, and whether it is known, where there is a baseline.
+fn put_level(writer: &mut Writer, baseline: Baseline) -> Result<(), AllocError>
+    ensures tokens { OnOk result (writer.new.tokens ≡ writer.old.tokens ++ level_tokens baseline) }
+    ensures before { OnOk result (writer.new.before ≡ writer.old.before) }
+{
+    match baseline {
+        Baseline::Absent => put_text_member(writer, "level", "error"),
+        Baseline::New => put_state(writer, "error", "new"),
+        Baseline::Known => put_state(writer, "note", "unchanged"),
+    }
+}
+
+fn put_state(writer: &mut Writer, level: &str, state: &str) -> Result<(), AllocError>
+    ensures tokens { OnOk result (
+        writer.new.tokens ≡ writer.old.tokens ++ state_tokens level.now state.now) }
+    ensures before { OnOk result (writer.new.before ≡ writer.old.before) }
+{
+    put_text_member(writer, "level", level)?;
+    put_text_member(writer, "baselineState", state)?;
+    Ok(())
+}
+
+fn put_text_member(writer: &mut Writer, key: &str, text: &str) -> Result<(), AllocError>
+    ensures tokens { OnOk result (
+        writer.new.tokens ≡ writer.old.tokens ++ text_tokens key.now text.now) }
+    ensures before { OnOk result (writer.new.before ≡ writer.old.before) }
+{
+    writer.key(key)?;
+    writer.string(text)?;
+    Ok(())
+}
+
 fn put_message_object(
     alloc: Global,
     writer: &mut Writer,
     report: &Report<'_>,
 ) -> Result<(), AllocError>
     ensures tokens { OnOk result (writer.new.tokens ≡
-        writer.old.tokens ++ json_tokens (text_object (message_text Escape.Raw report.now))) }
+        writer.old.tokens ++ json_tokens (text_object (message_text Sink.Message report.now))) }
     ensures before { OnOk result (writer.new.before ≡ writer.old.before) }
 {
     let mut message = String::new(alloc);
-    put_message(&mut message, Escape::Raw, report)?;
+    put_message(&mut message, Sink::Message, report)?;
     writer.begin_object()?;
     writer.key("text")?;
     writer.string(message.as_str())?;
@@ -120,7 +151,7 @@ fn put_location(alloc: Global, writer: &mut Writer, report: &Report<'_>) -> Resu
         writer.new.tokens ≡ writer.old.tokens ++ json_tokens (location report.now)) }
     ensures before { OnOk result (writer.new.before ≡ writer.old.before) }
 {
-    let path = escaped_text(alloc, Escape::Path, report.file)?;
+    let path = text_for(alloc, Sink::Path, report.file)?;
     writer.begin_object()?;
     writer.key("physicalLocation")?;
     writer.begin_object()?;

@@ -2,10 +2,11 @@
 
 ghost use Rattle.std.specs.Prelude.{◌≡◌, ◌++◌, OnOk, OnErr, IfOk, string_bytes};
 ghost use Rattle.finding_forms.specs.Totals.{counted};
-ghost use Rattle.gate_forms.specs.Totals.{number_words, totals_words, totals_text, unused_text};
+ghost use Rattle.gate_forms.specs.Totals.{number_words, totals_words, totals_text, unused_line, unused_text};
 
+use crate::messages::put_names;
 use crate::reports::Totals;
-use finding_forms::{Escape, put_escaped};
+use foreign_text::{Sink, put_text};
 use std::alloc::{AllocError, Global};
 
 /// Appends the line of totals: `312 packages: 309 allowed (2 by exception), 2 refused, 1 without a licence`.
@@ -35,8 +36,8 @@ pub(crate) fn totals_words(alloc: Global, totals: &Totals) -> Result<String, All
     Ok(line)
 }
 
-// So many of a noun.
-fn put_counted(line: &mut String, count: u64, noun: &str) -> Result<(), AllocError>
+/// Appends so many of a noun.
+pub(crate) fn put_counted(line: &mut String, count: u64, noun: &str) -> Result<(), AllocError>
     ensures { OnOk result (
         string_bytes line.new ≡ string_bytes line.old ++ counted count noun.now) }
 {
@@ -58,7 +59,8 @@ pub(crate) fn put_number(line: &mut String, number: u64, words: &str) -> Result<
     }
 }
 
-/// Appends a warning of an entry of the policy that is not used: `warning: policy.toml: allow "Zlib" is not used`.
+/// Appends a warning with the entries of the policy that are not used:
+/// `warning: policy.toml: not used: allow "Zlib", deny "GPL-3.0-only"`. Where all are used nothing is said.
 ///
 /// # Errors
 ///
@@ -67,24 +69,27 @@ pub fn put_unused(
     alloc: Global,
     text: &mut Vec<u8>,
     policy: &str,
-    entry: &str,
+    entries: &[&str],
 ) -> Result<(), AllocError>
     ensures ok { OnOk result (
-        text.new.items ≡ text.old.items ++ unused_text policy.now entry.now) }
+        text.new.items ≡ text.old.items ++ unused_text policy.now entries.now) }
     ensures err { OnErr result (text.new.items ≡ text.old.items) }
 {
-    let line = unused_line(alloc, policy, entry)?;
+    if entries.is_empty() {
+        return Ok(());
+    }
+    let line = unused_line(alloc, policy, entries)?;
     text.extend_from_slice(line.as_bytes())
 }
 
-fn unused_line(alloc: Global, policy: &str, entry: &str) -> Result<String, AllocError>
-    ensures { IfOk result (λ line. string_bytes line ≡ unused_text policy.now entry.now) }
+fn unused_line(alloc: Global, policy: &str, entries: &[&str]) -> Result<String, AllocError>
+    ensures { IfOk result (λ line. string_bytes line ≡ unused_line policy.now entries.now) }
 {
     let mut line = String::new(alloc);
     line.push_str("warning: ")?;
-    put_escaped(&mut line, Escape::Shown, policy)?;
-    line.push_str(": ")?;
-    put_escaped(&mut line, Escape::Shown, entry)?;
-    line.push_str(" is not used\n")?;
+    put_text(&mut line, Sink::Line, policy)?;
+    line.push_str(": not used: ")?;
+    put_names(&mut line, Sink::Line, entries)?;
+    line.push('\n')?;
     Ok(line)
 }

@@ -8,7 +8,8 @@ use crate::human::{put_advice_line, put_expression, put_fault, put_package_line}
 use crate::messages::put_decided;
 use crate::paint::{put_copies, put_painted};
 use crate::reports::{Node, Part, Report, Why};
-use finding_forms::{Escape, Style, put_escaped};
+use finding_forms::Style;
+use foreign_text::{Sink, put_text};
 use std::alloc::{AllocError, Global};
 
 /// Appends any package's verdict, the expression, the expression's parts as a tree, and what would help. A part stands in
@@ -60,7 +61,7 @@ fn put_node(lines: &mut String, style: Style, node: &Node<'_>) -> Result<(), All
     put_indent(lines, node.depth)?;
     put_sign(lines, style, node.part.is_accepted())?;
     lines.push(' ')?;
-    put_part(lines, Escape::Shown, &node.part)?;
+    put_part(lines, Sink::Line, &node.part)?;
     lines.push('\n')?;
     Ok(())
 }
@@ -89,13 +90,13 @@ fn put_sign(lines: &mut String, style: Style, accepted: bool) -> Result<(), Allo
 }
 
 /// Appends the operator, or the requirement and what decided it.
-pub(crate) fn put_part(line: &mut String, how: Escape, part: &Part<'_>) -> Result<(), AllocError>
+pub(crate) fn put_part(line: &mut String, how: Sink, part: &Part<'_>) -> Result<(), AllocError>
     ensures { OnOk result (
         string_bytes line.new ≡ string_bytes line.old ++ part_text how part.now) }
 {
     match part {
         Part::License(leaf) => {
-            put_escaped(line, how, leaf.text)?;
+            put_text(line, how, leaf.text)?;
             line.push_str(": ")?;
             put_decided(line, how, leaf)?;
             Ok(())

@@ -1,9 +1,11 @@
 -- What is put has no markup, and is read as the text.
-use Rattle.std.proofs.Common.{◌≡◌, ◌≢◌, ℕ, ◌≤◌, List, [], ◌∷◌, ◌++◌, Bool, true, false, cond, eqb, ltb, Some, flat_map, chars, codes, refl, sym, ap, ◌∙◌, subst, arith}
+use Rattle.std.proofs.Common.{◌≡◌, ◌≢◌, ℕ, ◌<◌, ◌≤◌, List, [], ◌∷◌, ◌++◌, Bool, true, false, cond, eqb, ltb, Some, flat_map, chars, codes, refl, sym, ap, ◌∙◌, subst, arith}
 use Rattle.std.proofs.lemmas.Bool.Decides.{nat_tests}
 use Rattle.std.proofs.Math.Utf8.{encode, encodes}
 use Rattle.std.specs.Str.{IsUtf8}
 use Rattle.std.proofs.lemmas.Str.{encodes-chars}
+use Rattle.foreign_text.specs.Hidden as foreign
+use Rattle.foreign_text.proofs.Bytes.{printed_shown}
 use Rattle.html_text.specs.Text.{AreSeen, is_hidden, shown_char, shown_text, page_char, page_text, is_mark, HasNoMarkup, read_from, read_text}
 
 -- a choice has what each of its two has
@@ -104,25 +106,29 @@ Stands c rest text page = read_from 0 (page ++ rest) ≡ Some (shown_char c ++ t
 entity : (c n : ℕ) (rest text page : List ℕ) → Stands n rest text page → eqb c n ≡ true → Stands c rest text page
 entity c n rest text page h e = subst (λ (x : ℕ). Stands x rest text page) (sym (same c n e)) h
 
+-- printed ASCII is shown
+shown : (c : ℕ) → 32 ≤ c → c < 127 → foreign.is_hidden c ≡ false
+shown c h k = printed_shown c (record { from = h; to = k })
+
 amp : (rest text : List ℕ) → read_from 0 rest ≡ Some text → Stands 38 rest text (codes "&amp;")
 unfolding encode
-amp rest text e = rw e refl
+amp rest text e = rw (shown 38 (omega arith) (omega arith), e) refl
 
 lt : (rest text : List ℕ) → read_from 0 rest ≡ Some text → Stands 60 rest text (codes "&lt;")
 unfolding encode
-lt rest text e = rw e refl
+lt rest text e = rw (shown 60 (omega arith) (omega arith), e) refl
 
 gt : (rest text : List ℕ) → read_from 0 rest ≡ Some text → Stands 62 rest text (codes "&gt;")
 unfolding encode
-gt rest text e = rw e refl
+gt rest text e = rw (shown 62 (omega arith) (omega arith), e) refl
 
 quote : (rest text : List ℕ) → read_from 0 rest ≡ Some text → Stands 34 rest text (codes "&quot;")
 unfolding encode
-quote rest text e = rw e refl
+quote rest text e = rw (shown 34 (omega arith) (omega arith), e) refl
 
 apostrophe : (rest text : List ℕ) → read_from 0 rest ≡ Some text → Stands 39 rest text (codes "&#39;")
 unfolding encode
-apostrophe rest text e = rw e refl
+apostrophe rest text e = rw (shown 39 (omega arith) (omega arith), e) refl
 
 pub char_read : (c : ℕ) (rest text : List ℕ) → read_from 0 rest ≡ Some text → Stands c rest text (page_char c)
 char_read c rest text e =

@@ -1,21 +1,19 @@
 -- A text as a page of HTML holds it, and as a browser reads it there.
-use Rattle.std.specs.Prelude.{◌≡◌, ℕ, zero, suc, ◌≢◌, ⊤, List, [], ◌∷◌, Bool, false, ◌||◌, ◌==◌, if◌then◌else◌, Option, None, Some, chars, codes, encode_utf8, flat_map}
+use Rattle.std.specs.Prelude.{◌≡◌, ℕ, zero, suc, ◌≢◌, ⊤, List, [], ◌∷◌, Bool, false, not, ◌&&◌, ◌||◌, ◌==◌, if◌then◌else◌, Option, None, Some, chars, codes, encode_utf8, flat_map}
 use Rattle.std.specs.Int.{is_in_range}
+use Rattle.foreign_text.specs.Hidden as foreign
 use Rattle.std.specs.Option.{option_map}
 use Rattle.std.specs.List.{starts_with}
 
 -- ---- what is written
 
--- a control character that is none of HTML's blanks
-abbrev pub is_control : ℕ → Bool
-is_control c = is_in_range 0 8 c || (c == 11) || is_in_range 14 31 c || is_in_range 127 159 c
+-- HTML's blanks: tab, newline, form feed, carriage return
+abbrev pub is_blank : ℕ → Bool
+is_blank c = is_in_range 9 10 c || is_in_range 12 13 c
 
--- a mark that turns the direction of text, or a separator of lines or paragraphs
-abbrev pub is_direction : ℕ → Bool
-is_direction c = (c == 0x61C) || is_in_range 0x200E 0x200F c || is_in_range 0x2028 0x202E c || is_in_range 0x2066 0x2069 c
-
+-- not shown as it is, and no blank
 abbrev pub is_hidden : ℕ → Bool
-is_hidden c = is_control c || is_direction c
+is_hidden c = not (is_blank c) && foreign.is_hidden c
 
 -- what stands for a character that is not seen is seen
 abbrev pub shown_char : ℕ → List ℕ

@@ -1,15 +1,22 @@
-//! Text in a page of HTML, that no one who wrote the text can make markup of.
+//! Text in a page of HTML, which nobody who wrote the text can make markup of.
+//!
+//! ```rust
+//! // crates/gate_forms/src/pieces.rt
+//! put_text(page, text)?;
+//! ```
+//!
+//! It stands on nothing but std.
 #![tactic(auto)]
 
 ghost use Rattle.std.specs.Prelude.{◌≡◌, ◌++◌, Some, OnOk, OnErr, encode_utf8, length, take};
-ghost use Rattle.html_text.specs.Text.{HasNoHidden, HasNoMarkup, is_control, is_direction, is_hidden, page_text, page_char, read_text, shown_text};
+ghost use Rattle.html_text.specs.Text.{HasNoHidden, HasNoMarkup, is_blank, is_hidden, page_text, page_char, read_text, shown_text};
 
 use std::alloc::AllocError;
 
 /// Appends the text to a page, to stand in an element or in an attribute's value between quotes, single or double. What
 /// would be markup is an entity: `&amp;`, `&lt;`, `&gt;`, `&quot;` and `&#39;`. A character that is not seen, and is
-/// none of HTML's blanks (tab, newline, form feed, carriage return), is `U+FFFD`: a control character, a mark that turns
-/// the direction of text, or a separator of lines or paragraphs.
+/// none of HTML's blanks (tab, newline, form feed, carriage return), is `U+FFFD`: a control character, a mark of format (a
+/// direction, a width of zero, a tag), a separator of lines or paragraphs, or one that Unicode has not assigned.
 ///
 /// # Errors
 ///
@@ -62,20 +69,15 @@ fn put_seen(page: &mut Vec<u8>, letter: char) -> Result<(), AllocError>
     page.extend_from_slice(letter.encode_utf8(&mut bytes).as_bytes())
 }
 
+// Whether the character is not shown as it is, and is none of HTML's blanks.
 fn is_hidden(letter: char) -> bool
     ensures { result ≡ is_hidden letter }
 {
-    is_control(letter) || is_direction(letter)
+    !is_blank(letter) && foreign_text::is_hidden(letter)
 }
 
-fn is_control(letter: char) -> bool
-    ensures { result ≡ is_control letter }
+fn is_blank(letter: char) -> bool
+    ensures { result ≡ is_blank letter }
 {
-    matches!(letter, '\0'..='\x08' | '\x0b' | '\x0e'..='\x1f' | '\x7f'..='\u{9f}')
-}
-
-fn is_direction(letter: char) -> bool
-    ensures { result ≡ is_direction letter }
-{
-    matches!(letter, '\u{61c}' | '\u{200e}'..='\u{200f}' | '\u{2028}'..='\u{202e}' | '\u{2066}'..='\u{2069}')
+    matches!(letter, '\t' | '\n' | '\x0c' | '\r')
 }

@@ -22,7 +22,7 @@ pub(crate) struct Rows<'c> {
 pub(crate) fn read_rows<'c>(
     alloc: Global,
     catalogue: &'c Catalogue,
-    policy: &Policy<'_>,
+    policy: &Policy<'c>,
     lines: &str,
 ) -> Result<Rows<'c>, AllocError> {
     let mut rows = Rows {
@@ -50,7 +50,7 @@ pub(crate) fn read_rows<'c>(
 fn read<'c>(
     alloc: Global,
     catalogue: &'c Catalogue,
-    policy: &Policy<'_>,
+    policy: &Policy<'c>,
     asked: &str,
 ) -> Result<Reading<'c>, AllocError> {
     let (name, rest) = asked.split_once(" ").unwrap_or((asked, ""));

@@ -12,6 +12,7 @@
 mod answers;
 
 use crate::answers::{answers, read_rows};
+use spdx_alternatives::Heirs;
 use spdx_catalogue::Catalogue;
 use spdx_policy::Policy;
 use std::process::ExitCode;
@@ -31,7 +32,12 @@ fn try_section(
     mut count: Count,
 ) -> io::Result<Count> {
     let (text, lines) = section.split_once("--\n").unwrap_or((section, ""));
-    let Ok(policy) = Policy::from_toml(rt.alloc(), catalogue, text.as_bytes()) else {
+    let Ok(policy) = Policy::from_toml(
+        rt.alloc(),
+        catalogue,
+        Heirs::new(rt.alloc()),
+        text.as_bytes(),
+    ) else {
         count.others = count.others.saturating_add(1);
         println!(rt; "no policy: {text}")?;
         return Ok(count);

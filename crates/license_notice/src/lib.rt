@@ -1,5 +1,14 @@
-//! Which packages stand under which licence, and which texts are wanted: each package with the requirements of its choice
-//! goes in, groups in the order of a page come out. Of licences it knows names alone.
+//! Which packages stand under which licence, and which texts are needed: each package goes in with the requirements
+//! of its choice, and groups come out in the order of a page.
+//!
+//! Of licences it knows their names alone.
+//!
+//! ```rust
+//! // crates/notice_rows/src/pages.rt
+//! let notice = notice_of(alloc, packages)?;
+//! ```
+//!
+//! It stands on nothing but std.
 #![tactic(auto)]
 
 ghost use Rattle.std.specs.Prelude.{◌≡◌, ◌↔◌, ℕ, ◌<◌, List, IfOk, All, Contains, length, map};

@@ -1,4 +1,13 @@
-//! Where the licence expressions stand behind the tags of a source file.
+//! Where the licence expressions stand behind the `SPDX-License-Identifier:` tags of a source file.
+//!
+//! It reads no expression: it gives their places, and whoever asked reads them.
+//!
+//! ```rust
+//! // crates/spdx_program/src/fix.rt
+//! for tag in tags(alloc, bytes)? {
+//! ```
+//!
+//! It stands on `line_engine` and `memchr`.
 #![tactic(auto)]
 
 ghost use Rattle.std.specs.Prelude.{◌≡◌, ◌≢◌, ℕ, ◌∷◌, ◌+◌, ◌<◌, ◌≤◌, ◌^◌, IfOk, length, drop, take, slice_index};

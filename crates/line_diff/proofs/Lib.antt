@@ -1,2 +1,4 @@
+pub mod Heads
 pub mod Lines
 pub mod Shown
+pub mod Sides

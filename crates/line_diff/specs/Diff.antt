@@ -1,8 +1,9 @@
 -- The unified diff of two texts, line by line.
-use Rattle.std.specs.Prelude.{ℕ, ◌+◌, ◌-◌, Bool, not, ◌&&◌, ◌==◌, nat_eq, nat_lt, List, [], ◌∷◌, ◌++◌, length, take, drop, codes, count_by, slice_index_or, if◌then◌else◌}
+use Rattle.std.specs.Prelude.{◌≡◌, ◌<◌, ℕ, ◌+◌, ◌-◌, Bool, false, not, ◌&&◌, ◌==◌, nat_eq, nat_lt, List, [], ◌∷◌, ◌++◌, length, take, drop, codes, count_by, slice_index_or, if◌then◌else◌}
 use Rattle.std.specs.List.{flat_map, list_any, prefix_len, range_with_len, ends_with}
 use Rattle.std.specs.Str.{bytes_eq}
 use Rattle.std.specs.Fmt.{decimal}
+use Rattle.foreign_text.specs.Names.{header_name, HeaderReadsBack}
 use Rattle.line_diff.specs.declared.rows.Row.{Row}
 
 -- the lines at one place of two texts, with their newlines; empty where a text has no line there
@@ -79,9 +80,28 @@ shown_text rows i =
     then (if nat_lt 0 i && is_shown rows (i - 1) then [] else hunk_head rows i) ++ row_text (slice_index_or rows i (pair [] []))
     else []
 
+-- the file as the old text has it, and as the new one does
+abbrev pub old_name : List ℕ → List ℕ
+old_name name = codes "a/" ++ name
+
+abbrev pub new_name : List ℕ → List ℕ
+new_name name = codes "b/" ++ name
+
 -- the lines before the hunks
 unfoldable pub names_text : List ℕ → List ℕ
-names_text name = codes "--- a/" ++ (name ++ (codes "\n+++ b/" ++ (name ++ codes "\n")))
+names_text name = codes "--- " ++ (header_name (old_name name) ++ (codes "+++ " ++ header_name (new_name name)))
+
+-- whatever follows them, git reads the two lines as the names of this file
+pub record NamesThisFile (name : List ℕ) : Type 0 where
+  pub old : HeaderReadsBack (old_name name)
+  pub new : HeaderReadsBack (new_name name)
+
+-- Each text is its side of the rows, one behind another; and a row that isn't shown is the same in both. So whoever puts the
+-- new side of the shown rows in the place of their old side has made the new text of the old one.
+pub record AreTheTexts (old new : List ℕ) (rows : List Pair) : Type 0 where
+  pub old_side : flat_map (λ (r : Pair). r.old) rows ≡ old
+  pub new_side : flat_map (λ (r : Pair). r.new) rows ≡ new
+  pub hidden_are_same : (i : ℕ) → i < length rows → is_shown rows i ≡ false → is_changed (slice_index_or rows i (pair [] [])) ≡ false
 
 -- the diff of two texts
 abbrev pub diff_of : List ℕ → List Pair → List ℕ

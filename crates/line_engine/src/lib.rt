@@ -1,4 +1,16 @@
-// Reads lines from a device, and writes an answer to each to another.
+//! Reads lines from a device, and writes an answer to each of them to another device.
+//!
+//! The rule by which a line is answered is the user's: an implementation of [`verdicts::Verdicts`]. A device is a
+//! [`device::Source`] or a [`device::Sink`]; [`stream::Input`] and [`stream::Output`] make them of std's readers
+//! and writers.
+//!
+//! ```rust
+//! // crates/spdx_lines/src/lines.rt
+//! let mut each = EachLine::new(alloc, cat, mode, accepted);
+//! engine::run(alloc, &mut each, input, output)
+//! ```
+//!
+//! It stands on `memchr` alone, and knows nothing of licences.
 #![tactic(auto)]
 
 pub mod device;

@@ -1,3 +1,4 @@
+pub mod Fenced
 pub mod Numbering
 pub mod Pieces
 pub mod Seeing

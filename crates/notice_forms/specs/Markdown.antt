@@ -1,5 +1,5 @@
 -- The page as Markdown. Names stand in code spans and texts in code blocks, in which nothing is markup.
-use Rattle.std.specs.Prelude.{ℕ, max, List, [], ◌∷◌, ◌++◌, Bool, ◌==◌, nat_eq, if◌then◌else◌, length, flat_map, codes, replicate}
+use Rattle.std.specs.Prelude.{◌≡◌, ℕ, max, List, [], ◌∷◌, ◌++◌, Bool, ◌==◌, nat_eq, if◌then◌else◌, length, flat_map, codes, replicate}
 use Rattle.std.specs.List.{prefix_len, ends_with}
 use Rattle.license_notice.specs.Rows.{Line, Band}
 use Rattle.notice_forms.specs.Told.{Named, Told, line_text, package_count}
@@ -21,12 +21,18 @@ unfoldable pub code_span : ℕ → List ℕ → List ℕ
 code_span run shown =
     replicate run 96 ++ (codes "`" ++ (pad run ++ (shown ++ (pad run ++ (replicate run 96 ++ codes "`")))))
 
--- a name in a code span, between more backquotes than stand side by side in it
+-- a name in a code span, between more backquotes than stand side by side in it; no code span is empty
 abbrev pub span : List ℕ → List ℕ
-span name = code_span (longest_run (line_text name)) (line_text name)
+span [] = []
+span (b ∷ bs) = code_span (longest_run (line_text (b ∷ bs))) (line_text (b ∷ bs))
+
+-- a version behind a blank, where there is one
+abbrev pub markdown_version : List ℕ → List ℕ
+markdown_version [] = []
+markdown_version (b ∷ bs) = 32 ∷ span (b ∷ bs)
 
 unfoldable pub markdown_line : Line → List ℕ
-markdown_line l = codes "- " ++ (span l.name ++ (codes " " ++ (span l.version ++ codes "\n")))
+markdown_line l = codes "- " ++ (span l.name ++ (markdown_version l.version ++ codes "\n"))
 
 -- a requirement in the table of contents
 unfoldable pub markdown_entry : Band → List ℕ
@@ -39,6 +45,10 @@ markdown_band b = codes "\n### " ++ (span b.requirement ++ (codes "\n\n" ++ flat
 -- what begins and ends a code block of these bytes: more backquotes than stand side by side in them
 abbrev pub fence : List ℕ → List ℕ
 fence bytes = replicate (longest_run bytes) 96 ++ codes "```"
+
+-- wherever lines end, no part of the text is what ends its code block: so many backquotes side by side, or more
+abbrev pub StaysFenced : List ℕ → Type 0
+StaysFenced bytes = (before after : List ℕ) → before ++ (fence bytes ++ after) ≡ bytes → ⊥
 
 -- the newline that a text lacks at its end
 abbrev pub last_newline : List ℕ → List ℕ

@@ -3,9 +3,14 @@ use Rattle.std.specs.Prelude.{ℕ, List, [], ◌∷◌, ◌++◌, length, flat_m
 use Rattle.license_notice.specs.Rows.{Line, Band}
 use Rattle.notice_forms.specs.Told.{Named, Told, line_text, package_count}
 
+-- a version behind a blank, where there is one
+abbrev pub plain_version : List ℕ → List ℕ
+plain_version [] = []
+plain_version (b ∷ bs) = 32 ∷ line_text (b ∷ bs)
+
 -- a package: its name and version
 unfoldable pub plain_line : Line → List ℕ
-plain_line l = codes "  " ++ (line_text l.name ++ (32 ∷ (line_text l.version ++ 10 ∷ [])))
+plain_line l = codes "  " ++ (line_text l.name ++ (plain_version l.version ++ 10 ∷ []))
 
 -- a requirement in the table of contents
 unfoldable pub plain_entry : Band → List ℕ

@@ -2,9 +2,10 @@
 //! one file of HTML.
 #![tactic(auto)]
 
-ghost use Rattle.std.specs.Prelude.{◌≡◌, ◌++◌, OnOk, OnErr, IfOk, IfErr};
+ghost use Rattle.std.specs.Prelude.{◌≡◌, ℕ, List, ◌++◌, OnOk, OnErr, IfOk, IfErr};
 ghost use Rattle.notice_forms.specs.Told.{told};
 ghost use Rattle.notice_forms.specs.Pages.{page_in, IsRefusal};
+ghost use Rattle.notice_forms.specs.Markdown.{StaysFenced};
 ghost use Rattle.notice_forms.specs.Seen.{IsShown};
 
 mod errors;
@@ -24,7 +25,9 @@ use std::alloc::Global;
 
 /// Appends the page in a form, in time linear in its names and texts.
 ///
-/// Each text stands byte for byte in plain text and in Markdown. In HTML it is escaped, and what a browser shows is the
+/// Each text stands byte for byte in plain text and in Markdown, so that it may carry to a terminal whatever its file holds.
+/// Names stand in one line, where a character that is not shown is told by its number. In Markdown no text ends the code
+/// block that it stands in. In HTML it is escaped, and what a browser shows is the
 /// text but for characters that are not seen, which are U+FFFD, and for ends of lines, which are newlines. The page of
 /// HTML says what the plain text does (`shown`): of its head the title is seen alone; its body, without tags and with its
 /// entities read, is the title, the contents, each requirement with its packages, and each text, once and in their order.
@@ -42,6 +45,7 @@ pub fn put_page<'t>(
     ensures err { OnErr result (page.new.items ≡ page.old.items) }
     ensures refused { IfErr result (IsRefusal form (told shown.now)) }
     ensures shown { IsShown (told shown.now) }
+    ensures fenced { (text : List ℕ) → StaysFenced text }
 {
     let whole = page_of(alloc, form, shown)?;
     page.extend_from_slice(&whole)?;

@@ -3,7 +3,7 @@
 ghost use Rattle.std.specs.Prelude.{◌≡◌, ◌≤◌, ◌++◌, OnOk, flat_map, length, map, replicate};
 ghost use Rattle.license_notice.specs.Notices.{line_of, band_of, bands_of};
 ghost use Rattle.notice_forms.specs.Told.{named, told};
-ghost use Rattle.notice_forms.specs.Markdown.{longest_run, pad, code_span, span, markdown_line, markdown_entry, markdown_band, fence, last_newline, markdown_text, markdown_page};
+ghost use Rattle.notice_forms.specs.Markdown.{longest_run, pad, code_span, span, markdown_version, markdown_line, markdown_entry, markdown_band, fence, last_newline, markdown_text, markdown_page};
 
 use crate::lines::{put_line_text, put_package_count};
 use crate::pages::{LicenseText, Page};
@@ -80,8 +80,11 @@ fn put_code_span(page: &mut Vec<u8>, run: usize, shown: &[u8]) -> Result<(), All
 fn put_span(alloc: Global, page: &mut Vec<u8>, name: &str) -> Result<(), AllocError>
     ensures { OnOk result (page.new.items ≡ page.old.items ++ span name.now) }
 {
+    if name.is_empty() {
+        return Ok(());
+    }
     let mut shown = Vec::new(alloc);
-    put_line_text(&mut shown, name)?;
+    put_line_text(alloc, &mut shown, name)?;
     put_code_span(page, longest_run(&shown), &shown)
 }
 
@@ -142,9 +145,19 @@ fn put_line(alloc: Global, page: &mut Vec<u8>, release: &Release<'_>) -> Result<
 {
     page.extend_from_slice(b"- ")?;
     put_span(alloc, page, release.name)?;
-    page.extend_from_slice(b" ")?;
-    put_span(alloc, page, release.version)?;
+    put_version(alloc, page, release.version)?;
     page.extend_from_slice(b"\n")
+}
+
+// The version behind a blank, where there is one.
+fn put_version(alloc: Global, page: &mut Vec<u8>, version: &str) -> Result<(), AllocError>
+    ensures { OnOk result (page.new.items ≡ page.old.items ++ markdown_version version.now) }
+{
+    if version.is_empty() {
+        return Ok(());
+    }
+    page.push(b' ')?;
+    put_span(alloc, page, version)
 }
 
 fn put_texts(alloc: Global, page: &mut Vec<u8>, texts: &[LicenseText<'_>]) -> Result<(), AllocError>

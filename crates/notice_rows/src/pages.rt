@@ -97,6 +97,11 @@ pub fn put_pages(alloc: Global, page: &mut Vec<u8>) -> Result<(), AllocError> {
             version: "0",
             choice: &choices[5..],
         },
+        Package {
+            name: "left-pad",
+            version: "",
+            choice: &choices[5..],
+        },
     ];
     for form in [Form::Text, Form::Markdown, Form::Html] {
         put_shown(alloc, page, form, &packages)?;

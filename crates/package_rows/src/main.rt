@@ -1,7 +1,8 @@
 //! The packages of files in each form, to be read by eye.
 //!
-//! Files come from standard input, each behind a line `== FORM`, or `== at EACH NAME LICENSE` for JSON at pointers, in
-//! which `-` is the empty pointer. A character U+FFFD stands for the byte FF.
+//! Files come from standard input, each behind a line `== FORM` or `== FORM FOLDER`, or `== at EACH NAME LICENSE` for JSON
+//! at pointers, in which `-` is the empty pointer and VERSION may stand last. With `== shape` the form is that which the
+//! shape of the file tells. A character U+FFFD stands for the byte FF.
 #![tactic(auto)]
 
 mod rows;

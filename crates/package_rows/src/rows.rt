@@ -1,6 +1,8 @@
 // Files, and what is read of them.
 
-use package_sources::{Form, License, Package, Pointers, SourceError, packages, packages_at};
+use package_sources::{
+    Form, License, Package, Pointers, SourceError, Spot, form_of, packages, packages_at,
+};
 use std::alloc::{AllocError, Global};
 
 /// The words behind a file's `==`, and its bytes.
@@ -47,11 +49,21 @@ fn put_line(bytes: &mut Vec<u8>, line: &str) -> Result<(), AllocError> {
     Ok(bytes.push(b'\n')?)
 }
 
-fn form_of(word: &str) -> Form {
+fn form_of_word(word: &str) -> Form {
     match word {
-        "tsv" => Form::Tsv,
+        "license-checker" => Form::LicenseChecker,
+        "pnpm" => Form::Pnpm,
+        "spdx-3" => Form::SpdxThree,
+        "metadata" => Form::Metadata,
+        "tsv" => Form::Tsv { header: false },
+        "tsv-header" => Form::Tsv { header: true },
+        "csv" => Form::Csv { header: false },
+        "csv-header" => Form::Csv { header: true },
+        "verdicts" => Form::Verdicts,
         "cargo" => Form::Cargo,
         "npm" => Form::Npm,
+        "composer" => Form::Composer,
+        "pip" => Form::Pip,
         "cyclonedx" => Form::CycloneDx,
         "spdx" => Form::Spdx,
         _ => Form::Lines,
@@ -61,20 +73,46 @@ fn form_of(word: &str) -> Form {
 fn read(alloc: Global, file: &File) -> Result<Vec<Package>, SourceError> {
     let bytes = file.bytes.as_slice();
     match file.words.as_slice() {
-        [_, each, name, license] => {
-            let pointers = Pointers {
-                each: each.as_str(),
-                name: name.as_str(),
-                license: license.as_str(),
-            };
-            packages_at(alloc, &pointers, bytes)
+        [word] if word.as_str() == "shape" => packages(alloc, form_of(alloc, bytes)?, "", bytes),
+        [_, each, name, license] => at_pointers(alloc, [each, name, license], None, bytes),
+        [_, each, name, license, version] => {
+            at_pointers(alloc, [each, name, license], Some(version.as_str()), bytes)
         }
-        [word, ..] => packages(alloc, form_of(word.as_str()), bytes),
-        [] => packages(alloc, Form::Lines, bytes),
+        [word, folder] => packages(alloc, form_of_word(word.as_str()), folder.as_str(), bytes),
+        [word, ..] => packages(alloc, form_of_word(word.as_str()), "", bytes),
+        [] => packages(alloc, Form::Lines, "", bytes),
     }
 }
 
-/// Appends the form of a file, and its packages, each with its license in brackets, or why it has none.
+fn at_pointers(
+    alloc: Global,
+    pointers: [&String; 3],
+    version: Option<&str>,
+    bytes: &[u8],
+) -> Result<Vec<Package>, SourceError> {
+    let [each, name, license] = pointers;
+    let pointers = Pointers {
+        each: each.as_str(),
+        name: name.as_str(),
+        version,
+        license: license.as_str(),
+    };
+    packages_at(alloc, &pointers, bytes)
+}
+
+// Appends the form that the shape of a file tells, if it is asked for.
+fn put_shape(alloc: Global, shown: &mut String, file: &File) -> Result<(), AllocError> {
+    if let [word] = file.words.as_slice()
+        && word.as_str() == "shape"
+        && let Ok(form) = form_of(alloc, file.bytes.as_slice())
+    {
+        let line = format!(in alloc; "as {form:?}\n")?;
+        shown.push_str(line.as_str())?;
+    }
+    Ok(())
+}
+
+/// Appends the form of a file, and its packages, each with its license in brackets and its place, or why it has none.
 pub fn put_file(alloc: Global, shown: &mut String, file: &File) -> Result<(), AllocError> {
     shown.push_str("==")?;
     for word in &file.words {
@@ -82,10 +120,11 @@ pub fn put_file(alloc: Global, shown: &mut String, file: &File) -> Result<(), Al
         shown.push_str(if word.is_empty() { "-" } else { word.as_str() })?;
     }
     shown.push('\n')?;
+    put_shape(alloc, shown, file)?;
     match read(alloc, file) {
         Ok(packages) => {
             for package in &packages {
-                put_package(shown, package)?;
+                put_package(alloc, shown, package)?;
             }
             Ok(())
         }
@@ -96,7 +135,7 @@ pub fn put_file(alloc: Global, shown: &mut String, file: &File) -> Result<(), Al
     }
 }
 
-fn put_package(shown: &mut String, package: &Package) -> Result<(), AllocError> {
+fn put_package(alloc: Global, shown: &mut String, package: &Package) -> Result<(), AllocError> {
     shown.push_str(package.name.as_str())?;
     if let Some(version) = &package.version {
         shown.push(' ')?;
@@ -106,8 +145,30 @@ fn put_package(shown: &mut String, package: &Package) -> Result<(), AllocError> 
         License::Stated(text) => {
             shown.push_str(" [")?;
             shown.push_str(text.as_str())?;
-            shown.push_str("]\n")
+            shown.push(']')?;
         }
-        License::Unstated => shown.push_str(" unstated\n"),
+        License::Unstated => shown.push_str(" unstated")?,
     }
+    put_rest(alloc, shown, package)
+}
+
+fn put_rest(alloc: Global, shown: &mut String, package: &Package) -> Result<(), AllocError> {
+    if let Some(file) = &package.license_file {
+        shown.push_str(" in ")?;
+        shown.push_str(file.as_str())?;
+    }
+    if package.evidence != 0 {
+        let count = package.evidence;
+        shown.push_str(format!(in alloc; " evidence {count}")?.as_str())?;
+    }
+    if package.is_own {
+        shown.push_str(" own")?;
+    }
+    let place = match &package.spot {
+        Spot::Line(number) => format!(in alloc; " on line {number}\n")?,
+        Spot::Record(number) => format!(in alloc; " in record {number}\n")?,
+        Spot::Pointer(at) if at.is_empty() => String::from_str(alloc, " at the top\n")?,
+        Spot::Pointer(at) => format!(in alloc; " at {at}\n")?,
+    };
+    shown.push_str(place.as_str())
 }

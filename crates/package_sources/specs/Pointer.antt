@@ -1,7 +1,7 @@
 -- Which texts are JSON pointers (RFC 6901).
 use Rattle.std.specs.Prelude.{ℕ, Bool, true, not, ◌&&◌, ◌||◌, ◌==◌, nat_eq, List, [], ◌∷◌, length, Result, Ok, Err, if◌then◌else◌, codes}
 use Rattle.std.specs.List.{starts_with}
-use Rattle.package_sources.specs.Rows.{Fault, not_pointer}
+use Rattle.package_items.specs.Rows.{Fault, not_pointer}
 
 -- what may stand behind a tilde
 abbrev pub begins_escape : List ℕ → Bool

@@ -1,24 +1,77 @@
--- How the items of a list are read.
-use Rattle.std.specs.Prelude.{ℕ, List, Result}
-use Rattle.serde_json.specs.Data.{Data, Items}
+-- How items are read as packages.
+use Rattle.std.specs.Prelude.{ℕ, List, ◌++◌, Bool, false, bytes_eq, Option, Some, None, Result, Ok, if◌then◌else◌, codes}
+use Rattle.std.specs.Borrow.{Bor}
+use Rattle.serde_json.specs.Data.{Data, string}
+use Rattle.serde_json.specs.Find.{get, pointer}
+use Rattle.package_sources.specs.declared.form.Pointers.{Pointers}
 use Rattle.package_sources.specs.declared.reading.Reading.{Reading}
 use Rattle.package_sources.specs.declared.reading.Reading.TheVariants as reading
-use Rattle.package_sources.specs.Rows.{Fault, PackageRow}
-use Rattle.package_sources.specs.Packages.{pointed, cargo, cyclonedx, spdx}
-use Rattle.package_sources.specs.Items.{each_from}
-use Rattle.package_sources.specs.Places.{in_item}
+use Rattle.package_sources.specs.declared.several.Entry.TheVariants as entry
+use Rattle.package_items.specs.Rows.{Fault, LicenseRow, unstated, ItemRow, PackageRow}
+use Rattle.package_items.specs.Members.{on_ok, text_of, text_if_any, license_at}
+use Rattle.package_items.specs.Items.{list_items, each}
+use Rattle.package_items.specs.Packages.{said_of}
+use Rattle.package_sources.specs.Several.{choice_of}
+use Rattle.package_sources.specs.Npm.{is_list, name_of, npm_license}
+use Rattle.package_sources.specs.CycloneDx.{cyclonedx}
+use Rattle.package_sources.specs.Spdx.{spdx}
 
--- the package that an item is; `at` makes a pointer from the item one from the document
-abbrev pub package_of : Reading → (List ℕ → List ℕ) → Data → Result PackageRow Fault
-package_of (reading.Pointed p) at d = pointed p.name.now p.license.now at d
-package_of reading.Cargo at d = cargo at d
-package_of reading.CycloneDx at d = cyclonedx at d
-package_of reading.Spdx at d = spdx at d
+-- ---- pointers
 
--- the package that the item of that index is, of the list at a pointer
-unfoldable pub item_package : Reading → List ℕ → ℕ → Data → Result PackageRow Fault
-item_package r list index d = package_of r (in_item list index) d
+abbrev pub pointed_version : Option (Bor (List ℕ)) → ItemRow → Result (Option (List ℕ)) Fault
+pointed_version None i = Ok None
+pointed_version (Some p) i = text_if_any (i.at ++ p.now) (pointer p.now i.holds)
 
--- the packages that the items of the list at a pointer are: each of them is one, in their order
-abbrev pub packages_in : Reading → List ℕ → Items → Result (List PackageRow) Fault
-packages_in r list items = each_from (item_package r list) 0 items
+abbrev pub pointed : Pointers → ItemRow → Result PackageRow Fault
+pointed p i =
+    said_of i (text_of (i.at ++ p.name.now) (pointer p.name.now i.holds)) (pointed_version p.version i)
+    (license_at (i.at ++ p.license.now) (pointer p.license.now i.holds))
+
+-- ---- npm
+
+abbrev pub npm : ItemRow → Result PackageRow Fault
+npm i = said_of i (name_of i) (text_if_any (i.at ++ codes "/version") (get (codes "version") i.holds)) (npm_license i)
+
+-- ---- Composer
+
+-- a text, or a list of texts, of which each is a choice
+abbrev pub composer_license : ItemRow → Result LicenseRow Fault
+composer_license i =
+    if is_list (get (codes "license") i.holds)
+    then on_ok (list_items (i.at ++ codes "/license") (get (codes "license") i.holds)) (choice_of entry.Text)
+    else license_at (i.at ++ codes "/license") (get (codes "license") i.holds)
+
+abbrev pub composer : ItemRow → Result PackageRow Fault
+composer i = said_of i (name_of i) (text_if_any (i.at ++ codes "/version") (get (codes "version") i.holds)) (composer_license i)
+
+-- ---- pip
+
+abbrev pub is_unknown : Option Data → Bool
+is_unknown (Some (string s)) = bytes_eq s (codes "UNKNOWN")
+is_unknown found = false
+
+-- `UNKNOWN` states nothing
+abbrev pub pip_license : ItemRow → Result LicenseRow Fault
+pip_license i =
+    if is_unknown (get (codes "License") i.holds) then Ok unstated
+    else license_at (i.at ++ codes "/License") (get (codes "License") i.holds)
+
+abbrev pub pip : ItemRow → Result PackageRow Fault
+pip i =
+    said_of i (text_of (i.at ++ codes "/Name") (get (codes "Name") i.holds))
+    (text_if_any (i.at ++ codes "/Version") (get (codes "Version") i.holds)) (pip_license i)
+
+-- ---- each form
+
+-- the package that an item is
+abbrev pub package_of : Reading → ItemRow → Result PackageRow Fault
+package_of (reading.Pointed p) i = pointed p i
+package_of reading.Npm i = npm i
+package_of reading.Composer i = composer i
+package_of reading.Pip i = pip i
+package_of reading.CycloneDx i = cyclonedx i
+package_of reading.Spdx i = spdx i
+
+-- the packages that items are: each is one, in their order
+abbrev pub packages_of : Reading → List ItemRow → Result (List PackageRow) Fault
+packages_of r items = each (λ i. package_of r i) items

@@ -4,19 +4,20 @@
 //! the words `OR` and `AND`.
 #![tactic(auto)]
 
-pub mod error;
-mod items;
-mod json;
-mod lines;
-mod member;
-pub mod package;
-mod place;
+mod cargo;
+mod cyclonedx;
+mod folder;
+pub mod form;
+pub mod guess;
+mod npm;
 mod pointer;
 mod reading;
 mod several;
 pub mod sources;
+mod spdx;
 mod texts;
 
-pub use crate::error::{Found, SourceError, SourceFault};
-pub use crate::package::{Form, License, Package, Pointers};
+pub use crate::form::{Form, Pointers};
+pub use crate::guess::form_of;
 pub use crate::sources::{packages, packages_at};
+pub use package_items::{Found, License, Package, SourceError, SourceFault, Spot};

@@ -2,9 +2,9 @@
 
 ghost use Rattle.std.specs.Prelude.{◌≡◌, Ok, Err, IfOk, IfErr};
 ghost use Rattle.package_sources.specs.Pointer as spec;
-ghost use Rattle.package_sources.specs.Rows.{Says};
+ghost use Rattle.package_items.specs.Rows.{Says};
 
-use crate::error::{SourceError, SourceFault};
+use package_items::{SourceError, SourceFault};
 use std::alloc::Global;
 
 fn begins_escape(bytes: &[u8]) -> bool

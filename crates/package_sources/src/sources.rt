@@ -2,119 +2,170 @@
 
 ghost use Rattle.std.specs.Prelude.{◌≡◌, Ok, Err, IfOk, IfErr, map, codes};
 ghost use Rattle.serde_json.specs.View.{view};
-ghost use Rattle.package_sources.specs.Rows.{Says, row_of};
+ghost use Rattle.package_items.specs.Rows.{Says, item_row, row_of};
 ghost use Rattle.package_sources.specs.Sources as spec;
-ghost use Rattle.package_sources.specs.Values.{seen};
 
-use crate::error::SourceError;
-use crate::items::{list_of, packages_in};
-use crate::json::value_of;
-use crate::lines::{Line, packages_in_lines};
-use crate::package::{Form, Package, Pointers};
-use crate::place::Place;
+use crate::cargo::cargo_packages;
+use crate::cyclonedx::cyclonedx_items;
+use crate::form::{Form, Pointers};
+use crate::npm::npm_items;
 use crate::pointer::checked;
-use crate::reading::{Reading, npm};
+use crate::reading::{Reading, packages_of};
+use crate::spdx::spdx_items;
+use package_items::{
+    Item, Package, SourceError, list_items, list_items_if_any, root_item, value_of,
+};
+use package_readers::{
+    Separator, checked_packages, graph_packages, metadata_packages, packages_in_lines,
+    packages_in_table, pnpm_packages, verdict_packages,
+};
 use serde_json::Value;
 use std::alloc::Global;
 
-// The packages of the list that stands at a pointer.
-fn listed(
-    alloc: Global,
-    reading: &Reading<'_>,
-    list: &str,
-    found: Option<&Value>,
-) -> Result<Vec<Package>, SourceError>
-    ensures ok { IfOk result (λ ps.
-        spec.listed reading.now list.now (seen found.entry) ≡ Ok (map row_of ps.items)) }
-    ensures err { IfErr result (Says (λ f.
-        spec.listed reading.now list.now (seen found.entry) ≡ Err f)) }
+/// The bytes behind the mark that some editors put first.
+pub(crate) fn without_mark(bytes: &[u8]) -> &[u8]
+    ensures { result.now ≡ spec.without_mark bytes.now }
 {
-    let items = list_of(alloc, &Place::Document, list, found)?;
-    packages_in(alloc, reading, list, items)
+    if bytes.starts_with(b"\xef\xbb\xbf") {
+        return &bytes[3..];
+    }
+    bytes
 }
 
-// The one value of the file.
+/// The one value of the file.
 #[tactic(auto, unfolding(crate::specs::Sources::document))]
-fn document(alloc: Global, bytes: &[u8]) -> Result<Value, SourceError>
+pub(crate) fn document(alloc: Global, bytes: &[u8]) -> Result<Value, SourceError>
     ensures ok { IfOk result (λ v. spec.document bytes.now ≡ Ok (view v)) }
     ensures err { IfErr result (Says (λ f. spec.document bytes.now ≡ Err f)) }
 {
     value_of(alloc, bytes)
 }
 
-fn cargo(alloc: Global, bytes: &[u8]) -> Result<Vec<Package>, SourceError>
-    ensures ok { IfOk result (λ ps. spec.cargo bytes.now ≡ Ok (map row_of ps.items)) }
-    ensures err { IfErr result (Says (λ f. spec.cargo bytes.now ≡ Err f)) }
+fn cargo(alloc: Global, document: &Value) -> Result<Vec<Package>, SourceError>
+    ensures ok { IfOk result (λ ps. spec.cargo (view document.now) ≡ Ok (map row_of ps.items)) }
+    ensures err { IfErr result (Says (λ f. spec.cargo (view document.now) ≡ Err f)) }
 {
-    let value = document(alloc, bytes)?;
-    listed(alloc, &Reading::Cargo, "/packages", value.get("packages"))
+    let items = list_items(alloc, "/packages", document.get("packages"))?;
+    let members = list_items_if_any(
+        alloc,
+        "/workspace_members",
+        document.get("workspace_members"),
+    )?;
+    cargo_packages(alloc, members.as_slice(), items.as_slice())
 }
 
-fn spdx(alloc: Global, bytes: &[u8]) -> Result<Vec<Package>, SourceError>
-    ensures ok { IfOk result (λ ps. spec.spdx bytes.now ≡ Ok (map row_of ps.items)) }
-    ensures err { IfErr result (Says (λ f. spec.spdx bytes.now ≡ Err f)) }
-{
-    let value = document(alloc, bytes)?;
-    listed(alloc, &Reading::Spdx, "/packages", value.get("packages"))
-}
-
-fn npm_packages(alloc: Global, bytes: &[u8]) -> Result<Vec<Package>, SourceError>
-    ensures ok { IfOk result (λ ps. spec.npm_packages bytes.now ≡ Ok (map row_of ps.items)) }
-    ensures err { IfErr result (Says (λ f. spec.npm_packages bytes.now ≡ Err f)) }
-{
-    let value = document(alloc, bytes)?;
-    let package = npm(alloc, &Place::Document, &value)?;
-    let mut packages = Vec::new(alloc);
-    packages.push(package)?;
-    Ok(packages)
-}
-
-fn is_bom(value: &Value) -> bool
-    ensures { result ≡ spec.is_bom (view value.now) }
-{
-    match value.get("bomFormat") {
-        Some(Value::String(text)) => text.as_str() == "CycloneDX",
-        _ => false,
-    }
-}
-
-// The components of a document, which may have none if it says what it is.
-fn components(alloc: Global, value: &Value) -> Result<Vec<Package>, SourceError>
+fn npm(alloc: Global, folder: &str, document: &Value) -> Result<Vec<Package>, SourceError>
     ensures ok { IfOk result (λ ps.
-        spec.components (view value.now) ≡ Ok (map row_of ps.items)) }
-    ensures err { IfErr result (Says (λ f. spec.components (view value.now) ≡ Err f)) }
+        spec.npm folder.now (view document.now) ≡ Ok (map row_of ps.items)) }
+    ensures err { IfErr result (Says (λ f. spec.npm folder.now (view document.now) ≡ Err f)) }
 {
-    let found = value.get("components");
-    match found {
-        None if is_bom(value) => Ok(Vec::new(alloc)),
-        _ => listed(alloc, &Reading::CycloneDx, "/components", found),
+    let items = npm_items(alloc, folder, document)?;
+    packages_of(alloc, &Reading::Npm, items.as_slice())
+}
+
+// The items of what Composer writes: those of a lock file, or a composer.json, which is one.
+fn composer_items<'v>(
+    alloc: Global,
+    folder: &'v str,
+    document: &'v Value,
+) -> Result<Vec<Item<'v>>, SourceError>
+    ensures ok { IfOk result (λ v.
+        spec.composer_items folder.now (view document.now) ≡ Ok (map item_row v.items)) }
+    ensures err { IfErr result (Says (λ f.
+        spec.composer_items folder.now (view document.now) ≡ Err f)) }
+{
+    let found = document.get("packages");
+    if found.is_none() {
+        let mut items = Vec::new(alloc);
+        items.push(root_item(alloc, folder, false, document))?;
+        return Ok(items);
     }
+    let mut items = list_items(alloc, "/packages", found)?;
+    let mut more = list_items_if_any(alloc, "/packages-dev", document.get("packages-dev"))?;
+    items.append(&mut more)?;
+    Ok(items)
 }
 
-fn cyclonedx(alloc: Global, bytes: &[u8]) -> Result<Vec<Package>, SourceError>
-    ensures ok { IfOk result (λ ps. spec.cyclonedx bytes.now ≡ Ok (map row_of ps.items)) }
-    ensures err { IfErr result (Says (λ f. spec.cyclonedx bytes.now ≡ Err f)) }
+fn composer(alloc: Global, folder: &str, document: &Value) -> Result<Vec<Package>, SourceError>
+    ensures ok { IfOk result (λ ps.
+        spec.composer folder.now (view document.now) ≡ Ok (map row_of ps.items)) }
+    ensures err { IfErr result (Says (λ f.
+        spec.composer folder.now (view document.now) ≡ Err f)) }
 {
-    let value = document(alloc, bytes)?;
-    components(alloc, &value)
+    let items = composer_items(alloc, folder, document)?;
+    packages_of(alloc, &Reading::Composer, items.as_slice())
 }
 
-/// The packages that a file of the form lists: each of its items is one, in their order. Linear.
+fn pip(alloc: Global, document: &Value) -> Result<Vec<Package>, SourceError>
+    ensures ok { IfOk result (λ ps. spec.pip (view document.now) ≡ Ok (map row_of ps.items)) }
+    ensures err { IfErr result (Says (λ f. spec.pip (view document.now) ≡ Err f)) }
+{
+    let items = list_items(alloc, "", Some(document))?;
+    packages_of(alloc, &Reading::Pip, items.as_slice())
+}
+
+fn cyclonedx(alloc: Global, document: &Value) -> Result<Vec<Package>, SourceError>
+    ensures ok { IfOk result (λ ps.
+        spec.cyclonedx (view document.now) ≡ Ok (map row_of ps.items)) }
+    ensures err { IfErr result (Says (λ f. spec.cyclonedx (view document.now) ≡ Err f)) }
+{
+    let items = cyclonedx_items(alloc, document)?;
+    packages_of(alloc, &Reading::CycloneDx, items.as_slice())
+}
+
+fn spdx(alloc: Global, document: &Value) -> Result<Vec<Package>, SourceError>
+    ensures ok { IfOk result (λ ps. spec.spdx (view document.now) ≡ Ok (map row_of ps.items)) }
+    ensures err { IfErr result (Says (λ f. spec.spdx (view document.now) ≡ Err f)) }
+{
+    let items = spdx_items(alloc, document)?;
+    packages_of(alloc, &Reading::Spdx, items.as_slice())
+}
+
+/// The packages that a file of the form lists: each of its items is one, in their order. A package without a name has
+/// that of its folder; of the package that the whole file is, or is about, that is `folder`. Linear, but for one's own
+/// packages, which are looked for among the members of the workspace.
 ///
 /// # Errors
 ///
 /// The first fault of the file, or that memory was refused.
-pub fn packages(alloc: Global, form: Form, bytes: &[u8]) -> Result<Vec<Package>, SourceError>
-    ensures ok { IfOk result (λ ps. spec.packages form bytes.now ≡ Ok (map row_of ps.items)) }
-    ensures err { IfErr result (Says (λ f. spec.packages form bytes.now ≡ Err f)) }
+pub fn packages(
+    alloc: Global,
+    form: Form,
+    folder: &str,
+    bytes: &[u8],
+) -> Result<Vec<Package>, SourceError>
+    ensures ok { IfOk result (λ ps.
+        spec.packages form folder.now bytes.now ≡ Ok (map row_of ps.items)) }
+    ensures err { IfErr result (Says (λ f. spec.packages form folder.now bytes.now ≡ Err f)) }
 {
+    let bytes = without_mark(bytes);
     match form {
-        Form::Lines => packages_in_lines(alloc, Line::License, bytes),
-        Form::Tsv => packages_in_lines(alloc, Line::Columns, bytes),
-        Form::Cargo => cargo(alloc, bytes),
-        Form::Npm => npm_packages(alloc, bytes),
-        Form::CycloneDx => cyclonedx(alloc, bytes),
-        Form::Spdx => spdx(alloc, bytes),
+        Form::Lines => packages_in_lines(alloc, bytes),
+        Form::Tsv { header } => packages_in_table(alloc, Separator::Tab, header, bytes),
+        Form::Csv { header } => packages_in_table(alloc, Separator::Comma, header, bytes),
+        Form::Cargo => cargo(alloc, &document(alloc, bytes)?),
+        Form::Npm => npm(alloc, folder, &document(alloc, bytes)?),
+        Form::Composer => composer(alloc, folder, &document(alloc, bytes)?),
+        Form::Pip => pip(alloc, &document(alloc, bytes)?),
+        Form::CycloneDx => cyclonedx(alloc, &document(alloc, bytes)?),
+        Form::Spdx => spdx(alloc, &document(alloc, bytes)?),
+        Form::LicenseChecker => checked_packages(alloc, &document(alloc, bytes)?),
+        Form::Pnpm => pnpm_packages(alloc, &document(alloc, bytes)?),
+        Form::Metadata => metadata_packages(alloc, bytes),
+        Form::SpdxThree => graph_packages(alloc, &document(alloc, bytes)?),
+        Form::Verdicts => verdict_packages(alloc, bytes),
+    }
+}
+
+fn checked_if_any(alloc: Global, pointer: Option<&str>) -> Result<(), SourceError>
+    ensures ok { IfOk result (λ _.
+        spec.checked_if_any (spec.shown pointer.entry) ≡ Ok (spec.shown pointer.entry)) }
+    ensures err { IfErr result (Says (λ f.
+        spec.checked_if_any (spec.shown pointer.entry) ≡ Err f)) }
+{
+    match pointer {
+        Some(pointer) => checked(alloc, pointer),
+        None => Ok(()),
     }
 }
 
@@ -135,8 +186,9 @@ pub fn packages_at(
 {
     checked(alloc, pointers.each)?;
     checked(alloc, pointers.name)?;
+    checked_if_any(alloc, pointers.version)?;
     checked(alloc, pointers.license)?;
-    let value = document(alloc, bytes)?;
-    let found = value.pointer(pointers.each);
-    listed(alloc, &Reading::Pointed(*pointers), pointers.each, found)
+    let value = document(alloc, without_mark(bytes))?;
+    let items = list_items(alloc, pointers.each, value.pointer(pointers.each))?;
+    packages_of(alloc, &Reading::Pointed(*pointers), items.as_slice())
 }

@@ -96,10 +96,10 @@ fn clarified(alloc: Global, policy: &Policy<'_>, asked: &str) -> Result<String, 
 }
 
 /// What the policy answers to a question.
-pub(crate) fn answer(
+pub(crate) fn answer<'c>(
     alloc: Global,
-    catalogue: &Catalogue,
-    policy: &Policy<'_>,
+    catalogue: &'c Catalogue,
+    policy: &Policy<'c>,
     asked: &str,
 ) -> Result<String, AllocError> {
     if asked == "policy" {
@@ -114,5 +114,6 @@ pub(crate) fn answer(
         return String::from_str(alloc, "no requirement");
     };
     let exceptions = policy.exceptions_for(alloc, name, version_of(version))?;
-    decided(alloc, policy, policy.decide(&exceptions, &req))
+    let decision = policy.decide(alloc, &exceptions, &req)?;
+    decided(alloc, policy, decision)
 }

@@ -1,7 +1,8 @@
 //! The worked rows of policies, over the list in the file of its argument.
 //!
 //! Standard input has sections, with a line `==` before each. A section is a policy in TOML, or `@FILE` for the file of
-//! one, then a line `--` and rows, each a question and what is to be answered, with `=>` between:
+//! one, then a line `--` and rows, each a question and what is to be answered, with `=>` between. A policy behind a
+//! line `%FILE` is read by the list in that file.
 //!
 //! - `policy`: its settings, or why it is none
 //! - `PACKAGE VERSION REQUIREMENT`: which entry decides the requirement of the package; `-` is no version
@@ -13,10 +14,24 @@
 mod answers;
 
 use crate::answers::{answer, fault_text};
+use spdx_alternatives::{Heirs, Restated};
 use spdx_catalogue::Catalogue;
 use spdx_policy::Policy;
+use std::io::{self, ErrorKind};
 use std::process::ExitCode;
-use std::{env, fs, io};
+use std::{env, fs};
+
+// What stands in the place of deprecated names that the rows have.
+const HEIRS: [Restated<'static>; 2] = [
+    Restated {
+        name: "GPL-2.0-with-classpath-exception",
+        write: "GPL-2.0-only WITH Classpath-exception-2.0",
+    },
+    Restated {
+        name: "Nokia-Qt-exception-1.1",
+        write: "Qt-LGPL-exception-1.1",
+    },
+];
 
 // How many rows held, and how many did not.
 #[derive(Clone, Copy)]
@@ -25,10 +40,10 @@ struct Count {
     others: u64,
 }
 
-fn try_row(
+fn try_row<'c>(
     rt: &HostRuntime,
-    catalogue: &Catalogue,
-    policy: &Result<Policy<'_>, String>,
+    catalogue: &'c Catalogue,
+    policy: &Result<Policy<'c>, String>,
     row: &str,
 ) -> io::Result<bool> {
     let (asked, wanted) = row.split_once("=>").unwrap_or((row, ""));
@@ -48,12 +63,13 @@ fn policy_of<'c>(
     catalogue: &'c Catalogue,
     text: &str,
 ) -> io::Result<Result<Policy<'c>, String>> {
+    let heirs = Heirs::of_rows(rt.alloc(), catalogue, &HEIRS)?;
     let read = match text.trim().strip_prefix('@') {
         Some(path) => {
             let bytes = fs::read(rt, path)?;
-            Policy::from_toml(rt.alloc(), catalogue, bytes.as_slice())
+            Policy::from_toml(rt.alloc(), catalogue, heirs, bytes.as_slice())
         }
-        None => Policy::from_toml(rt.alloc(), catalogue, text.as_bytes()),
+        None => Policy::from_toml(rt.alloc(), catalogue, heirs, text.as_bytes()),
     };
     match read {
         Ok(policy) => Ok(Ok(policy)),
@@ -82,6 +98,16 @@ fn try_section(
     Ok(count)
 }
 
+// The same of a section that names its own list.
+fn try_by(rt: &HostRuntime, own: &str, count: Count) -> io::Result<Count> {
+    let (path, section) = own.split_once('\n').unwrap_or((own, ""));
+    let list = fs::read(rt, path)?;
+    match Catalogue::from_json(rt.alloc(), list.as_slice()) {
+        Ok(catalogue) => try_section(rt, &catalogue, section, count),
+        Err(_) => Err(io::Error::from(ErrorKind::InvalidData)),
+    }
+}
+
 fn start(rt: &HostRuntime) -> io::Result<u8> {
     let Some(path) = env::args(rt)?.nth(1) else {
         return Ok(2);
@@ -93,7 +119,10 @@ fn start(rt: &HostRuntime) -> io::Result<u8> {
     };
     let mut count = Count { held: 0, others: 0 };
     for section in text.as_str().split("==\n") {
-        count = try_section(rt, &catalogue, section, count)?;
+        count = match section.strip_prefix('%') {
+            Some(own) => try_by(rt, own, count)?,
+            None => try_section(rt, &catalogue, section, count)?,
+        };
     }
     let (held, others) = (count.held, count.others);
     println!(rt; "{held} rows hold, {others} don't")?;

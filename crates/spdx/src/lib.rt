@@ -1,8 +1,18 @@
-//! SPDX licence expressions over a catalogue of licences: read, refused with exact spans, written in
-//! a canonical text, evaluated, and met by the least choice of licensees.
+//! SPDX licence expressions over a catalogue of licences: read, refused with exact spans, written in a canonical
+//! text, evaluated, and met by the least choice of licensees.
 //!
-//! `docs/EXPRESSIONS.md` says what a text means. The headline is the contract of
-//! [`Expression::parse_mode`] and [`Expression::canonicalize`].
+//! `docs/EXPRESSIONS.md` says what a text means. The headline is the contract of [`Expression::parse_mode`] and
+//! [`Expression::canonicalize`].
+//!
+//! ```rust
+//! // crates/spdx_uses/src/gate.rt
+//! let expression = Expression::parse(alloc, catalogue, text)?;
+//! let mut policy = |req: &LicenseReq<'_>| is_accepted(accepted, req);
+//! Ok(expression.evaluate(alloc, &mut policy)?)
+//! ```
+//!
+//! It stands on the layers `spdx_requirement` to `spdx_normal`, and hands on what users need of them: callers name
+//! `spdx` alone.
 #![tactic(auto)]
 
 pub mod error;

@@ -1,8 +1,10 @@
-//! The calls of `spdx_calls` as C makes them: slices cross as a pointer and a length, answers as one struct of numbers,
-//! and a list that was read as a handle.
+//! The calls of `spdx_calls` as C makes them: slices cross as a pointer and a length, answers as one struct of
+//! numbers, and a list that was read as a handle.
 //!
-//! `c/spdx.c` stands before these exports, turns null pointers away, and lends a copy of the handle to each call that
-//! reads its list; `c/spdx.h` says what each call does.
+//! `c/spdx.c` stands before these exports, turns null pointers away, and lends a copy of the handle to each call
+//! that reads its list. `c/spdx.h` says what each call does; `samples/` calls them.
+//!
+//! It stands on `spdx_calls` and `spdx_handle`.
 #![tactic(auto)]
 
 ghost use Rattle.std.specs.Prelude.{◌≡◌, ◌≢◌, None};

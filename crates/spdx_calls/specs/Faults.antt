@@ -14,6 +14,7 @@ use Rattle.spdx_canonical.specs.Code.{placed_fault}
 use Rattle.spdx_calls.specs.declared.fault.CallFault.{CallFault}
 use Rattle.spdx_calls.specs.declared.fault.CallFault.TheVariants.{NotText, Refused, LicenseeNotText, Licensee, Memory}
 use Rattle.spdx_calls.specs.Reasons.{refusal_of}
+use Rattle.spdx_calls.specs.Answers.{Reads}
 use Rattle.spdx_calls.specs.Licensees.{AreNamed}
 
 -- why bytes are no expression: they are no text, or a text whose first fault this is; of want of memory nothing
@@ -23,9 +24,14 @@ IsTextFault c m text (Refused r) = (error : ParseError) × IsRefused c m text er
 IsTextFault c m text Memory = Unit {0}
 IsTextFault c m text _ = ⊥
 
+-- the text is an expression that has no canonical text
+abbrev pub HasNoCanonical : Rows → ParseMode → List ℕ → ParseError → Type 0
+HasNoCanonical c m text error = Reads c m text × (canonical_of c text ≡ Err (placed_fault error))
+
 -- the same, or the text has no canonical one
 abbrev pub IsCanonicalFault : Rows → ParseMode → List ℕ → CallFault → Type 0
-IsCanonicalFault c m text (Refused r) = (error : ParseError) × (IsRefused c m text error ⊎ (canonical_of c text ≡ Err (placed_fault error))) × (r ≡ refusal_of error)
+IsCanonicalFault c m text (Refused r) =
+    (error : ParseError) × (IsRefused c m text error ⊎ HasNoCanonical c m text error) × (r ≡ refusal_of error)
 IsCanonicalFault c m text fault = IsTextFault c m text fault
 
 abbrev pub IsFixFault : List ℕ → CallFault → Type 0

@@ -10,11 +10,13 @@ use Rattle.spdx.specs.Value.{Written}
 use Rattle.spdx_calls.specs.declared.fault.CallFault.{CallFault}
 use Rattle.spdx_calls.specs.declared.fault.CallFault.TheVariants.{Unmet, TooMany}
 use Rattle.spdx_calls.specs.Licensees.{AreNamed}
+use Rattle.spdx_calls.specs.Answers.{Reads}
 use Rattle.spdx_calls.specs.Faults.{IsTextFault, IsLicenseesFault}
 
--- the text's fault, or that of a licensee
+-- the text's fault; or that of a licensee, where the text is an expression
 abbrev pub IsQuestionFault : Rows → ParseMode → List ℕ → List ℕ → CallFault → Type 0
-IsQuestionFault c m text licensees fault = IsTextFault c m text fault ⊎ IsLicenseesFault c (lines_of licensees) fault
+IsQuestionFault c m text licensees fault =
+    IsTextFault c m text fault ⊎ (Reads c m text × IsLicenseesFault c (lines_of licensees) fault)
 
 -- no choice of these licensees is enough, or too many of them are useful
 pub record HasNoChoice (c : Rows) (m : ParseMode) (text licensees : List ℕ) (fault : CallFault) : Type 0 where

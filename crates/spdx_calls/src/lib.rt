@@ -1,6 +1,13 @@
 //! The calls of `spdx` over bytes: texts come as slices and go into a buffer of the caller, whole or not at all.
 //!
 //! They are what callers in other languages have; `spdx_c` hands them on. No call keeps anything.
+//!
+//! ```rust
+//! // crates/spdx_c/src/lib.rt
+//! Some(mode) => of_put(spdx_calls::canonical(alloc, seen.get(), mode, text, out)),
+//! ```
+//!
+//! It stands on `spdx` and `spdx_lines`.
 #![tactic(auto)]
 
 pub mod bits;

@@ -1,4 +1,14 @@
 //! A checked catalogue of SPDX licences and exceptions, and its look-ups.
+//!
+//! A catalogue is made of rows that break no rule, and stays so: each look-up then equals its definition over the
+//! rows.
+//!
+//! ```rust
+//! // crates/spdx_c/src/opening.rt
+//! match Catalogue::from_json(alloc, list) {
+//! ```
+//!
+//! It stands on `spdx_requirement` and `spdx_tables`.
 #![tactic(auto)]
 
 pub mod catalogue;

@@ -1,4 +1,12 @@
-//! The truth of a licence expression's nodes over a closure's answers to its requirements.
+//! The truth of a licence expression's nodes over a closure's answers to its requirements, and the requirements
+//! that it refuses.
+//!
+//! ```rust
+//! // crates/spdx/src/expression/evaluate.rt
+//! spdx_evaluation::evaluate(alloc, self.nodes(), f)
+//! ```
+//!
+//! It stands on the parser and `bit_stack`.
 #![tactic(auto)]
 
 pub mod failures;

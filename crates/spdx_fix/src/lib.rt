@@ -1,4 +1,11 @@
 //! The mended text of a licence expression that strict parsing refuses.
+//!
+//! ```rust
+//! // crates/spdx/src/expression/fix.rt
+//! spdx_fix::fix(alloc, cat, text)
+//! ```
+//!
+//! It stands on the parser and `spdx_canonical`.
 #![tactic(auto)]
 
 ghost use Rattle.std.specs.Prelude.{◌≡◌, IfOk, true, false, option_map, string_bytes};

@@ -4,7 +4,7 @@ use Rattle.spdx_requirement.specs.Rows.{Rows}
 use Rattle.spdx_requirement.specs.Items.{Requirement}
 use Rattle.spdx_lexer.specs.declared.token.ParseMode.{ParseMode}
 use Rattle.spdx_parser.specs.declared.node.ExprNode.{ExprNode}
-use Rattle.spdx_parser.specs.Tree.{Tree, Node, leaves, postfix, node_of}
+use Rattle.spdx_parser.specs.Tree.{Tree, leaves, postfix, node_of}
 use Rattle.spdx_parser.specs.Meaning.{IsParsed}
 use Rattle.spdx_evaluation.specs.Postfix.{IsPostfix, tree_in, tree_of}
 use Rattle.spdx_evaluation.specs.PostfixLaws.{tree_of_postfix}
@@ -15,9 +15,10 @@ use Rattle.spdx_policy.specs.Rules.{Rules}
 use Rattle.spdx_why.specs.declared.marks.Mark.{Mark}
 use Rattle.spdx_why.specs.Marks.{allows}
 use Rattle.spdx_gate.specs.declared.judgement.Judged.{Judged}
-use Rattle.spdx_gate.specs.Judging.{mode_of, mark_of, allowed_in, IsDecided, IsJudged}
+use Rattle.spdx_gate.specs.Allowing.{mark_of, allowed_in}
+use Rattle.spdx_gate.specs.Judging.{mode_of, IsDecided, IsJudged}
 
-each_allowed : (p : Rules) (tables : List ℕ) (rs : List Requirement) → map allows (map mark_of (map (decision_of p tables) rs)) ≡ map (allowed_in p tables) rs
+pub each_allowed : (p : Rules) (tables : List ℕ) (rs : List Requirement) → map allows (map mark_of (map (decision_of p tables) rs)) ≡ map (allowed_in p tables) rs
 each_allowed p tables [] = refl
 each_allowed p tables (r ∷ rs) = ap (λ (z : List Bool). allowed_in p tables r ∷ z) (each_allowed p tables rs)
 

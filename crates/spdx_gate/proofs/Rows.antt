@@ -1,5 +1,5 @@
 -- The rows of a report, and the judgements, one package more.
-use Rattle.std.proofs.Common.{◌≡◌, ℕ, zero, suc, ◌+◌, ◌<◌, ◌⊎◌, inl, inr, List, [], ◌∷◌, ◌++◌, Option, Some, None, length, take, refl, sym, ◌∙◌, ap, subst, arith, get_or}
+use Rattle.std.proofs.Common.{◌≡◌, ℕ, zero, suc, ◌+◌, ◌<◌, ◌⊎◌, inl, inr, List, [], ◌∷◌, ◌++◌, Option, Some, None, length, take, refl, sym, ◌∙◌, ap, subst, get_or}
 use Rattle.std.specs.Prelude.{slice_get, string_bytes, All, Contains}
 use Rattle.std.specs.List.{AllZip}
 use Rattle.std.proofs.lemmas.List.{take_more}
@@ -8,15 +8,15 @@ use Rattle.std.proofs.lemmas.Option.{slice_get_within, get_or_from_slice_get}
 use Rattle.spdx_requirement.specs.Rows.{Rows}
 use Rattle.spdx_policy.specs.Rules.{Rules}
 use Rattle.spdx_gate.specs.declared.package.Package.{Package}
-use Rattle.spdx_gate.specs.declared.package.Verdict.{Verdict}
 use Rattle.spdx_gate.specs.declared.package.Verdict.TheVariants as verdict
 use Rattle.spdx_gate.specs.declared.judgement.Outcome.{Outcome}
 use Rattle.spdx_gate.specs.declared.judgement.Outcome.TheVariants as outcome
 use Rattle.spdx_gate.specs.declared.judgement.Judgement.{Judgement}
 use Rattle.spdx_gate.specs.declared.report.Row.{Row}
 use Rattle.spdx_gate.specs.Judging.{IsOutcome}
-use Rattle.spdx_gate.specs.Reports.{tables_of, text_of, clarified_by, IsVerdictOfText, IsOf, IsRight, IsAt, IsPlaceOf, IsRow, IsAsked, outcome_verdict}
-use Rattle.spdx_gate.specs.Benches.{AddsOne, Adds, AddsOf, AddsFor}
+use Rattle.spdx_gate.specs.Reports.{tables_of, text_of, clarified_by, IsVerdictOfText, IsRight, IsAt, IsPlaceOf, IsRow, IsAsked, IsOf, AreDistinct, outcome_verdict}
+use Rattle.spdx_gate.specs.Benches.{IsUnknown, AddsOne, Adds, AddsOf, AddsFor}
+use Rattle.spdx_gate.proofs.Benches.{distinct_more, distinct_none}
 
 get_kept : {X : Type 0} (xs ys : List X) (k : ℕ) (x : X) → slice_get xs k ≡ Some x → slice_get (xs ++ ys) k ≡ Some x
 get_kept [] ys k x e = let bad : None ≡ Some x = e in cc
@@ -55,23 +55,30 @@ pub record More (c : Rows) (p : Rules) (tables : List ℕ) (text : Option (List 
   pub right : IsRight c p judgement
   pub text_is : text ≡ Some (string_bytes judgement.text)
   pub tables_are : tables ≡ judgement.exceptions.items
+  pub unknown : IsUnknown old judgement.exceptions.items (string_bytes judgement.text)
+
+unknown_by : (js : List Judgement) (tables text : List ℕ) (j : Judgement) → IsOf tables text j → IsUnknown js tables text → IsUnknown js j.exceptions.items (string_bytes j.text)
+unknown_by js tables text j is_of none =
+    subst (λ (z : List ℕ). IsUnknown js j.exceptions.items z) (sym is_of.text_is) (subst (λ (z : List ℕ). IsUnknown js z text) (sym is_of.exceptions_are) none)
 
 more_or_same : (c : Rows) (p : Rules) (tables : List ℕ) (text : Option (List ℕ)) (old new : List Judgement) → AddsOf c p tables text old new → (new ≡ old) ⊎ More c p tables text old new
 more_or_same c p tables None old new e = inl e
 more_or_same c p tables (Some t) old new (inl e) = inl e
-more_or_same c p tables (Some t) old new (inr a) = inr (record { judgement = a.judgement; last = a.last; right = a.right; text_is = ap Some (sym a.is_of.text_is); tables_are = sym a.is_of.exceptions_are })
+more_or_same c p tables (Some t) old new (inr a) = inr (record { judgement = a.judgement; last = a.last; right = a.right; text_is = ap Some (sym a.is_of.text_is); tables_are = sym a.is_of.exceptions_are; unknown = unknown_by old tables t a.judgement a.is_of a.unknown })
 
 -- after i packages
 pub record Reporting (c : Rows) (p : Rules) (xs : List Package) (i : ℕ) (js : List Judgement) (rows : List Row) : Type 0 where
   pub rows_are : AllZip (IsRow c p js) (take i xs) rows
   pub right : All (IsRight c p) js
   pub asked : All (IsAsked p xs) js
+  pub distinct : AreDistinct js
 
 pub begins : (c : Rows) (p : Rules) (xs : List Package) (js : List Judgement) (rows : List Row) → js ≡ [] → rows ≡ [] → Reporting c p xs 0 js rows
 begins c p xs js rows e f = record {
   rows_are = subst (λ (z : List Row). AllZip (IsRow c p js) [] z) (sym f) nothing;
   right = All-same (IsRight c p) js [] e (All-nil (IsRight c p));
   asked = All-same (IsAsked p xs) js [] e (All-nil (IsAsked p xs));
+  distinct = subst AreDistinct (sym e) distinct_none;
 }
   where
     nothing : AllZip (IsRow c p js) [] []
@@ -89,11 +96,13 @@ one_more c p xs i js new rows more d x row v lt is adds made e =
         rows_are = push (subst (λ (z : List Judgement). AllZip (IsRow c p z) (take i xs) rows) (sym same) v.rows_are);
         right = All-same (IsRight c p) new js same v.right;
         asked = All-same (IsAsked p xs) new js same v.asked;
+        distinct = subst AreDistinct (sym same) v.distinct;
       }
       | inr m ↦ record {
         rows_are = push (subst (λ (z : List Judgement). AllZip (IsRow c p z) (take i xs) rows) (sym m.last) (rows_kept c p js (m.judgement ∷ []) (take i xs) rows v.rows_are));
         right = All-same (IsRight c p) new (js ++ m.judgement ∷ []) m.last (All-push (IsRight c p) js m.judgement v.right m.right);
         asked = All-same (IsAsked p xs) new (js ++ m.judgement ∷ []) m.last (All-push (IsAsked p xs) js m.judgement v.asked (x, here, m.text_is, m.tables_are));
+        distinct = distinct_more js new m.judgement m.judgement.exceptions.items (string_bytes m.judgement.text) m.last v.distinct (record { text_is = refl; exceptions_are = refl }) m.unknown;
       }
     ]
 
@@ -153,12 +162,13 @@ get_last (y ∷ xs) x = get_last xs x
 
 -- a judgement is put last
 pub put_one : (c : Rows) (p : Rules) (tables text : List ℕ) (js new : List Judgement) (j : Judgement) → new ≡ js ++ j ∷ [] → string_bytes j.text ≡ text → j.exceptions.items ≡ tables
-    → IsOutcome c p tables text j.outcome → AddsOne c p tables text js new
-put_one c p tables text js new j e f g h = record {
+    → IsOutcome c p tables text j.outcome → IsUnknown js tables text → AddsOne c p tables text js new
+put_one c p tables text js new j e f g h none = record {
   judgement = j;
   last = e;
   is_of = record { text_is = f; exceptions_are = g };
   right = subst (λ (t : List ℕ). IsOutcome c p j.exceptions.items t j.outcome) (sym f) (subst (λ (z : List ℕ). IsOutcome c p z text j.outcome) (sym g) h);
+  unknown = none;
 }
 
 -- where the number of the others is its place

@@ -1,18 +1,26 @@
--- What one text more does to the judgements.
-use Rattle.std.specs.Prelude.{◌≡◌, ℕ, List, [], ◌∷◌, ◌++◌, Option, Some, None}
+-- What one text more does to the judgements, and where those of a text may stand.
+use Rattle.std.specs.Prelude.{◌≡◌, ℕ, List, [], ◌∷◌, ◌++◌, Option, Some, None, String, Vec, Contains, bytes_eq, if◌then◌else◌}
+use Rattle.std.specs.Option.{option_map_or}
+use Rattle.std.specs.BTreeMap.{BTreeMap, get_by_text}
+use Rattle.std.specs.declared.alloc.Global.{Global}
 use Rattle.std.proofs.Common.{◌⊎◌}
 use Rattle.spdx_requirement.specs.Rows.{Rows}
 use Rattle.spdx_policy.specs.Rules.{Rules}
 use Rattle.spdx_gate.specs.declared.judgement.Judgement.{Judgement}
 use Rattle.spdx_gate.specs.declared.package.Package.{Package}
-use Rattle.spdx_gate.specs.Reports.{IsOf, IsRight, tables_of, text_of}
+use Rattle.spdx_gate.specs.Reports.{IsOf, IsAt, IsRight, tables_of, text_of}
 
--- one more, which is right and of this text under these exceptions
+-- none of the judgements is of this text under these exceptions
+abbrev pub IsUnknown : List Judgement → List ℕ → List ℕ → Type 0
+IsUnknown js tables text = (k : ℕ) → IsAt js tables text k → ⊥
+
+-- one more, which is right and of this text under these exceptions, as none before it
 pub record AddsOne (c : Rows) (p : Rules) (tables text : List ℕ) (old new : List Judgement) : Type 0 where
   pub judgement : Judgement
   pub last : new ≡ old ++ judgement ∷ []
   pub is_of : IsOf tables text judgement
   pub right : IsRight c p judgement
+  pub unknown : IsUnknown old tables text
 
 -- none more, or that one
 abbrev pub Adds : Rows → Rules → List ℕ → List ℕ → List Judgement → List Judgement → Type 0
@@ -25,3 +33,19 @@ AddsOf c p tables (Some text) old new = Adds c p tables text old new
 
 abbrev pub AddsFor : Rows → Rules → Package → List Judgement → List Judgement → Type 0
 AddsFor c p x old new = AddsOf c p (tables_of p x) (text_of p x) old new
+
+-- places under texts
+abbrev pub Index : Type 0
+Index = BTreeMap (String Global) (Vec ℕ Global)
+
+abbrev pub places_at : Index → List ℕ → List ℕ
+places_at by_text text = option_map_or (λ (v : Vec ℕ Global). v.items) (get_by_text by_text text) []
+
+-- under that text the place stands last, and under each other one what stood there
+abbrev pub Notes : Index → List ℕ → ℕ → Index → Type 0
+Notes old text place new =
+    (q : List ℕ) → places_at new q ≡ (if bytes_eq q text then places_at old q ++ place ∷ [] else places_at old q)
+
+-- the place of each judgement stands under its text
+abbrev pub IsIndex : Index → List Judgement → Type 0
+IsIndex by_text js = (tables text : List ℕ) (k : ℕ) → IsAt js tables text k → Contains (places_at by_text text) k

@@ -1,26 +1,21 @@
 -- What a policy says of a text, under the exceptions of a package.
 use Rattle.std.specs.Prelude.{◌≡◌, ℕ, Bool, cond, List, [], map}
 use Rattle.spdx_requirement.specs.Rows.{Rows}
-use Rattle.spdx_requirement.specs.Items.{Requirement}
 use Rattle.spdx_lexer.specs.declared.token.ParseMode.{ParseMode}
 use Rattle.spdx_lexer.specs.Code.{span_of}
 use Rattle.spdx_lexer.specs.Faults.{fault_of}
 use Rattle.spdx_lexer.specs.Modes.{strict, lax}
-use Rattle.spdx_lexer.specs.Reading.{reading}
-use Rattle.spdx_lexer.specs.Words.{Placed, words}
 use Rattle.spdx_parser.specs.Tree.{Tree, leaves}
 use Rattle.spdx_parser.specs.Faults.{IsFaultOf, HasNoTree}
-use Rattle.spdx_parser.specs.Grammar.{IsTheTree}
 use Rattle.spdx_parser.specs.Meaning.{IsParsed}
 use Rattle.spdx_evaluation.specs.Postfix.{tree_in}
 use Rattle.spdx_evaluation.specs.Truth.{holds}
 use Rattle.spdx_policy.specs.declared.decision.Decision.{Decision}
-use Rattle.spdx_policy.specs.declared.decision.Decision.TheVariants as decision
 use Rattle.spdx_policy.specs.Decisions.{decision_of}
+pub use Rattle.spdx_gate.specs.Allowing.{mark_of, allowed_in}
+use Rattle.spdx_gate.specs.Advising.{IsAdvised}
 use Rattle.spdx_policy.specs.Rules.{Rules}
-use Rattle.spdx_why.specs.declared.marks.Mark.{Mark}
-use Rattle.spdx_why.specs.declared.marks.Mark.TheVariants as mark
-use Rattle.spdx_why.specs.Marks.{allows, leaves_open, none_of}
+use Rattle.spdx_why.specs.Marks.{allows, none_of}
 use Rattle.spdx_why.specs.Missing.{missing_of, Cures, Binds}
 use Rattle.spdx_why.specs.Least.{choice_of, advised}
 use Rattle.spdx_gate.specs.declared.package.Verdict.{Verdict}
@@ -34,25 +29,13 @@ use Rattle.spdx_gate.specs.Verdicts.{verdict_by}
 abbrev pub mode_of : Rules → ParseMode
 mode_of p = cond p.lax lax strict
 
-abbrev pub mark_of : Decision → Mark
-mark_of (decision.Allowed e) = mark.Allowed
-mark_of (decision.Denied e) = mark.Denied
-mark_of decision.Open = mark.Open
-
--- whether a requirement is allowed under some exceptions
-abbrev pub allowed_in : Rules → List ℕ → Requirement → Bool
-allowed_in p tables r = allows (mark_of (decision_of p tables r))
-
 -- the verdict of a tree under some exceptions
 abbrev pub verdict_of : Rules → List ℕ → Tree → Verdict
 verdict_of p tables t = verdict_by (holds (allowed_in p tables) t) (holds (allowed_in p []) t)
 
--- which requirements are accepted, and which nothing decides
+-- which requirements are accepted
 abbrev pub accepted_in : List Decision → List Bool
 accepted_in ds = map allows (map mark_of ds)
-
-abbrev pub open_in : List Decision → List Bool
-open_in ds = map leaves_open (map mark_of ds)
 
 -- none of them, where a choice begins with nothing
 abbrev pub none_in : List Decision → List Bool
@@ -64,7 +47,7 @@ pub record IsDecided (p : Rules) (tables : List ℕ) (t : Tree) (j : Judged) : T
   pub missing_are : j.missing.items ≡ missing_of t (accepted_in j.decisions.items)
   pub cures : Cures t (accepted_in j.decisions.items) j.missing.items
   pub binds : Binds t (accepted_in j.decisions.items) j.missing.items
-  pub remedy_is : advised j.remedy ≡ choice_of t (accepted_in j.decisions.items) (open_in j.decisions.items)
+  pub advice_is : IsAdvised p tables t j.advice
   pub choice_is : advised j.choice ≡ choice_of t (none_in j.decisions.items) (accepted_in j.decisions.items)
   pub verdict_is : j.verdict ≡ verdict_of p tables t
 

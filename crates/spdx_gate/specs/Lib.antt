@@ -1,4 +1,14 @@
 pub mod Verdicts
+pub mod Allowing
+pub mod Texts
+pub mod Advising
+pub mod Ways
 pub mod Judging
 pub mod Reports
+pub mod Needs
 pub mod Benches
+pub mod Spelling
+pub mod Rearranged
+pub mod Alike
+pub mod Normal
+pub mod OneReport

@@ -1,6 +1,6 @@
 -- What a report says of packages.
-use Rattle.std.specs.Prelude.{◌≡◌, ◌==◌, ℕ, Bool, true, false, ◌&&◌, List, [], ◌∷◌, ◌++◌, Option, Some, None, Ok, option_and_then, slice_get, map, string_bytes, All, Contains, count_by, length}
-use Rattle.std.specs.List.{AllZip, list_any, list_all}
+use Rattle.std.specs.Prelude.{◌≡◌, ◌==◌, ℕ, Bool, true, false, ◌&&◌, List, Option, Some, None, Ok, option_and_then, slice_get, map, string_bytes, All, Contains}
+use Rattle.std.specs.List.{AllZip, list_any}
 use Rattle.std.specs.Option.{option_copied}
 use Rattle.std.proofs.Common.{◌⊎◌}
 use Rattle.spdx_requirement.specs.Rows.{Rows}
@@ -75,6 +75,10 @@ pub record IsAt (js : List Judgement) (tables text : List ℕ) (k : ℕ) : Type 
   pub there : slice_get js k ≡ Some judgement
   pub is_of : IsOf tables text judgement
 
+-- no two of the judgements are of the same text under the same exceptions
+abbrev pub AreDistinct : List Judgement → Type 0
+AreDistinct js = (tables text : List ℕ) (i k : ℕ) → IsAt js tables text i → IsAt js tables text k → i ≡ k
+
 abbrev pub IsPlaceOf : List Judgement → List ℕ → Option (List ℕ) → Option ℕ → Type 0
 IsPlaceOf js tables None place = place ≡ None
 IsPlaceOf js tables (Some text) None = ⊥
@@ -91,11 +95,12 @@ pub record IsRow (c : Rows) (p : Rules) (js : List Judgement) (x : Package) (row
 abbrev pub IsAsked : Rules → List Package → Judgement → Type 0
 IsAsked p xs j = (x : Package) × Contains xs x × (text_of p x ≡ Some (string_bytes j.text)) × (tables_of p x ≡ j.exceptions.items)
 
--- A row for each package, in order; each judgement is right, and of one of the packages.
+-- A row for each package, in order; each judgement is right, of one of the packages, and there once.
 pub record IsReport (c : Rows) (p : Rules) (xs : List Package) (report : Report) : Type 0 where
   pub rows : AllZip (IsRow c p report.judgements.items) xs report.rows.items
   pub right : All (IsRight c p) report.judgements.items
   pub asked : All (IsAsked p xs) report.judgements.items
+  pub distinct : AreDistinct report.judgements.items
 
 -- which verdicts count as allowed, as refused, as unstated
 abbrev pub counts_allowed : Verdict → Bool

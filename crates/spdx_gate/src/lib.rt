@@ -1,13 +1,18 @@
 //! Packages under a policy: which pass, and why one doesn't.
 #![tactic(auto)]
 
+mod advice;
 mod bench;
 mod judgement;
+pub mod laws;
+mod needs;
 mod package;
 mod report;
 mod totals;
 
+pub use crate::advice::Advice;
 pub use crate::judgement::{Fault, Judged, Judgement, Outcome, judge_text};
+pub use crate::needs::Need;
 pub use crate::package::{Package, Verdict};
 pub use crate::report::{Report, Row, judge};
 pub use crate::totals::Totals;

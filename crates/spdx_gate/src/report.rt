@@ -6,7 +6,7 @@ ghost use Rattle.std.specs.Option.{option_copied};
 ghost use Rattle.spdx_gate.specs.Verdicts.{passes};
 ghost use Rattle.spdx_gate.specs.Reports as spec;
 ghost use Rattle.spdx_gate.specs.Reports.{IsRight, IsRow, IsReport, decided_in};
-ghost use Rattle.spdx_gate.specs.Benches.{AddsFor};
+ghost use Rattle.spdx_gate.specs.Benches.{AddsFor, IsIndex};
 
 use crate::bench::place_of;
 use crate::judgement::Judgement;
@@ -42,7 +42,7 @@ pub struct Report<'c> {
 pub fn judge<'c>(
     alloc: Global,
     catalogue: &'c Catalogue,
-    policy: &Policy<'_>,
+    policy: &Policy<'c>,
     packages: &[Package<'_>],
 ) -> Result<Report<'c>, AllocError>
     ensures { IfOk result (λ report.
@@ -69,16 +69,18 @@ pub fn judge<'c>(
 fn row_of<'c>(
     alloc: Global,
     catalogue: &'c Catalogue,
-    policy: &Policy<'_>,
+    policy: &Policy<'c>,
     asked: &Package<'_>,
     judgements: &mut Vec<Judgement<'c>>,
     by_text: &mut BTreeMap<String, Vec<usize>>,
 ) -> Result<Row, AllocError>
-    requires { All (IsRight catalogue.now policy.now) judgements.old.items }
+    requires right { All (IsRight catalogue.now policy.now) judgements.old.items }
+    requires index { IsIndex by_text.old judgements.old.items }
     ensures row { IfOk result (λ row.
         IsRow catalogue.now policy.now judgements.new.items asked.now row) }
     ensures adds { IfOk result (λ _. AddsFor catalogue.now policy.now asked.now
         judgements.old.items judgements.new.items) }
+    ensures index { IfOk result (λ _. IsIndex by_text.new judgements.new.items) }
 {
     let exceptions = policy.exceptions_for(alloc, asked.name, asked.version)?;
     let clarification = policy.clarification_for(alloc, asked.name, asked.version)?;

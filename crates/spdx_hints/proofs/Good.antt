@@ -10,6 +10,7 @@ use Rattle.spdx_requirement.specs.Rows.{Rows, LicenseRow, ImpreciseRow, license_
 use Rattle.spdx_requirement.specs.Flags.{is_deprecated}
 use Rattle.spdx_hints.specs.declared.rule.Rule.{Rule}
 use Rattle.spdx_hints.specs.Rules.{spellings, may_be_meant}
+use Rattle.spdx_hints.specs.Plain.{plain_of}
 use Rattle.spdx_hints.specs.Hints.{is_approved, six_or_none, few, given_by, first_given, can_mean, meant, rules_asked, hints_of, IsGoodName}
 
 -- ---- at most six
@@ -36,7 +37,8 @@ meant_six c phrase = either (can_mean phrase) (first_given (spellings c.imprecis
 
 pub hints_six : (c : Rows) (phrase : List ℕ) (names : List (List ℕ)) → names ≡ hints_of c phrase → length names ≤ 6
 unfolding hints_of
-hints_six c phrase names e = subst (λ n. n ≤ 6) (sym (ap length e ∙ length-map (meant c phrase) license_name)) (meant_six c phrase)
+hints_six c phrase names e =
+    subst (λ n. n ≤ 6) (sym (ap length e ∙ length-map (meant c (plain_of phrase)) license_name)) (meant_six c (plain_of phrase))
 
 -- the length of a vector of borrowed names
 pub len_six : {A : Type 0} (items : List (Bor A)) (len : ℕ) → len ≡ length items → length (nows items) ≤ 6 → len ≤ 6
@@ -76,9 +78,9 @@ module _ (c : Rows) where
   pub hints_good : (phrase : List ℕ) (names : List (List ℕ)) → names ≡ hints_of c phrase → All (IsGoodName c) names
   unfolding hints_of
   hints_good phrase names e =
-      All-same (IsGoodName c) names (map license_name (meant c phrase)) e
-      (All-map (IsGoodName c) license_name (meant c phrase)
-      (λ k d lt. let good = meant_good phrase k d lt in record { row = _; listed = good.0; undeprecated = good.1; is = refl }))
+      All-same (IsGoodName c) names (map license_name (meant c (plain_of phrase))) e
+      (All-map (IsGoodName c) license_name (meant c (plain_of phrase))
+      (λ k d lt. let good = meant_good (plain_of phrase) k d lt in record { row = _; listed = good.0; undeprecated = good.1; is = refl }))
 
 -- what is asked of a catalogue is what is asked of its rows
 pub meant_is : (c : Rows) (phrase : List ℕ) (found : List ImpreciseRow) (rows : List LicenseRow) → can_mean phrase ≡ true → found ≡ spellings c.imprecise phrase → rows ≡ c.licenses → first_given found phrase rows rules_asked ≡ meant c phrase

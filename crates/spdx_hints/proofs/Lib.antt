@@ -2,3 +2,4 @@ pub mod Spelled
 pub mod Asked
 pub mod Good
 pub mod Breaks
+pub mod Links

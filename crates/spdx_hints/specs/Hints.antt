@@ -3,6 +3,7 @@ use Rattle.std.specs.Prelude.{◌≡◌, ℕ, Bool, false, not, ◌&&◌, ◌==�
 use Rattle.spdx_requirement.specs.Rows.{Rows, LicenseRow, ImpreciseRow, license_name}
 use Rattle.spdx_requirement.specs.Flags.{is_deprecated, is_osi_approved}
 use Rattle.spdx_hints.specs.Words.{has_words, has_numbers}
+use Rattle.spdx_hints.specs.Plain.{plain_of}
 use Rattle.spdx_hints.specs.Rules.{spellings, may_be_meant}
 use Rattle.spdx_hints.specs.declared.rule.Rule.{Rule}
 use Rattle.spdx_hints.specs.declared.rule.Rule.TheVariants.{SameWords, SameTitle, SameFamily, OtherNumbers, OneEdit, TwoEdits}
@@ -40,9 +41,9 @@ can_mean phrase = nat_le (length phrase) 128 && not (has_words [] phrase && has_
 abbrev pub meant : Rows → List ℕ → List LicenseRow
 meant c phrase = if can_mean phrase then first_given (spellings c.imprecise phrase) phrase c.licenses rules_asked else []
 
--- and their names
+-- and their names, for the phrase without links and the dots of initials
 unfoldable pub hints_of : Rows → List ℕ → List (List ℕ)
-hints_of c phrase = map license_name (meant c phrase)
+hints_of c phrase = map license_name (meant c (plain_of phrase))
 
 -- the name of a listed licence that is not deprecated
 pub record IsGoodName (c : Rows) (name : List ℕ) : Type 0 where

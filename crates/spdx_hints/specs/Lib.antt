@@ -3,3 +3,4 @@ pub mod Rules
 pub mod Hints
 pub mod Borrowed
 pub mod Phrase
+pub mod Plain

@@ -6,7 +6,7 @@ use Rattle.strsim.specs.Edits.{levenshtein_row}
 use Rattle.spdx_requirement.specs.Rows.{LicenseRow, ImpreciseRow}
 use Rattle.spdx_requirement.specs.Flags.{is_deprecated, is_osi_approved, is_fsf_free_libre}
 use Rattle.spdx_requirement.specs.Versions.{base}
-use Rattle.spdx_hints.specs.Words.{word, has_word, has_words, has_numbers}
+use Rattle.spdx_hints.specs.Words.{word, has_word, has_words, has_numbers, keeps_telling}
 use Rattle.spdx_hints.specs.declared.rule.Rule.{Rule}
 use Rattle.spdx_hints.specs.declared.rule.Rule.TheVariants.{SameWords, SameTitle, SameFamily, OtherNumbers, OneEdit, TwoEdits}
 
@@ -50,10 +50,12 @@ family_word r = word (base r.name)
 abbrev pub is_recognised : LicenseRow → Bool
 is_recognised r = is_osi_approved r.flags || is_fsf_free_libre r.flags
 
--- the licence is recognised; the family's word, of three letters or more, is one of the phrase's, and the phrase's numbers are the name's
+-- the licence is recognised; the family's word, of three letters or more, is one of the phrase's; the phrase's numbers are
+-- the name's, and its telling words are those of the name or the full name
 abbrev pub has_same_family : List ℕ → LicenseRow → Bool
 has_same_family phrase r =
-    is_recognised r && (nat_le 3 (length (family_word r)) && (has_word phrase (family_word r) && has_numbers r.name phrase))
+    is_recognised r && (nat_le 3 (length (family_word r)) && (has_word phrase (family_word r)
+    && (has_numbers r.name phrase && keeps_telling r.name r.full_name phrase)))
 
 -- the phrase has a word, and the licence's name or full name has its words, whatever the numbers
 abbrev pub has_other_numbers : List ℕ → LicenseRow → Bool

@@ -68,3 +68,45 @@ has_words b a = list_all (λ p. is_noise (word p) || has_word b (word p)) (piece
 -- the numbers of `a` are all numbers of `b`
 abbrev pub has_numbers : List ℕ → List ℕ → Bool
 has_numbers b a = list_all (λ p. length (number p) == 0 || has_number b (number p)) (pieces a)
+
+-- words of another licence that has most of the words
+abbrev pub names_another : List ℕ → Bool
+names_another w =
+    same w (codes "affero") || (same w (codes "lesser") || (same w (codes "library")
+    || (same w (codes "free") || (same w (codes "documentation") || (same w (codes "commons")
+    || (same w (codes "perl")))))))
+
+-- words of an older, a newer or a changed text
+abbrev pub names_an_age : List ℕ → Bool
+names_an_age w =
+    same w (codes "old") || (same w (codes "original") || (same w (codes "new") || (same w (codes "revised")
+    || (same w (codes "simplified") || (same w (codes "modification") || (same w (codes "shortened")
+    || (same w (codes "variant") || (same w (codes "clear") || (same w (codes "zero"))))))))))
+
+-- words of a text for one project, or of what it asks besides
+abbrev pub names_a_holder : List ℕ → Bool
+names_a_holder w =
+    same w (codes "netbsd") || (same w (codes "freebsd") || (same w (codes "openbsd")
+    || (same w (codes "patent") || (same w (codes "attribution") || (same w (codes "advertising")
+    || (same w (codes "acknowledgement") || (same w (codes "nuclear") || (same w (codes "views")
+    || (same w (codes "protection"))))))))))
+
+-- words of an exception or a limit
+abbrev pub names_a_limit : List ℕ → Bool
+names_a_limit w =
+    same w (codes "classpath") || (same w (codes "exception") || (same w (codes "font")
+    || (same w (codes "invariants") || (same w (codes "commercial") || (same w (codes "noncommercial")
+    || (same w (codes "derivatives") || (same w (codes "sharealike"))))))))
+
+-- a word that makes another licence of one, as `Affero` does: by them the licences of a family differ
+abbrev pub is_telling : List ℕ → Bool
+is_telling w = names_another w || (names_an_age w || (names_a_holder w || names_a_limit w))
+
+-- the word tells nothing, or is one of either text
+abbrev pub is_kept : List ℕ → List ℕ → List ℕ → Bool
+is_kept name full_name w = not (is_telling w) || (has_word name w || has_word full_name w)
+
+-- each telling word of the phrase is one of either text
+abbrev pub keeps_telling : List ℕ → List ℕ → List ℕ → Bool
+keeps_telling name full_name phrase =
+    list_all (λ p. is_kept name full_name (word p)) (pieces phrase)

@@ -7,6 +7,7 @@ ghost use Rattle.spdx_hints.specs.Hints as spec;
 ghost use Rattle.spdx_hints.specs.Hints.{hints_of, IsGoodName};
 ghost use Rattle.spdx_hints.specs.Rules as rules;
 
+use crate::plain::plain_of;
 use crate::rule::{Rule, may_be_meant, spellings};
 use crate::words::{has_numbers, has_words};
 use spdx_catalogue::Catalogue;
@@ -25,14 +26,16 @@ const LONGEST: usize = 128;
 ///
 /// The rules, in their order: the licence's name, full name or imprecise name has the same words
 /// and numbers; its name or full name has the same words, and the phrase's numbers; the word of
-/// its family is in the phrase, the phrase's numbers are in its name, and the Open Source
-/// Initiative or the Free Software Foundation recognises it; the phrase has a word, and its name or
+/// its family is in the phrase, the phrase's numbers are in its name, its telling words, as `Affero`
+/// or `Clear`, are in its name or full name, and the Open Source Initiative or the Free Software
+/// Foundation recognises it; the phrase has a word, and its name or
 /// full name has the same words and other numbers, as of a version that isn't listed; one edit leads
 /// to its name, or two, and the numbers are the same. Where a rule finds more than six it gives those that the Open
 /// Source Initiative has approved, or none if these are more than six too.
 ///
-/// A phrase without a word, or of more than 128 bytes, means none. Linear in the catalogue's rows,
-/// times the imprecise names that have the phrase's words.
+/// A phrase with a link is what stands before it, unless nothing does, and initials are read without
+/// their dots, `M.I.T.` as `MIT`. A phrase without a word, or of more than 128 bytes, means none.
+/// Linear in the catalogue's rows, times the imprecise names that have the phrase's words.
 ///
 /// # Errors
 ///
@@ -48,7 +51,8 @@ pub fn hints<'c>(
     ensures good { IfOk result (λ names.
         All (IsGoodName catalogue.entry.now) (nows names.items)) }
 {
-    let rows = meant(alloc, catalogue, phrase)?;
+    let plain = plain_of(alloc, phrase)?;
+    let rows = meant(alloc, catalogue, &plain)?;
     names_of(alloc, rows.as_slice())
 }
 

@@ -6,7 +6,7 @@ ghost use Rattle.spdx_requirement.specs.Rows.{row_of, imprecise_of};
 ghost use Rattle.spdx_hints.specs.Rules as spec;
 ghost use Rattle.spdx_hints.specs.Borrowed.{nows};
 
-use crate::words::{has_numbers, has_word, has_words, word};
+use crate::words::{has_numbers, has_word, has_words, keeps_telling, word};
 use spdx_requirement::LicenseId;
 use spdx_requirement::row::{ImpreciseName, License};
 use std::alloc::{AllocError, Global};
@@ -19,8 +19,9 @@ pub(crate) enum Rule {
     SameWords,
     /// Its name or full name has the same words, and the phrase's numbers among others.
     SameTitle,
-    /// The word before its name's first hyphen is in the phrase, whose numbers are in the name. Of
-    /// these only the licences that others recognise, since many of the words are common ones.
+    /// The word before its name's first hyphen is in the phrase, whose numbers are in the name, and
+    /// whose telling words, as `Affero`, are in its name or full name. Of these only the licences that
+    /// others recognise, since many of the words are common ones.
     SameFamily,
     /// Its name or full name has the same words, of which there is one at least, whatever the numbers: the licence is
     /// listed, and this version isn't.
@@ -113,6 +114,7 @@ fn has_same_family(phrase: &[u8], row: &License) -> bool
         && family.len() >= 3
         && has_word(phrase, family)
         && has_numbers(row.name.as_bytes(), phrase)
+        && keeps_telling(row.name.as_bytes(), row.full_name.as_bytes(), phrase)
 }
 
 fn has_other_numbers(phrase: &[u8], row: &License) -> bool

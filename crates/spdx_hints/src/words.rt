@@ -102,6 +102,87 @@ fn is_noise(word: &[u8]) -> bool
         || same(word, b"universal")
 }
 
+// Words of another licence that has most of the words.
+fn names_another(word: &[u8]) -> bool
+    ensures { result ≡ spec.names_another word.now }
+{
+    same(word, b"affero")
+        || same(word, b"lesser")
+        || same(word, b"library")
+        || same(word, b"free")
+        || same(word, b"documentation")
+        || same(word, b"commons")
+        || same(word, b"perl")
+}
+
+// Words of an older, a newer or a changed text.
+fn names_an_age(word: &[u8]) -> bool
+    ensures { result ≡ spec.names_an_age word.now }
+{
+    same(word, b"old")
+        || same(word, b"original")
+        || same(word, b"new")
+        || same(word, b"revised")
+        || same(word, b"simplified")
+        || same(word, b"modification")
+        || same(word, b"shortened")
+        || same(word, b"variant")
+        || same(word, b"clear")
+        || same(word, b"zero")
+}
+
+// Words of a text for one project, or of what it asks besides.
+fn names_a_holder(word: &[u8]) -> bool
+    ensures { result ≡ spec.names_a_holder word.now }
+{
+    same(word, b"netbsd")
+        || same(word, b"freebsd")
+        || same(word, b"openbsd")
+        || same(word, b"patent")
+        || same(word, b"attribution")
+        || same(word, b"advertising")
+        || same(word, b"acknowledgement")
+        || same(word, b"nuclear")
+        || same(word, b"views")
+        || same(word, b"protection")
+}
+
+// Words of an exception or a limit.
+fn names_a_limit(word: &[u8]) -> bool
+    ensures { result ≡ spec.names_a_limit word.now }
+{
+    same(word, b"classpath")
+        || same(word, b"exception")
+        || same(word, b"font")
+        || same(word, b"invariants")
+        || same(word, b"commercial")
+        || same(word, b"noncommercial")
+        || same(word, b"derivatives")
+        || same(word, b"sharealike")
+}
+
+// Whether the word makes another licence of one, as `Affero` does.
+fn is_telling(word: &[u8]) -> bool
+    ensures { result ≡ spec.is_telling word.now }
+{
+    names_another(word) || names_an_age(word) || names_a_holder(word) || names_a_limit(word)
+}
+
+fn is_kept(name: &[u8], full_name: &[u8], word: &[u8]) -> bool
+    ensures { result ≡ spec.is_kept name.now full_name.now word.now }
+{
+    !is_telling(word) || has_word(name, word) || has_word(full_name, word)
+}
+
+/// Whether every telling word of the phrase is one of either text.
+pub(crate) fn keeps_telling(name: &[u8], full_name: &[u8], phrase: &[u8]) -> bool
+    ensures { result ≡ spec.keeps_telling name.now full_name.now phrase.now }
+{
+    phrase
+        .split(|byte| !is_piece_byte(*byte))
+        .all(|piece| is_kept(name, full_name, word(piece)))
+}
+
 pub(crate) fn has_word(text: &[u8], wanted: &[u8]) -> bool
     ensures { result ≡ spec.has_word text.now wanted.now }
 {

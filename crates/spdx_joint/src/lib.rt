@@ -1,7 +1,14 @@
-//! One choice for all of some packages, each of which is allowed requirements of its own, and what each of them is then
-//! used under.
+//! One choice for all of some packages, each of which is allowed requirements of its own, and what each of them is
+//! then used under.
 //!
 //! A requirement of an expression is named by its number: how many stand before it in the text.
+//!
+//! ```rust
+//! // crates/joint_rows/src/answers.rt
+//! match joint_choices(alloc, &rows.offers)? {
+//! ```
+//!
+//! It stands on `spdx_gate` and `sufficiency`.
 #![tactic(auto)]
 
 mod asking;

@@ -32,7 +32,7 @@ pub enum Reading<'c> {
 pub fn allowed_text<'c>(
     alloc: Global,
     catalogue: &'c Catalogue,
-    policy: &Policy<'_>,
+    policy: &Policy<'c>,
     exceptions: &[usize],
     text: &str,
 ) -> Result<Reading<'c>, AllocError>

@@ -1,4 +1,12 @@
 //! The tokens of an SPDX licence expression, and the faults of a text.
+//!
+//! ```rust
+//! // crates/spdx_bench/src/calls.rt
+//! let mut lexer = Lexer::new_mode(catalogue, text, mode);
+//! for _ in lexer.by_ref() {
+//! ```
+//!
+//! It stands on `spdx_catalogue`.
 #![tactic(auto)]
 
 pub mod error;

@@ -126,15 +126,17 @@ fn versioned_name(id: LicenseId<'_>) -> &[u8]
     }
 }
 
-// Whether versions later than the licence's own are meant too.
-fn allows_later(id: LicenseId<'_>, or_later: bool) -> bool
+/// Whether versions later than the licence's own are meant too: by the mark, or by the ending
+/// `-or-later` of a GNU licence.
+pub fn allows_later(id: LicenseId<'_>, or_later: bool) -> bool
     ensures { result ≡ spec.allows_later (id_row id.entry) or_later }
 {
     or_later || id.is_gnu() && id.license().name.as_bytes().ends_with(b"-or-later")
 }
 
-// Whether the licence that is held is of the other's family and not older.
-fn is_as_late(held: LicenseId<'_>, required: LicenseId<'_>) -> bool
+/// Whether the licence that is held is of the other's family and not older: their names differ in
+/// their version alone, and both have one. Takes no memory, and time linear in the names.
+pub fn is_as_late(held: LicenseId<'_>, required: LicenseId<'_>) -> bool
     ensures { result ≡ spec.is_as_late (id_row held.entry) (id_row required.entry) }
 {
     let held = versioned_name(held);

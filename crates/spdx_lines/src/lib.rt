@@ -1,4 +1,11 @@
 //! Verdicts on lines of licence expressions, and the program that gives them.
+//!
+//! ```rust
+//! // crates/spdx_lines_main/src/start.rt
+//! Ok(serve(alloc, texts, bytes, &mut input, &mut output, faults))
+//! ```
+//!
+//! It stands on `spdx` and `line_engine`.
 #![tactic(auto)]
 
 mod all_lines;

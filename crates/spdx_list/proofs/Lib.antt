@@ -1,3 +1,6 @@
 pub mod Ordered
 pub mod Back
 pub mod Named
+pub mod Fitted
+pub mod ReadFull
+pub mod Told

@@ -5,3 +5,6 @@ pub mod Shown
 pub mod Made
 pub mod Written
 pub mod Names
+pub mod FullNames
+pub mod Diff
+pub mod DiffShown

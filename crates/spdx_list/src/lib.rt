@@ -1,8 +1,10 @@
 //! A catalogue made of SPDX's own two files, and a catalogue written as JSON.
 #![tactic(auto)]
 
+pub mod diff;
 pub mod error;
 pub mod extras;
+mod full_names;
 mod item;
 mod json;
 mod names;
@@ -10,6 +12,7 @@ mod order;
 pub mod tables;
 pub mod text;
 
+pub use crate::diff::{Listed, RowChange, RowDifferences, differences};
 pub use crate::error::{File, ListFault, Member, Table};
 pub use crate::extras::{Extras, Instead};
 pub use crate::tables::{catalogue_of, tables_of};

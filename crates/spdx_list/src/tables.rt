@@ -8,10 +8,12 @@ ghost use Rattle.spdx_tables.specs.TableReading.{rows_of};
 ghost use Rattle.spdx_list.specs.Files as spec;
 ghost use Rattle.spdx_list.specs.Made.{IsInOrder, Makes, IsRefused};
 ghost use Rattle.spdx_list.specs.Names.{Has};
+ghost use Rattle.spdx_list.specs.FullNames.{ReadsFullNames};
 ghost use Rattle.spdx_list.specs.Shown.{entry_of, shown_stated, shown_extras};
 
 use crate::error::{File, ListFault, Table};
 use crate::extras::Extras;
+use crate::full_names::with_full_names;
 use crate::item::{Entry, table_at};
 use crate::json::{text_at, value_of};
 use crate::names::{ends_in_plus, is_gnu_name, license_flags};
@@ -159,20 +161,28 @@ fn gathered(
 fn arranged(alloc: Global, tables: Tables) -> Result<Tables, AllocError>
     ensures { IfOk result (λ t. IsInOrder (rows_of tables) (rows_of t)) }
 {
+    let licenses = in_order(alloc, tables.licenses)?;
+    let exceptions = in_order(alloc, tables.exceptions)?;
+    let imprecise = with_full_names(alloc, &licenses, &exceptions, tables.imprecise)?;
     Ok(Tables {
         version: tables.version,
-        licenses: in_order(alloc, tables.licenses)?,
-        exceptions: in_order(alloc, tables.exceptions)?,
-        imprecise: tables.imprecise,
+        licenses,
+        exceptions,
+        imprecise,
     })
 }
 
 /// The tables that SPDX's files make: its licences but for those whose names end in `+`, and its
 /// exceptions, in the order of their names, by bytes, whatever their order there. A flag is set
-/// exactly where its member is true; one that is missing is false. The copyleft flag and the
-/// imprecise names come from the extras, the GNU flag from the name: those that begin with `GPL-`,
-/// `LGPL-`, `AGPL-` or `GFDL-` have it. Other keys are ignored, and numbers there may be floats; of a
-/// key that stands twice the last value counts.
+/// exactly where its member is true; one that is missing is false. The copyleft flag comes from the
+/// extras, the GNU flag from the name: those that begin with `GPL-`, `LGPL-`, `AGPL-` or `GFDL-` have
+/// it. Other keys are ignored, and numbers there may be floats; of a key that stands twice the last
+/// value counts.
+///
+/// The imprecise names are full names of licences, in the order of these, and behind them those of
+/// the extras. A full name is left out where its licence is deprecated, where it begins with the name
+/// of a listed licence or exception, as `MIT License`, and where it begins the full name of another
+/// licence that isn't deprecated, or one of the extras' imprecise names.
 ///
 /// # Errors
 ///
@@ -192,7 +202,8 @@ pub fn tables_of(
     Ok(arranged(alloc, tables)?)
 }
 
-/// The catalogue that SPDX's files make: that of `tables_of`.
+/// The catalogue that SPDX's files make: that of `tables_of`. By its imprecise names each full name
+/// that stands among them is its licence's, and each of the extras' is what it was.
 ///
 /// # Errors
 ///
@@ -205,6 +216,8 @@ pub fn catalogue_of(
 ) -> Result<Catalogue, Failure<ListFault>>
     ensures ok { IfOk result (λ c.
         Makes licenses.now exceptions.now (shown_extras extras.now) c) }
+    ensures full { IfOk result (λ c. ReadsFullNames c.licenses c.exceptions
+        (shown_extras extras.now).imprecise c.imprecise) }
     ensures err { IfErr result (IfRefused (
         IsRefused licenses.now exceptions.now (shown_extras extras.now))) }
 {

@@ -1,13 +1,13 @@
 //! Checks and mends SPDX licence expressions: the program over the process's own arguments and outputs.
 #![tactic(auto)]
 
-use spdx_program::{Screen, run};
+use spdx_program::{Screen, known_version, run};
 use spdx_words::{Request, read};
 use std::env;
 use std::io::{self, IsTerminal};
 use std::process::ExitCode;
 
-const VERSION: &str = "0.1.0 (SPDX license list 3.18)";
+const VERSION: &str = "0.1.0";
 
 fn main(rt: HostRuntime) -> anyhow::Result<ExitCode> {
     let alloc = rt.alloc();
@@ -18,7 +18,9 @@ fn main(rt: HostRuntime) -> anyhow::Result<ExitCode> {
             return Ok(ExitCode::from(2));
         }
     };
-    let request: Request<'_> = match read(alloc, VERSION, words.as_slice()) {
+    let list = known_version();
+    let version = format!(in alloc; "{VERSION} (SPDX license list {list})")?;
+    let request: Request<'_> = match read(alloc, version.as_str(), words.as_slice()) {
         Ok(request) => request,
         Err(error) => {
             error.print(&rt)?;

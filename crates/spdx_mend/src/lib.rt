@@ -1,4 +1,11 @@
 //! A text whose licence expressions are replaced by their fixes, and nothing else.
+//!
+//! ```rust
+//! // crates/spdx_program/src/fix.rt
+//! Ok(fix_all(alloc, job.catalogue, bytes, &spans)?)
+//! ```
+//!
+//! It stands on `spdx_fix`.
 #![tactic(auto)]
 
 mod mending;

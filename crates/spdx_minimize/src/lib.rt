@@ -1,4 +1,11 @@
 //! The least choice of licensees that makes expressions true, over the nodes of the expressions.
+//!
+//! ```rust
+//! // crates/spdx/src/expression/minimize.rt
+//! least_choice(alloc, slice::from_ref(&list), accepted)
+//! ```
+//!
+//! It stands on `spdx_evaluation`, `spdx_licensee` and `sufficiency`.
 #![tactic(auto)]
 
 pub mod accepted;

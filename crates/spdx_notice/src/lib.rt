@@ -1,5 +1,12 @@
-//! What each package of an attribution page is used under: the least choice of its expression alone, or one choice for
-//! all of them; and which texts a requirement of a choice wants.
+//! What each package of an attribution page is used under: the least choice of its expression alone, or one choice
+//! for all of them; and which texts a requirement of a choice needs.
+//!
+//! ```rust
+//! // crates/spdx_program/src/chosen.rt
+//! match own_choices(alloc, expression, accepted) {
+//! ```
+//!
+//! It stands on `spdx`.
 #![tactic(auto)]
 
 mod choices;

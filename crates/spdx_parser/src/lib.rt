@@ -1,4 +1,11 @@
 //! The nodes of a licence expression, and the parser that gives them.
+//!
+//! ```rust
+//! // crates/spdx/src/expression/parser.rt
+//! let nodes = parse_nodes(alloc, cat, text, mode)?;
+//! ```
+//!
+//! It stands on the lexer.
 #![tactic(auto)]
 
 mod last;

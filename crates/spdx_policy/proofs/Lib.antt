@@ -1,7 +1,9 @@
 pub mod Placed
 pub mod Holding
 pub mod Wins
+pub mod Grows
 pub mod Members
 pub mod Eaches
 pub mod Blamed
 pub mod NoPolicy
+pub mod Entries

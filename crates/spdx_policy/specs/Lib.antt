@@ -4,10 +4,16 @@ pub mod ScopesModel
 pub mod Rules
 pub mod Named
 pub mod PolicyModel
+pub mod OfferModel
 pub mod Decisions
+pub mod Growing
 pub mod Shape
+pub mod Escaped
+pub mod Lines
+pub mod Told
 pub mod Drafts
 pub mod Drawn
 pub mod Meant
+pub mod Old
 pub mod Blame
 pub mod Refused

@@ -13,6 +13,8 @@ named_rows names = map named_row names.items
 -- a policy shows its lists
 abbrev pub rules_shown : Inside → Rules
 rules_shown p = record {
+  list = p.catalogue.now;
+  heirs = p.heirs;
   lax = p.lax;
   unstated = p.unstated;
   allow = map named_row p.allow.items;

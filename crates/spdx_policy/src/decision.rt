@@ -1,7 +1,7 @@
 // What a policy says of a requirement, and which of its entries says so.
 
-ghost use Rattle.std.specs.Prelude.{◌≡◌};
-ghost use Rattle.spdx_requirement.specs.Items.{requirement_of, license_of};
+ghost use Rattle.std.specs.Prelude.{◌≡◌, option_map};
+ghost use Rattle.spdx_requirement.specs.Items.{requirement_of, license_of, addition_of};
 ghost use Rattle.spdx_policy.specs.Decisions as spec;
 ghost use Rattle.spdx_policy.specs.Rules.{flag_word};
 
@@ -74,26 +74,30 @@ impl Flag {
         }
     }
 
-    /// Whether the flag, where it denies, decides the requirement: its licence or, if deprecated is
-    /// meant, its listed exception has it. A reference has no flag.
-    pub fn denies(self, req: &LicenseReq<'_>) -> bool
-        ensures { result ≡ spec.denies (requirement_of req.now) self }
+    // Whether the addition has the flag: a listed exception that is deprecated.
+    fn is_of_addition(self, addition: &Option<AdditionItem<'_>>) -> bool
+        ensures { result ≡ spec.addition_has self (option_map addition_of addition.now) }
     {
-        if self.is_of_license(&req.license) {
-            return true;
-        }
-        match (self, &req.addition) {
+        match (self, addition) {
             (Flag::Deprecated, Some(AdditionItem::Spdx(id))) => id.is_deprecated(),
             _ => false,
         }
     }
 
-    /// Whether the flag, where it allows, decides the requirement: as `denies`, but only where both
-    /// its licence and its addition are listed, since nothing is known of a reference.
-    pub fn allows(self, req: &LicenseReq<'_>) -> bool
-        ensures { result ≡ spec.allows (requirement_of req.now) self }
+    /// Whether the flag denies a licence with its addition: its listed exception has it, if
+    /// deprecated is meant, or, where this counts, its licence. A reference has no flag.
+    pub(crate) fn denies(self, exposed: bool, way: &LicenseReq<'_>) -> bool
+        ensures { result ≡ spec.flag_denies exposed (requirement_of way.now) self }
     {
-        is_listed(req) && self.denies(req)
+        self.is_of_addition(&way.addition) || exposed && self.is_of_license(&way.license)
+    }
+
+    /// Whether the flag allows a licence with its addition: one of them has it, and both are listed,
+    /// since nothing is known of a reference.
+    pub(crate) fn allows(self, way: &LicenseReq<'_>) -> bool
+        ensures { result ≡ spec.flag_allows (requirement_of way.now) self }
+    {
+        is_listed(way) && (self.is_of_license(&way.license) || self.is_of_addition(&way.addition))
     }
 }
 

@@ -1,9 +1,10 @@
 // Why a text is no policy, and where.
 
-ghost use Rattle.std.specs.Prelude.{◌≡◌};
+ghost use Rattle.std.specs.Prelude.{◌≡◌, Some};
 ghost use Rattle.spdx_policy.specs.Shape as shape;
+ghost use Rattle.spdx_policy.specs.Told as told;
 
-use crate::escaped::Escaped;
+use crate::escaped::{Escaped, Quoted};
 use std::fmt;
 
 /// A key of a policy's tables.
@@ -118,6 +119,8 @@ impl Place {
 pub(crate) struct Dotted(pub Section);
 
 impl fmt::Display for Dotted {
+    ghost output = { λ d. Some (told.path_text d.0) };
+
     fn fmt<W: fmt::Write>(&self, f: &mut fmt::Formatter<W>) -> fmt::Result {
         match self.0 {
             Section::Policy => Ok(()),
@@ -128,6 +131,8 @@ impl fmt::Display for Dotted {
 }
 
 impl fmt::Display for Place {
+    ghost output = { λ p. Some (told.place_text p) };
+
     fn fmt<W: fmt::Write>(&self, f: &mut fmt::Formatter<W>) -> fmt::Result {
         let dot = Dotted(self.section);
         write!(f, "{dot}{}", self.key.word())?;
@@ -139,6 +144,8 @@ impl fmt::Display for Place {
 }
 
 impl fmt::Display for Kind {
+    ghost output = { λ k. Some (told.kind_text k) };
+
     fn fmt<W: fmt::Write>(&self, f: &mut fmt::Formatter<W>) -> fmt::Result {
         f.write_str(match self {
             Kind::Text => "a text",
@@ -150,6 +157,8 @@ impl fmt::Display for Kind {
 }
 
 impl fmt::Display for ShapeFault {
+    ghost output = { λ f. Some (told.shape_text (shape.shape_of f)) };
+
     fn fmt<W: fmt::Write>(&self, f: &mut fmt::Formatter<W>) -> fmt::Result {
         match self {
             ShapeFault::UnknownKey(section, key) => {
@@ -159,7 +168,7 @@ impl fmt::Display for ShapeFault {
             ShapeFault::Missing(place) => write!(f, "{place}: missing"),
             ShapeFault::WrongKind(place, kind) => write!(f, "{place}: not {kind}"),
             ShapeFault::UnknownWord(place, word) => {
-                write!(f, "{place}: unknown word \"{}\"", Escaped(word.as_str()))
+                write!(f, "{place}: unknown word {}", Quoted(word.as_str()))
             }
         }
     }

@@ -1,25 +1,25 @@
 // A policy, and what it says of a requirement.
 
 ghost use Rattle.std.specs.Prelude.{◌≡◌, IfOk, map, slice_get, length};
-ghost use Rattle.std.specs.List.{position};
 ghost use Rattle.std.specs.Option.{option_copied};
-ghost use Rattle.spdx_requirement.specs.Items.{requirement_of};
-ghost use Rattle.spdx_policy.specs.Decisions as spec;
 ghost use Rattle.spdx_policy.specs.Named.{named_row};
 ghost use Rattle.spdx_policy.specs.Rules as rules;
 ghost use Rattle.spdx_policy.specs.Scopes.{holds, places, package_at};
 
-use crate::decision::{Decision, Entry, Flag};
-use crate::named::{Named, first_allowing, first_denying, first_named};
+use crate::decision::{Entry, Flag};
+use crate::named::Named;
 use crate::scopes::Scopes;
-use spdx_requirement::requirement::LicenseReq;
+use spdx_alternatives::Heirs;
+use spdx_catalogue::Catalogue;
 use std::alloc::{AllocError, Global};
 use std::marker::Model;
 
-/// A policy of licences. Its lists are in the order of its file, and exceptions and clarifications
-/// are counted from 0.
+/// A policy of licences, with the list that it was read by. Its lists are in the order of its file,
+/// and exceptions and clarifications are counted from 0.
 #[derive(Drop)]
 pub struct Policy<'c> {
+    pub(crate) catalogue: &'c Catalogue,
+    pub(crate) heirs: Heirs<'c>,
     pub(crate) lax: bool,
     pub(crate) unstated: bool,
     pub(crate) allow: Vec<Named<'c>>,
@@ -94,71 +94,6 @@ impl<'c> Policy<'c> {
     {
         let expression = self.expressions.get(table)?;
         Some(expression.as_str())
-    }
-
-    /// What the policy says of a requirement, of a package for which these exceptions hold: the
-    /// first entry that decides it, of `deny`, then of `deny-if`, then of the exceptions in the
-    /// order given, then of `allow`, then of `allow-if`.
-    ///
-    /// An entry that names a licensee decides what the licensee satisfies; a flag decides what has
-    /// it, but allows only what is listed. Takes time by the number of entries.
-    pub fn decide(&self, exceptions: &[usize], req: &LicenseReq<'_>) -> Decision
-        ensures first { result ≡ spec.decision_of self.now exceptions.now (requirement_of req.now) }
-        ensures deny_wins { spec.is_denied result
-            ≡ spec.is_denied_by_some self.now (requirement_of req.now) }
-    {
-        if let Some(entry) = self.denied_by(req) {
-            return Decision::Denied(entry);
-        }
-        match self.allowed_under(exceptions, req) {
-            Some(entry) => Decision::Allowed(entry),
-            None => Decision::Open,
-        }
-    }
-
-    // The first entry that denies the requirement.
-    fn denied_by(&self, req: &LicenseReq<'_>) -> Option<Entry>
-        ensures { result ≡ spec.denied_by self.now (requirement_of req.now) }
-    {
-        match first_named(&self.deny, req) {
-            Some(place) => Some(Entry::Deny(place)),
-            None => Some(Entry::DenyIf(first_denying(&self.deny_if, req)?)),
-        }
-    }
-
-    // The first entry that allows the requirement.
-    fn allowed_under(&self, exceptions: &[usize], req: &LicenseReq<'_>) -> Option<Entry>
-        ensures { result
-            ≡ spec.allowed_under self.now exceptions.now (requirement_of req.now) }
-    {
-        if let Some(entry) = self.exempted_by(exceptions, req) {
-            return Some(entry);
-        }
-        match first_named(&self.allow, req) {
-            Some(place) => Some(Entry::Allow(place)),
-            None => Some(Entry::AllowIf(first_allowing(&self.allow_if, req)?)),
-        }
-    }
-
-    // The first entry of the exceptions that allows the requirement.
-    fn exempted_by(&self, exceptions: &[usize], req: &LicenseReq<'_>) -> Option<Entry>
-        ensures { result ≡ spec.exempted_by self.now exceptions.now (requirement_of req.now) }
-    {
-        for table in exceptions {
-            if let Some(place) = self.place_in(*table, req) {
-                return Some(Entry::Exception(*table, place));
-            }
-        }
-        None
-    }
-
-    // The first entry of an exception that allows the requirement.
-    fn place_in(&self, table: usize, req: &LicenseReq<'_>) -> Option<usize>
-        ensures { result ≡ position (spec.names (requirement_of req.now))
-            (rules.allowed_by self.now table) }
-    {
-        let names = self.exempting.get(table)?;
-        first_named(names, req)
     }
 
     /// How many entries `allow` has.

@@ -1,10 +1,15 @@
 // The names and ranges of a draft.
 
-ghost use Rattle.std.specs.Prelude.{◌≡◌, IfOk, IfErr, Err, map, option_map, slice_get, Some, string_bytes};
+ghost use Rattle.std.specs.Prelude.{◌≡◌, IfOk, IfErr, IfSome, IfNone, map, option_map, string_bytes};
 ghost use Rattle.std.specs.Option.{option_copied};
-ghost use Rattle.semver.specs.Parse.{req_of};
+ghost use Rattle.spdx_requirement.specs.Items.{Requirement, requirement_of, license_of};
 ghost use Rattle.spdx_requirement.specs.Failures.{IfRefused};
-ghost use Rattle.spdx_policy.specs.Meant.{Each, IsNamed, IsRange, IsExempted, IsExempting, IsClarified, reason, expression};
+ghost use Rattle.spdx_policy.specs.Meant as meant;
+ghost use Rattle.spdx_policy.specs.Old.{IsOneUnmarked};
+ghost use Rattle.spdx_lexer.specs.Code.{span_of};
+ghost use Rattle.spdx_lexer.specs.Faults.{fault_of};
+ghost use Rattle.spdx_licensee.specs.LicenseeText.{NamesNone, IsLicenseeFault};
+ghost use Rattle.spdx_policy.specs.Meant.{Each, IsEntry, IsNamed, IsOldEntry, IsRange, IsExempted, IsExempting, IsClarified, reason, expression};
 ghost use Rattle.spdx_policy.specs.Blame.{BlamesName, BlamesNames, BlamesRange, BlamesExempted, BlamesExempting, BlamesClarified};
 ghost use Rattle.spdx_policy.specs.Named.{named_row};
 ghost use Rattle.spdx_policy.specs.PolicyModel.{named_rows};
@@ -17,52 +22,139 @@ use crate::fault::{PolicyError, PolicyFault};
 use crate::named::Named;
 use crate::scopes::Scope;
 use semver::{Error, VersionReq};
-use spdx_catalogue::Catalogue;
-use spdx_lexer::ParseError;
+use spdx_alternatives::{Heirs, sense};
+use spdx_catalogue::{Catalogue, LicenseItem, LicenseReq};
+use spdx_lexer::{ParseError, ParseMode, Reason};
 use spdx_licensee::Licensee;
+use spdx_parser::node::ExprNode;
+use spdx_parser::parse_nodes;
 use spdx_requirement::failure::Failure;
 use std::alloc::{AllocError, Global};
+use std::ops::Range;
 
-// The entry of a text, which stands at the place.
-fn name_of<'c>(
+/// The entry of a text, which stands at the place.
+pub(crate) fn name_of<'c>(
+    alloc: Global,
+    cat: &'c Catalogue,
+    heirs: &Heirs<'c>,
+    place: Place,
+    text: &str,
+) -> Result<Named<'c>, Failure<PolicyFault>>
+    ensures ok { IfOk result (λ n. IsNamed cat.now heirs.now text.now (named_row n)) }
+    ensures err { IfErr result (IfRefused (BlamesName cat.now place text.now)) }
+{
+    let req = entry_of(alloc, cat, place, text)?;
+    Ok(Named {
+        text: String::from_str(alloc, text)?,
+        sense: sense(alloc, cat, heirs, &req)?,
+    })
+}
+
+// The requirement that the text of an entry names.
+fn entry_of<'c>(
     alloc: Global,
     cat: &'c Catalogue,
     place: Place,
     text: &str,
-) -> Result<Named<'c>, Failure<PolicyFault>>
-    ensures ok { IfOk result (λ n. IsNamed cat.now text.now (named_row n)) }
+) -> Result<LicenseReq<'c>, Failure<PolicyFault>>
+    ensures ok { IfOk result (λ r. IsEntry cat.now text.now (requirement_of r)) }
     ensures err { IfErr result (IfRefused (BlamesName cat.now place text.now)) }
 {
-    let copy = String::from_str(alloc, text)?;
     match Licensee::parse(alloc, cat, text) {
-        Ok(licensee) => Ok(Named {
-            text: copy,
-            licensee,
-        }),
+        Ok(licensee) => Ok(licensee.into_req()),
         Err(Failure::Memory(error)) => Err(Failure::Memory(error)),
-        Err(Failure::Refused(ParseError { span, reason, .. })) => Err(Failure::Refused(
-            PolicyFault::NotALicensee(place, copy, span, reason),
-        )),
+        Err(Failure::Refused(ParseError { span, reason, .. })) => {
+            old_or_fault(alloc, cat, place, text, span, reason)
+        }
     }
+}
+
+// The same of a text that names no licensee, for this reason.
+fn old_or_fault<'c>(
+    alloc: Global,
+    cat: &'c Catalogue,
+    place: Place,
+    text: &str,
+    span: Range<usize>,
+    reason: Reason,
+) -> Result<LicenseReq<'c>, Failure<PolicyFault>>
+    requires none { NamesNone cat.now text.now }
+    requires fault { IsLicenseeFault cat.now text.now (fault_of reason) (span_of span) }
+    ensures ok { IfOk result (λ r. IsEntry cat.now text.now (requirement_of r)) }
+    ensures err { IfErr result (IfRefused (BlamesName cat.now place text.now)) }
+{
+    if let Some(req) = old_entry(alloc, cat, text)? {
+        return Ok(req);
+    }
+    let copy = String::from_str(alloc, text)?;
+    Err(Failure::Refused(PolicyFault::NotALicensee(place, copy, span, reason)))
+}
+
+// What a text names in which deprecated names may stand: one requirement without a `+`.
+fn old_entry<'c>(
+    alloc: Global,
+    cat: &'c Catalogue,
+    text: &str,
+) -> Result<Option<LicenseReq<'c>>, AllocError>
+    ensures some { IfOk result (λ found. IfSome found (λ r.
+        IsOldEntry cat.now text.now (requirement_of r))) }
+    ensures none { IfOk result (λ found. IfNone found (
+        (r : Requirement) → IsOldEntry cat.now text.now r → ⊥)) }
+{
+    let mode = ParseMode {
+        allow_deprecated: true,
+        ..ParseMode::STRICT
+    };
+    match parse_nodes(alloc, cat, text, mode) {
+        Ok(nodes) => unmarked(alloc, nodes.as_slice()),
+        Err(Failure::Refused(_)) => Ok(None),
+        Err(Failure::Memory(error)) => Err(error),
+    }
+}
+
+// The requirement that the nodes are, if they are one without a `+`.
+fn unmarked<'c>(alloc: Global, nodes: &[ExprNode<'c>]) -> Result<Option<LicenseReq<'c>>, AllocError>
+    ensures some { IfOk result (λ found. IfSome found (λ r.
+        IsOneUnmarked nodes.now (requirement_of r))) }
+    ensures none { IfOk result (λ found. IfNone found (
+        (r : Requirement) → IsOneUnmarked nodes.now r → ⊥)) }
+{
+    if nodes.len() != 1 {
+        return Ok(None);
+    }
+    let ExprNode::Req(node) = &nodes[0] else {
+        return Ok(None);
+    };
+    if is_marked(&node.req.license) {
+        return Ok(None);
+    }
+    Ok(Some(node.req.try_clone(alloc)?))
+}
+
+fn is_marked(license: &LicenseItem<'_>) -> bool
+    ensures { result ≡ meant.is_marked (license_of license.now) }
+{
+    matches!(license, LicenseItem::Spdx { or_later: true, .. })
 }
 
 /// The entries of the texts that stand at a key.
 pub(crate) fn names_of<'c>(
     alloc: Global,
     cat: &'c Catalogue,
+    heirs: &Heirs<'c>,
     section: Section,
     key: Key,
     texts: &[String],
 ) -> Result<Vec<Named<'c>>, Failure<PolicyFault>>
     ensures ok { IfOk result (λ names.
-        Each (IsNamed cat.now) (map string_bytes texts.now) (named_rows names)) }
+        Each (IsNamed cat.now heirs.now) (map string_bytes texts.now) (named_rows names)) }
     ensures err { IfErr result (IfRefused (
         BlamesNames cat.now section key (map string_bytes texts.now))) }
 {
     let mut names = Vec::new(alloc);
     for (index, text) in texts.iter().enumerate() {
         let place = Place::one(section, key, index);
-        names.push(name_of(alloc, cat, place, text.as_str())?)?;
+        names.push(name_of(alloc, cat, heirs, place, text.as_str())?)?;
     }
     Ok(names)
 }
@@ -88,7 +180,8 @@ fn range_in(
                 return Err(Failure::Memory(AllocError));
             }
             let copy = String::from_str(alloc, text)?;
-            Err(Failure::Refused(PolicyFault::NotARange(section, copy, error)))
+            let words = format!(in alloc; "{error}")?;
+            Err(Failure::Refused(PolicyFault::NotARange(section, copy, error, words)))
         }
     }
 }
@@ -162,17 +255,19 @@ pub(crate) fn exempted_of(
 fn exempting_in<'c>(
     alloc: Global,
     cat: &'c Catalogue,
+    heirs: &Heirs<'c>,
     number: usize,
     exception: &ExceptionDraft,
 ) -> Result<Vec<Named<'c>>, Failure<PolicyFault>>
     ensures ok { IfOk result (λ names.
-        IsExempting cat.now (exception_row exception.now) (named_rows names)) }
+        IsExempting cat.now heirs.now (exception_row exception.now) (named_rows names)) }
     ensures err { IfErr result (IfRefused (BlamesNames cat.now (Section.Exception number)
         Key.Allow (exception_row exception.now).allow)) }
 {
     names_of(
         alloc,
         cat,
+        heirs,
         Section::Exception(number),
         Key::Allow,
         &exception.allow,
@@ -183,16 +278,17 @@ fn exempting_in<'c>(
 pub(crate) fn exempting_of<'c>(
     alloc: Global,
     cat: &'c Catalogue,
+    heirs: &Heirs<'c>,
     exceptions: &[ExceptionDraft],
 ) -> Result<Vec<Vec<Named<'c>>>, Failure<PolicyFault>>
-    ensures ok { IfOk result (λ lists. Each (IsExempting cat.now)
+    ensures ok { IfOk result (λ lists. Each (IsExempting cat.now heirs.now)
         (map exception_row exceptions.now) (map named_rows lists.items)) }
     ensures err { IfErr result (IfRefused (
         BlamesExempting cat.now (map exception_row exceptions.now))) }
 {
     let mut lists = Vec::new(alloc);
     for (index, exception) in exceptions.iter().enumerate() {
-        lists.push(exempting_in(alloc, cat, index, exception)?)?;
+        lists.push(exempting_in(alloc, cat, heirs, index, exception)?)?;
     }
     Ok(lists)
 }

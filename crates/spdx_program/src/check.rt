@@ -2,6 +2,7 @@
 
 use crate::console::Console;
 use crate::list;
+use crate::meant::mode_of;
 use crate::system::{System, bytes_of, input_bytes, is_binary, is_folder, paths_or_input};
 use crate::trouble::Trouble;
 use crate::walk::Walk;
@@ -9,7 +10,6 @@ use finding_forms::{Form, Place, Style, put_beginning, put_ending, put_totals};
 use license_tags::{Tag, tags};
 use line_engine::lines::{Summary, write_all};
 use line_engine::stream::Input as Lines;
-use spdx::ParseMode;
 use spdx_check::{Check, Totals, check_lines, check_one};
 use spdx_words::{CheckRequest, Form as AskedForm};
 use std::alloc::{AllocError, Global};
@@ -57,14 +57,6 @@ pub(crate) fn check<R: System, O: Write + Drop, F: Write + Drop>(
         write_all(&mut console.output, &text)?;
     }
     Ok(totals.status())
-}
-
-fn mode_of(is_lax: bool) -> ParseMode {
-    if is_lax {
-        ParseMode::LAX
-    } else {
-        ParseMode::STRICT
-    }
 }
 
 fn form_of(form: AskedForm, colours: bool) -> Form {

@@ -1,6 +1,8 @@
 // What each package is used under.
 
+use crate::meant::mode_of;
 use crate::policy::policy;
+use crate::several::Several;
 use crate::system::System;
 use crate::trouble::Trouble;
 use package_sources::{License, Package};
@@ -34,12 +36,7 @@ pub(crate) fn choices<R: System>(
     match request.accepted {
         Accepted::List(list, is_lax) => {
             let accepted = licensees(alloc, catalogue, list)?;
-            let mode = if is_lax {
-                ParseMode::LAX
-            } else {
-                ParseMode::STRICT
-            };
-            let expressions = expressions(alloc, catalogue, mode, packages)?;
+            let expressions = expressions(alloc, catalogue, mode_of(is_lax), packages)?;
             among(
                 alloc,
                 packages,
@@ -85,19 +82,32 @@ fn expressions<'c>(
     packages: &[&Package],
 ) -> Result<Vec<Expression<'c>>, Trouble> {
     let mut expressions = Vec::new(alloc);
+    let mut several = Several::new(alloc);
     for package in packages {
-        let text = stated(alloc, package)?;
-        match Expression::parse_mode(alloc, catalogue, text, mode) {
-            Ok(expression) => expressions.push(expression)?,
-            Err(Failure::Refused(error)) => {
-                let reason = error.reason;
-                let why = format!(in alloc; "{text}: {reason}")?;
-                return Err(without_choice(alloc, package, why)?);
-            }
-            Err(Failure::Memory(error)) => return Err(Trouble::from(error)),
+        let read = expression_of(alloc, catalogue, mode, package);
+        if let Some(expression) = several.keep(read)? {
+            expressions.push(expression)?;
         }
     }
-    Ok(expressions)
+    several.or(expressions)
+}
+
+fn expression_of<'c>(
+    alloc: Global,
+    catalogue: &'c Catalogue,
+    mode: ParseMode,
+    package: &Package,
+) -> Result<Expression<'c>, Trouble> {
+    let text = stated(alloc, package)?;
+    match Expression::parse_mode(alloc, catalogue, text, mode) {
+        Ok(expression) => Ok(expression),
+        Err(Failure::Refused(error)) => {
+            let reason = error.reason;
+            let why = format!(in alloc; "{text}: {reason}")?;
+            Err(without_choice(alloc, package, why)?)
+        }
+        Err(Failure::Memory(error)) => Err(Trouble::from(error)),
+    }
 }
 
 // The text of a package's licence.
@@ -130,36 +140,71 @@ fn among<'c>(
     one_for_all: bool,
 ) -> Result<Vec<Choice>, Trouble> {
     let lent: Vec<&Expression<'c>> = expressions.iter().collect(alloc)?;
-    let chosen = if one_for_all {
-        spdx_notice::joint_choices(alloc, &lent, accepted)
-    } else {
-        own_choices(alloc, &lent, accepted)
-    };
-    match chosen {
+    let own = own_among(alloc, packages, &lent, accepted)?;
+    if !one_for_all {
+        return Ok(own);
+    }
+    match spdx_notice::joint_choices(alloc, &lent, accepted) {
         Ok(choices) => with_texts(alloc, &choices),
-        Err(Failure::Refused(unmet)) => Err(unmet_trouble(alloc, packages, unmet)?),
+        Err(Failure::Refused(unmet)) => Err(unmet_trouble(alloc, unmet)?),
         Err(Failure::Memory(error)) => Err(Trouble::from(error)),
     }
 }
 
-fn unmet_trouble(
+// The choice of each package by itself. Each package that has none is told.
+fn own_among<'c>(
     alloc: Global,
     packages: &[&Package],
-    unmet: Unmet,
-) -> Result<Trouble, AllocError> {
-    match unmet {
-        Unmet::Expression { place, error } => {
-            let why = format!(in alloc; "{error}")?;
-            match packages.get(place) {
-                Some(package) => without_choice(alloc, package, why),
-                None => Ok(Trouble::NoChoice(String::new(alloc), why)),
-            }
-        }
-        Unmet::Together(error) => {
-            let why = format!(in alloc; "{error}")?;
-            Ok(Trouble::NoChoice(String::from_str(alloc, ALL)?, why))
+    expressions: &[&Expression<'c>],
+    accepted: &[Licensee<'c>],
+) -> Result<Vec<Choice>, Trouble> {
+    let mut all = Vec::new(alloc);
+    let mut several = Several::new(alloc);
+    for (package, expression) in packages.iter().zip(expressions.chunks(1)) {
+        let choice = own_choice(alloc, package, expression, accepted);
+        if let Some(choice) = several.keep(choice)? {
+            all.push(choice)?;
         }
     }
+    several.or(all)
+}
+
+// The choice of a package whose expression is the one of these.
+fn own_choice<'c>(
+    alloc: Global,
+    package: &Package,
+    expression: &[&Expression<'c>],
+    accepted: &[Licensee<'c>],
+) -> Result<Choice, Trouble> {
+    match own_choices(alloc, expression, accepted) {
+        Ok(choices) => {
+            let mut choice = Vec::new(alloc);
+            for requirements in &choices {
+                for requirement in requirements {
+                    choice.push(texts_of(alloc, requirement)?)?;
+                }
+            }
+            Ok(choice)
+        }
+        Err(Failure::Refused(unmet)) => {
+            let why = why_unmet(alloc, unmet)?;
+            Err(without_choice(alloc, package, why)?)
+        }
+        Err(Failure::Memory(error)) => Err(Trouble::from(error)),
+    }
+}
+
+fn why_unmet(alloc: Global, unmet: Unmet) -> Result<String, AllocError> {
+    match unmet {
+        Unmet::Expression { error, .. } => format!(in alloc; "{error}"),
+        Unmet::Together(error) => format!(in alloc; "{error}"),
+    }
+}
+
+// All packages have no choice together.
+fn unmet_trouble(alloc: Global, unmet: Unmet) -> Result<Trouble, AllocError> {
+    let why = why_unmet(alloc, unmet)?;
+    Ok(Trouble::NoChoice(String::from_str(alloc, ALL)?, why))
 }
 
 fn with_texts(alloc: Global, choices: &[Vec<LicenseReq<'_>>]) -> Result<Vec<Choice>, Trouble> {
@@ -175,10 +220,10 @@ fn with_texts(alloc: Global, choices: &[Vec<LicenseReq<'_>>]) -> Result<Vec<Choi
 }
 
 // The choice of each package among what the policy allows it.
-fn allowed(
+fn allowed<'c>(
     alloc: Global,
-    catalogue: &Catalogue,
-    policy: &Policy<'_>,
+    catalogue: &'c Catalogue,
+    policy: &Policy<'c>,
     packages: &[&Package],
     one_for_all: bool,
 ) -> Result<Vec<Choice>, Trouble> {
@@ -203,30 +248,43 @@ struct Offered<'c> {
     own: Vec<Remedy>,
 }
 
-// What the policy allows of each package. One that has no choice of its own is a trouble.
+// What the policy allows of each package. Each one that has no choice of its own is told.
 fn read_offers<'c>(
     alloc: Global,
     catalogue: &'c Catalogue,
-    policy: &Policy<'_>,
+    policy: &Policy<'c>,
     packages: &[&Package],
 ) -> Result<Offered<'c>, Trouble> {
     let mut offers = Vec::new(alloc);
     let mut own = Vec::new(alloc);
+    let mut several = Several::new(alloc);
     for package in packages {
-        let allowed = allowed_package(alloc, catalogue, policy, package)?;
-        let Allowed { offer, own: choice } = allowed;
-        numbers_of(alloc, package, &choice)?;
-        offers.push(offer)?;
-        own.push(choice)?;
+        let allowed = chosen_package(alloc, catalogue, policy, package);
+        if let Some(Allowed { offer, own: choice }) = several.keep(allowed)? {
+            offers.push(offer)?;
+            own.push(choice)?;
+        }
     }
-    Ok(Offered { offers, own })
+    several.or(Offered { offers, own })
+}
+
+// What the policy allows of a package that has a choice of its own.
+fn chosen_package<'c>(
+    alloc: Global,
+    catalogue: &'c Catalogue,
+    policy: &Policy<'c>,
+    package: &Package,
+) -> Result<Allowed<'c>, Trouble> {
+    let allowed = allowed_package(alloc, catalogue, policy, package)?;
+    numbers_of(alloc, package, &allowed.own)?;
+    Ok(allowed)
 }
 
 // What the policy allows of a package's expression.
 fn allowed_package<'c>(
     alloc: Global,
     catalogue: &'c Catalogue,
-    policy: &Policy<'_>,
+    policy: &Policy<'c>,
     package: &Package,
 ) -> Result<Allowed<'c>, Trouble> {
     let name = package.name.as_str();

@@ -54,8 +54,19 @@ pub(crate) struct Console<O: Drop, F: Drop> {
 }
 
 impl<O: Write + Drop, F: Write + Drop> Console<O, F> {
-    /// Tells a trouble, as far as that goes, and answers its status.
+    /// Tells a trouble, or each of several, as far as that goes, and answers the greatest status.
     pub(crate) fn tell(&mut self, alloc: Global, trouble: &Trouble) -> u8 {
+        let Trouble::Several(all) = trouble else {
+            return self.tell_one(alloc, trouble);
+        };
+        let mut status = 0;
+        for one in all {
+            status = self.tell_one(alloc, one).max(status);
+        }
+        status
+    }
+
+    fn tell_one(&mut self, alloc: Global, trouble: &Trouble) -> u8 {
         match trouble.line(alloc) {
             Ok(line) => {
                 let _ = write_all(&mut self.faults, &line);

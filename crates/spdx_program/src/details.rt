@@ -1,8 +1,8 @@
 // What is told of a judgement, but for the packages that it is of.
 
-use crate::shown::{Shown, leaves_of};
+use crate::shown::{Help, Shown, leaves_of};
 use crate::tree::parts;
-use gate_forms::{Leaf, Node, Verdict as ToldVerdict, Why};
+use gate_forms::{Advice, Leaf, Node, Verdict as ToldVerdict, Why};
 use spdx_gate::{Judgement, Outcome, Verdict};
 use std::alloc::{AllocError, Global};
 
@@ -12,7 +12,7 @@ pub(crate) struct Detail<'s> {
     pub(crate) expression: &'s str,
     pub(crate) nodes: Vec<Node<'s>>,
     missing: Vec<Leaf<'s>>,
-    advice: Option<Vec<&'s str>>,
+    help: Help<'s>,
     fault: Option<(&'s str, usize, usize)>,
 }
 
@@ -31,7 +31,7 @@ impl<'s> Detail<'s> {
                     expression,
                     nodes: parts(alloc, judged.nodes.as_slice(), &leaves)?,
                     missing: leaves_of(alloc, &leaves, &judged.missing)?,
-                    advice: shown.advice(alloc, judged)?,
+                    help: Shown::help(alloc, judged)?,
                     fault: None,
                 })
             }
@@ -39,7 +39,7 @@ impl<'s> Detail<'s> {
                 expression,
                 nodes: Vec::new(alloc),
                 missing: Vec::new(alloc),
-                advice: None,
+                help: Help::Unmet,
                 fault: Some((shown.reason.as_str(), fault.span.start, fault.span.end)),
             }),
         }
@@ -51,9 +51,10 @@ impl<'s> Detail<'s> {
             (Verdict::Unreadable, Some((reason, start, end))) => Why::Fault { reason, start, end },
             (Verdict::Refused, _) => Why::Missing {
                 leaves: self.missing.as_slice(),
-                advice: match &self.advice {
-                    Some(names) => Some(names.as_slice()),
-                    None => None,
+                advice: match &self.help {
+                    Help::Unmet => Advice::Unmet,
+                    Help::Allow(names) => Advice::Allow(names.as_slice()),
+                    Help::NotSought(entries) => Advice::NotSought { entries: *entries },
                 },
             },
             _ => Why::Nothing,

@@ -25,8 +25,8 @@ pub(crate) fn entry_text(
     format!(in alloc; "{list} \"{text}\"")
 }
 
-/// Appends a warning for each entry of the policy that decided nothing, and for each exception and clarification that
-/// holds for no package.
+/// Appends a warning with the entries of the policy that decided nothing, and the exceptions and clarifications that hold
+/// for no package.
 pub(crate) fn put_all_unused(
     alloc: Global,
     text: &mut Vec<u8>,
@@ -34,26 +34,40 @@ pub(crate) fn put_all_unused(
     policy: &Policy<'_>,
     report: &Report<'_>,
 ) -> Result<(), AllocError> {
-    for i in 0..policy.deny_len() {
-        put_if_unused(alloc, text, path, policy, report, Entry::Deny(i))?;
+    let unused = all_unused(alloc, policy, report)?;
+    let mut names = Vec::new(alloc);
+    for name in &unused {
+        names.push(name.as_str())?;
     }
-    for i in 0..policy.deny_if_len() {
-        put_if_unused(alloc, text, path, policy, report, Entry::DenyIf(i))?;
-    }
-    for i in 0..policy.allow_len() {
-        put_if_unused(alloc, text, path, policy, report, Entry::Allow(i))?;
-    }
-    for i in 0..policy.allow_if_len() {
-        put_if_unused(alloc, text, path, policy, report, Entry::AllowIf(i))?;
-    }
-    put_unused_exceptions(alloc, text, path, policy, report)?;
-    put_unused_clarifications(alloc, text, path, policy, report)
+    put_unused(alloc, text, path, &names)
 }
 
-fn put_if_unused(
+fn all_unused(
     alloc: Global,
-    text: &mut Vec<u8>,
-    path: &str,
+    policy: &Policy<'_>,
+    report: &Report<'_>,
+) -> Result<Vec<String>, AllocError> {
+    let mut unused = Vec::new(alloc);
+    for i in 0..policy.deny_len() {
+        add_if_unused(alloc, &mut unused, policy, report, Entry::Deny(i))?;
+    }
+    for i in 0..policy.deny_if_len() {
+        add_if_unused(alloc, &mut unused, policy, report, Entry::DenyIf(i))?;
+    }
+    for i in 0..policy.allow_len() {
+        add_if_unused(alloc, &mut unused, policy, report, Entry::Allow(i))?;
+    }
+    for i in 0..policy.allow_if_len() {
+        add_if_unused(alloc, &mut unused, policy, report, Entry::AllowIf(i))?;
+    }
+    add_unused_exceptions(alloc, &mut unused, policy, report)?;
+    add_unused_clarifications(alloc, &mut unused, policy, report)?;
+    Ok(unused)
+}
+
+fn add_if_unused(
+    alloc: Global,
+    unused: &mut Vec<String>,
     policy: &Policy<'_>,
     report: &Report<'_>,
     entry: Entry,
@@ -61,50 +75,39 @@ fn put_if_unused(
     if report.is_entry_used(entry) {
         return Ok(());
     }
-    let told = entry_text(alloc, policy, entry)?;
-    put_unused(alloc, text, path, told.as_str())
+    unused.push(entry_text(alloc, policy, entry)?)?;
+    Ok(())
 }
 
-fn put_unused_exceptions(
+fn add_unused_exceptions(
     alloc: Global,
-    text: &mut Vec<u8>,
-    path: &str,
+    unused: &mut Vec<String>,
     policy: &Policy<'_>,
     report: &Report<'_>,
 ) -> Result<(), AllocError> {
     for table in 0..policy.exceptions_len() {
         if report.is_exception_used(table) {
             for i in 0..policy.exception_len(table) {
-                put_if_unused(
-                    alloc,
-                    text,
-                    path,
-                    policy,
-                    report,
-                    Entry::Exception(table, i),
-                )?;
+                add_if_unused(alloc, unused, policy, report, Entry::Exception(table, i))?;
             }
         } else {
             let package = policy.exception_package(table).unwrap_or("");
-            let told = format!(in alloc; "exception for {package}")?;
-            put_unused(alloc, text, path, told.as_str())?;
+            unused.push(format!(in alloc; "exception for {package}")?)?;
         }
     }
     Ok(())
 }
 
-fn put_unused_clarifications(
+fn add_unused_clarifications(
     alloc: Global,
-    text: &mut Vec<u8>,
-    path: &str,
+    unused: &mut Vec<String>,
     policy: &Policy<'_>,
     report: &Report<'_>,
 ) -> Result<(), AllocError> {
     for table in 0..policy.clarifications_len() {
         if !report.is_clarification_used(table) {
             let package = policy.clarification_package(table).unwrap_or("");
-            let told = format!(in alloc; "clarify for {package}")?;
-            put_unused(alloc, text, path, told.as_str())?;
+            unused.push(format!(in alloc; "clarify for {package}")?)?;
         }
     }
     Ok(())

@@ -2,8 +2,8 @@
 
 use crate::console::Console;
 use crate::list;
-use crate::replace::replace;
-use crate::system::{System, bytes_of, input_bytes, is_binary, paths_or_input};
+use crate::replace::{Held, Loss, hold, replace};
+use crate::system::{System, bytes_of, input_bytes, is_binary, is_special, paths_or_input};
 use crate::trouble::Trouble;
 use crate::walk::Walk;
 use license_tags::tags;
@@ -21,6 +21,7 @@ struct Job<'r> {
     catalogue: &'r Catalogue,
     is_tree: bool,
     is_written: bool,
+    breaks_links: bool,
 }
 
 /// Mends what the request names, and answers the status: 1 where some expression is refused and has no mended text.
@@ -34,6 +35,7 @@ pub(crate) fn fix<R: System, O: Write + Drop, F: Write + Drop>(
         catalogue: &catalogue,
         is_tree: request.headers,
         is_written: request.write,
+        breaks_links: request.break_links,
     };
     let mut status = 0;
     for path in paths_or_input(&request.paths) {
@@ -88,36 +90,118 @@ fn fix_file<R: System, O: Write + Drop, F: Write + Drop>(
     path: &str,
     console: &mut Console<O, F>,
 ) -> Result<u8, Trouble> {
-    let alloc = rt.alloc();
-    let is_input = path == "-";
-    let bytes = if is_input {
-        input_bytes(rt)?
-    } else {
-        bytes_of(rt, path)?
-    };
-    if job.is_tree && is_binary(&bytes) {
-        return Ok(0);
+    if path == "-" {
+        let bytes = input_bytes(rt)?;
+        return fix_input(rt.alloc(), job, &bytes, console);
     }
-    let spans = if job.is_tree {
-        tag_spans(alloc, &bytes)?
-    } else {
-        line_spans(alloc, &bytes)?
-    };
-    let Some(mended) = fix_all(alloc, job.catalogue, &bytes, &spans)? else {
+    if !job.is_written {
+        let bytes = bytes_of(rt, path)?;
+        return show_fix(rt.alloc(), job, path, &bytes, console);
+    }
+    if is_special(rt, path)? {
+        return Err(Trouble::Special(String::from_str(rt.alloc(), path)?));
+    }
+    match hold(rt, path) {
+        Ok(held) => write_fix(rt, job, path, &held, console),
+        Err(error) => Err(Trouble::unreadable(rt.alloc(), path, error)),
+    }
+}
+
+// Standard input, mended, or what would mend it.
+fn fix_input<O: Write + Drop, F: Write + Drop>(
+    alloc: Global,
+    job: &Job<'_>,
+    bytes: &[u8],
+    console: &mut Console<O, F>,
+) -> Result<u8, Trouble> {
+    if !job.is_written {
+        return show_fix(alloc, job, "-", bytes, console);
+    }
+    let Some(mended) = mended_of(alloc, job, bytes)? else {
         return Ok(0);
     };
-    if mended.count > 0 && job.is_written && !is_input {
-        if let Err(error) = replace(rt, path, &mended.bytes) {
-            return Err(Trouble::unwritable(alloc, path, error));
-        }
-    } else if job.is_written && is_input {
-        write_all(&mut console.output, &mended.bytes)?;
-    } else if mended.count > 0 {
-        let mut text = Vec::new(alloc);
-        put_diff(alloc, &mut text, path, &bytes, &mended.bytes)?;
+    write_all(&mut console.output, &mended.bytes)?;
+    status_of(alloc, job, &mended)
+}
+
+// Writes what would mend the bytes of a file.
+fn show_fix<O: Write + Drop, F: Write + Drop>(
+    alloc: Global,
+    job: &Job<'_>,
+    path: &str,
+    bytes: &[u8],
+    console: &mut Console<O, F>,
+) -> Result<u8, Trouble> {
+    let Some(mended) = mended_of(alloc, job, bytes)? else {
+        return Ok(0);
+    };
+    if mended.count > 0 {
+        let text = diff_of(alloc, path, bytes, &mended.bytes)?;
         write_all(&mut console.output, &text)?;
     }
-    Ok(u8::from(is_refused(alloc, job.catalogue, &mended)?))
+    status_of(alloc, job, &mended)
+}
+
+// Mends a file that holds this.
+fn write_fix<R: System, O: Write + Drop, F: Write + Drop>(
+    rt: &R,
+    job: &Job<'_>,
+    path: &str,
+    held: &Held,
+    console: &mut Console<O, F>,
+) -> Result<u8, Trouble> {
+    let alloc = rt.alloc();
+    let Some(mended) = mended_of(alloc, job, &held.bytes)? else {
+        return Ok(0);
+    };
+    if mended.count > 0 {
+        match replace(rt, path, held.stamp, job.breaks_links, &mended.bytes) {
+            Ok(Loss::Nothing) => {}
+            Ok(loss) => {
+                let lost = Trouble::Lost(String::from_str(alloc, path)?, loss);
+                console.tell(alloc, &lost);
+            }
+            Err(obstacle) => return Err(Trouble::kept(alloc, path, obstacle)),
+        }
+    }
+    status_of(alloc, job, &mended)
+}
+
+// The bytes with what can be mended; none where they are no text, or no expression is refused.
+fn mended_of(alloc: Global, job: &Job<'_>, bytes: &[u8]) -> Result<Option<Mended>, Trouble> {
+    if job.is_tree && is_binary(bytes) {
+        return Ok(None);
+    }
+    let spans = if job.is_tree {
+        tag_spans(alloc, bytes)?
+    } else {
+        line_spans(alloc, bytes)?
+    };
+    Ok(fix_all(alloc, job.catalogue, bytes, &spans)?)
+}
+
+fn status_of(alloc: Global, job: &Job<'_>, mended: &Mended) -> Result<u8, Trouble> {
+    Ok(u8::from(is_refused(alloc, job.catalogue, mended)?))
+}
+
+fn diff_of(alloc: Global, path: &str, old: &[u8], new: &[u8]) -> Result<Vec<u8>, Trouble> {
+    let Some(name) = diff_name(path) else {
+        return Err(Trouble::Above(String::from_str(alloc, path)?));
+    };
+    let mut text = Vec::new(alloc);
+    put_diff(alloc, &mut text, name, old, new)?;
+    Ok(text)
+}
+
+// The path as a diff names it, without the slashes at its start; none where it leads above the folder of the diff, for no
+// program applies that.
+fn diff_name(path: &str) -> Option<&str> {
+    let name = path.trim_start_matches('/');
+    if name.split('/').any(|part| part == "..") {
+        None
+    } else {
+        Some(name)
+    }
 }
 
 // Where the tags of a file have their expressions.

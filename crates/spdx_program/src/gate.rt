@@ -1,17 +1,19 @@
 // The command `gate`.
 
+use crate::baseline::{Before, Older};
 use crate::console::Console;
 use crate::details::{Detail, told_verdict};
 use crate::entries::put_all_unused;
 use crate::list;
-use crate::packages::{Listed, read_all};
+use crate::needs::put_needs;
+use crate::packages::{AllListed, Listed, Wanted, read_all};
 use crate::policy::policy;
 use crate::shown::Shown;
 use crate::system::System;
 use crate::trouble::Trouble;
-use crate::verdicts::{form_of, put_explanations, put_verdicts};
+use crate::verdicts::{are_gathered, form_of, put_explanations, put_verdicts};
 use finding_forms::Style;
-use gate_forms::{Node, Report as Told, Totals as ToldTotals, Why};
+use gate_forms::{Baseline, Node, Report as Told, Totals as ToldTotals, Why, put_known};
 use line_engine::lines::write_all;
 use package_sources::{License, Package as ListedPackage};
 use spdx::Catalogue;
@@ -21,7 +23,8 @@ use spdx_words::{GateForm, GateRequest};
 use std::alloc::{AllocError, Global};
 use std::io::Write;
 
-/// Judges the packages that the request names, and answers the status: 0 exactly if every one is allowed.
+/// Judges the packages that the request names, and answers the status: 0 exactly if every file is read and every package
+/// allowed, or refused in the baseline too.
 pub(crate) fn gate<R: System, O: Write + Drop, F: Write + Drop>(
     rt: &R,
     request: &GateRequest<'_>,
@@ -40,25 +43,38 @@ fn gate_over<R: System, O: Write + Drop, F: Write + Drop>(
 ) -> Result<u8, Trouble> {
     let alloc = rt.alloc();
     let policy = policy(rt, catalogue, request.policy)?;
-    let listed = read_all(rt, request.source, &request.paths)?;
-    let report = judged(alloc, catalogue, &policy, &listed)?;
+    let wanted = Wanted {
+        source: request.source,
+        allow_empty: request.allow_empty,
+        exclude_own: request.exclude_own,
+        tells_form: !request.quiet,
+        paths: &request.paths,
+    };
+    let AllListed { files, status } = read_all(rt, wanted, console)?;
+    if files.is_empty() {
+        return Ok(status);
+    }
+    let report = judged(alloc, catalogue, &policy, &files)?;
+    let before = before(rt, catalogue, &policy, request, &files, &report)?;
     let gated = Gated {
         path: String::from_str(alloc, request.policy)?,
-        listed,
+        listed: files,
         report,
+        before,
     };
     let look = Look {
         form: request.form,
         colours: console.screen.colours,
         explain: request.explain,
+        tells_unused: request.tells_unused,
     };
-    let text = told(alloc, look, &policy, &gated)?;
+    let text = told(alloc, catalogue, look, &policy, &gated)?;
     write_all(&mut console.output, &text)?;
     match request.explain {
         Some(name) if !is_listed(&gated.listed, name) => {
             Err(Trouble::NoPackage(String::from_str(alloc, name)?))
         }
-        _ => Ok(u8::from(!gated.report.is_passed())),
+        _ => Ok(status.max(u8::from(!gated.is_passed()))),
     }
 }
 
@@ -68,13 +84,51 @@ struct Gated<'c> {
     path: String,
     listed: Vec<Listed>,
     report: Report<'c>,
+    before: Option<Before>,
 }
 
-// What the policy says of the packages of all files.
-fn judged<'c>(
+impl Gated<'_> {
+    // Whether every package is allowed, or refused in the baseline too.
+    fn is_passed(&self) -> bool {
+        match &self.before {
+            Some(before) => before.is_passed(&self.report),
+            None => self.report.is_passed(),
+        }
+    }
+
+    // Whether the package of that number is known.
+    fn state(&self, number: usize) -> Baseline {
+        match &self.before {
+            Some(before) => before.state(number),
+            None => Baseline::Absent,
+        }
+    }
+}
+
+// What was refused before, where a baseline is named.
+fn before<'c, R: System>(
+    rt: &R,
+    catalogue: &'c Catalogue,
+    policy: &Policy<'c>,
+    request: &GateRequest<'_>,
+    listed: &[Listed],
+    report: &Report<'c>,
+) -> Result<Option<Before>, Trouble> {
+    let Some(path) = request.baseline else {
+        return Ok(None);
+    };
+    let older = Older {
+        path,
+        source: request.source,
+    };
+    Ok(Some(Before::of(rt, catalogue, policy, older, listed, report)?))
+}
+
+/// What the policy says of the packages of all files.
+pub(crate) fn judged<'c>(
     alloc: Global,
     catalogue: &'c Catalogue,
-    policy: &Policy<'_>,
+    policy: &Policy<'c>,
     listed: &[Listed],
 ) -> Result<Report<'c>, AllocError> {
     let packages = all_of(alloc, listed)?;
@@ -116,17 +170,19 @@ struct Look<'e> {
     form: GateForm,
     colours: bool,
     explain: Option<&'e str>,
+    tells_unused: bool,
 }
 
 // What is told of the packages.
 fn told(
     alloc: Global,
+    catalogue: &Catalogue,
     look: Look<'_>,
     policy: &Policy<'_>,
     gated: &Gated<'_>,
 ) -> Result<Vec<u8>, AllocError> {
     let path = gated.path.as_str();
-    let shown = shown_of(alloc, policy, &gated.report)?;
+    let shown = shown_of(alloc, catalogue, policy, &gated.report)?;
     let details = details_of(alloc, &gated.report, &shown)?;
     let verdicts = verdicts_of(alloc, gated, &details)?;
     let style = if look.colours {
@@ -142,7 +198,16 @@ fn told(
     let totals = totals(&gated.report);
     let form = form_of(look.form, style);
     put_verdicts(alloc, &mut text, form, path, &totals, &verdicts)?;
-    if matches!(look.form, GateForm::Human | GateForm::Short) {
+    match &gated.before {
+        Some(before) if matches!(look.form, GateForm::Human | GateForm::Short) => {
+            put_known(alloc, &mut text, before.path.as_str(), &verdicts)?;
+        }
+        None if matches!(look.form, GateForm::Human) && are_gathered(&totals) => {
+            put_needs(alloc, &mut text, &gated.report)?;
+        }
+        _ => (),
+    }
+    if look.tells_unused && matches!(look.form, GateForm::Human | GateForm::Short) {
         put_all_unused(alloc, &mut text, path, policy, &gated.report)?;
     }
     Ok(text)
@@ -159,13 +224,15 @@ fn verdicts_of<'r>(
     for file in &gated.listed {
         for package in &file.packages {
             if let Some(row) = rest.next() {
-                verdicts.push(verdict(
+                let mut told = verdict(
                     gated.path.as_str(),
                     file.path.as_str(),
                     package,
                     row,
                     details,
-                ))?;
+                );
+                told.baseline = gated.state(verdicts.len());
+                verdicts.push(told)?;
             }
         }
     }
@@ -175,12 +242,13 @@ fn verdicts_of<'r>(
 // The texts of each judgement.
 fn shown_of(
     alloc: Global,
+    catalogue: &Catalogue,
     policy: &Policy<'_>,
     report: &Report<'_>,
 ) -> Result<Vec<Shown>, AllocError> {
     let mut shown = Vec::new(alloc);
     for judgement in &report.judgements {
-        shown.push(Shown::of(alloc, policy, &judgement.outcome)?)?;
+        shown.push(Shown::of(alloc, catalogue, policy, judgement)?)?;
     }
     Ok(shown)
 }
@@ -228,6 +296,7 @@ fn verdict<'r>(
         },
         expression,
         verdict: told_verdict(row.verdict),
+        baseline: Baseline::Absent,
         why,
         nodes,
     }

@@ -1,28 +1,47 @@
 //! The program `spdx` over the system: the files, standard input and the list, for what the command line asks.
+//!
+//! Each command is a file: `check`, `fix`, `gate`, `notice`, `compare`, `simplify`, `show`, `make` and `diff`. `docs/ARCHITECTURE.md` draws which
+//! calls it makes.
+//!
+//! ```rust
+//! // crates/spdx_main/src/main.rt
+//! Ok(ExitCode::from(run(&rt, &request, screen, io::writer(&rt), rt.stderr())))
+//! ```
+//!
+//! It stands on all crates of the program.
 #![tactic(auto)]
 
+mod baseline;
 mod check;
 mod chosen;
+mod compare;
 mod console;
 mod details;
+mod diff;
 mod entries;
 mod fix;
 mod gate;
 mod list;
 mod make;
+mod meant;
+mod needs;
 mod notice;
 mod packages;
 mod policy;
 mod replace;
 mod serve;
+mod several;
 mod show;
 mod shown;
+mod simplify;
 mod system;
 mod tree;
 mod trouble;
+mod unread;
 mod verdicts;
 mod walk;
 
 pub use crate::console::Screen;
+pub use crate::list::known_version;
 pub use crate::serve::run;
 pub use crate::system::System;

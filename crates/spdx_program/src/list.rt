@@ -3,25 +3,41 @@
 use crate::system::{System, bytes_of, is_folder};
 use crate::trouble::Trouble;
 use spdx::{Catalogue, Failure};
-use spdx_known::{EXTRAS, LIST};
+use spdx_known::{EXTRAS, LIST, VERSION};
 use spdx_list::{Extras, catalogue_of};
-use std::alloc::Global;
-use std::env;
+use std::alloc::{AllocError, Global};
+use std::env::{self, VarError};
+use std::io::{self, ErrorKind};
 use std::path::Path;
 
+/// The version of the list inside the program.
+pub fn known_version() -> &'static str {
+    VERSION
+}
+
 /// The list at the path, which is a file of this program's form or a folder with SPDX's own two; else what `SPDX_LIST`
-/// names so; else the one inside the program.
+/// names so; else the one inside the program. Where `SPDX_LIST` is there and can't be read, that is a trouble.
 pub(crate) fn catalogue<R: System>(rt: &R, path: Option<&str>) -> Result<Catalogue, Trouble> {
     if let Some(path) = path {
         return catalogue_at(rt, path);
     }
     match env::var(rt, "SPDX_LIST") {
+        Ok(path) if path.is_empty() => Err(no_path(rt.alloc())?),
         Ok(path) => catalogue_at(rt, path.as_str()),
-        Err(_) => read(rt.alloc(), "the list inside", LIST.as_bytes()),
+        Err(VarError::NotPresent) => read(rt.alloc(), "the list inside", LIST.as_bytes()),
+        Err(VarError::NotUnicode) => Err(no_path(rt.alloc())?),
+        Err(VarError::OutOfMemory) => Err(Trouble::Memory),
     }
 }
 
-fn catalogue_at<R: System>(rt: &R, path: &str) -> Result<Catalogue, Trouble> {
+// The variable names no file: it is empty, or no UTF-8.
+fn no_path(alloc: Global) -> Result<Trouble, AllocError> {
+    let name = String::from_str(alloc, "SPDX_LIST")?;
+    Ok(Trouble::Unreadable(name, io::Error::from(ErrorKind::InvalidFilename)))
+}
+
+/// The list at the path.
+pub(crate) fn catalogue_at<R: System>(rt: &R, path: &str) -> Result<Catalogue, Trouble> {
     if is_folder(rt, path)? {
         return made_of(rt, path);
     }

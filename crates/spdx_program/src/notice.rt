@@ -3,8 +3,9 @@
 use crate::chosen::{Choice, choices};
 use crate::console::Console;
 use crate::list;
-use crate::packages::{Listed, read_all};
-use crate::system::{System, bytes_of};
+use crate::packages::{AllListed, Listed, Wanted, read_all};
+use crate::several::Several;
+use crate::system::{System, bytes_of, is_special};
 use crate::trouble::Trouble;
 use license_notice::{Package as Noted, Requirement, notice_of};
 use line_engine::lines::write_all;
@@ -12,6 +13,7 @@ use notice_forms::{Form, LicenseText, Page, PageError, put_page};
 use package_sources::Package;
 use spdx_words::{NoticeRequest, PageForm};
 use std::alloc::{AllocError, Global};
+use std::fs;
 use std::io::Write;
 use std::path::Path;
 
@@ -32,11 +34,21 @@ pub(crate) fn notice<R: System, O: Write + Drop, F: Write + Drop>(
 ) -> Result<u8, Trouble> {
     let alloc = rt.alloc();
     let catalogue = list::catalogue(rt, request.list)?;
-    let listed = read_all(rt, request.source, &request.paths)?;
-    let packages = all_of(alloc, &listed)?;
+    let wanted = Wanted {
+        source: request.source,
+        allow_empty: true,
+        exclude_own: request.exclude_own,
+        tells_form: true,
+        paths: &request.paths,
+    };
+    let AllListed { files, status } = read_all(rt, wanted, console)?;
+    if status != 0 {
+        return Ok(status);
+    }
+    let packages = all_of(alloc, &files)?;
     let choices = choices(rt, &catalogue, request, &packages)?;
     let held = match request.texts {
-        Some(folder) => texts(rt, folder, &choices)?,
+        Some(folder) => texts(rt, folder, request.follow, &choices)?,
         None => Vec::new(alloc),
     };
     let text = page(alloc, request.form, &packages, &choices, &held)?;
@@ -168,33 +180,77 @@ fn noted<'c, 'r, 't>(
     Ok(all)
 }
 
-// What the files hold of the texts that these choices want, each once. A text that can't be read, or is empty, is a
-// trouble.
-fn texts<R: System>(rt: &R, folder: &str, choices: &[Choice]) -> Result<Vec<HeldText>, Trouble> {
+// What the files hold of the texts that these choices want, each once. One that can't be read, or is empty, is a trouble;
+// all of them are told.
+fn texts<R: System>(
+    rt: &R,
+    folder: &str,
+    follows: bool,
+    choices: &[Choice],
+) -> Result<Vec<HeldText>, Trouble> {
     let alloc = rt.alloc();
     let mut held: Vec<HeldText> = Vec::new(alloc);
-    for choice in choices {
-        for requirement in choice {
-            for name in &requirement.texts {
-                if !held.iter().any(|text| text.name.as_str() == name.as_str()) {
-                    held.push(HeldText {
-                        name: String::from_str(alloc, name.as_str())?,
-                        bytes: text(rt, folder, name.as_str())?,
-                    })?;
-                }
+    let mut several = Several::new(alloc);
+    for name in &wanted_texts(alloc, choices)? {
+        if let Some(bytes) = several.keep(text(rt, folder, follows, *name))? {
+            held.push(HeldText {
+                name: String::from_str(alloc, *name)?,
+                bytes,
+            })?;
+        }
+    }
+    several.or(held)
+}
+
+// The names of the texts that these choices want, each once, in the order in which they are wanted first.
+fn wanted_texts<'h>(alloc: Global, choices: &'h [Choice]) -> Result<Vec<&'h str>, AllocError> {
+    let mut names: Vec<&'h str> = Vec::new(alloc);
+    for of_requirement in &text_names(alloc, choices)? {
+        for name in of_requirement {
+            if !names.contains(name) {
+                names.push(*name)?;
             }
         }
     }
-    Ok(held)
+    Ok(names)
 }
 
-fn text<R: System>(rt: &R, folder: &str, name: &str) -> Result<Vec<u8>, Trouble> {
+fn text<R: System>(rt: &R, folder: &str, follows: bool, name: &str) -> Result<Vec<u8>, Trouble> {
     let alloc = rt.alloc();
     let file = format!(in alloc; "{name}.txt")?;
     let path = Path::new(folder).join(alloc, file.as_str())?;
-    match bytes_of(rt, path.as_str()) {
+    match text_at(rt, folder, follows, path.as_str()) {
         Ok(bytes) => unless_empty(alloc, name, path.as_str(), bytes),
         Err(trouble) => Err(of_text(alloc, name, trouble)?),
+    }
+}
+
+// What a regular file holds that is in the folder, or that a link in it leads to where links are followed.
+fn text_at<R: System>(rt: &R, folder: &str, follows: bool, path: &str) -> Result<Vec<u8>, Trouble> {
+    let alloc = rt.alloc();
+    if is_special(rt, path)? {
+        return Err(Trouble::Special(String::from_str(alloc, path)?));
+    }
+    if !follows && !is_within(rt, folder, path)? {
+        return Err(Trouble::Outside(String::from_str(alloc, path)?));
+    }
+    bytes_of(rt, path)
+}
+
+// Whether the path, its links followed, is below the folder.
+fn is_within<R: System>(rt: &R, folder: &str, path: &str) -> Result<bool, Trouble> {
+    let folder = real_path(rt, folder)?;
+    let path = real_path(rt, path)?;
+    match path.as_str().strip_prefix(folder.as_str()) {
+        Some(rest) => Ok(rest.starts_with('/') || folder.as_str() == "/"),
+        None => Ok(false),
+    }
+}
+
+fn real_path<R: System>(rt: &R, path: &str) -> Result<String, Trouble> {
+    match fs::canonicalize(rt, path) {
+        Ok(real) => Ok(String::from_str(rt.alloc(), real.as_str())?),
+        Err(error) => Err(Trouble::unreadable(rt.alloc(), path, error)),
     }
 }
 
@@ -208,11 +264,13 @@ fn unless_empty(alloc: Global, name: &str, path: &str, bytes: Vec<u8>) -> Result
 
 // The trouble of a text whose file has this one.
 fn of_text(alloc: Global, name: &str, trouble: Trouble) -> Result<Trouble, AllocError> {
-    match trouble {
-        Trouble::Unreadable(path, error) => {
-            let why = format!(in alloc; "{path}: {error}")?;
-            Ok(Trouble::Text(String::from_str(alloc, name)?, why))
+    let why = match trouble {
+        Trouble::Unreadable(path, error) => format!(in alloc; "{path}: {error}")?,
+        Trouble::Special(path) => format!(in alloc; "{path}: no regular file")?,
+        Trouble::Outside(path) => {
+            format!(in alloc; "{path}: a link out of the folder; --follow reads it")?
         }
-        trouble => Ok(trouble),
-    }
+        trouble => return Ok(trouble),
+    };
+    Ok(Trouble::Text(String::from_str(alloc, name)?, why))
 }

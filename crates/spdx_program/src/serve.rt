@@ -1,12 +1,15 @@
 // What is asked for, done.
 
 use crate::check::check;
+use crate::compare::compare;
 use crate::console::{Console, Hushed, Screen};
+use crate::diff::diff;
 use crate::fix::fix;
 use crate::gate::gate;
 use crate::make::make;
 use crate::notice::notice;
 use crate::show::show;
+use crate::simplify::simplify;
 use crate::system::System;
 use line_engine::stream::Output;
 use spdx_words::Request;
@@ -37,8 +40,11 @@ pub fn run<R: System, O: Write + Drop, F: Write + Drop>(
         Request::Fix(request) => fix(rt, request, &mut console),
         Request::Gate(request) => gate(rt, request, &mut console),
         Request::Notice(request) => notice(rt, request, &mut console),
+        Request::Compare(request) => compare(rt, request, &mut console),
+        Request::Simplify(request) => simplify(rt, request, &mut console),
         Request::Show(request) => show(rt, request, &mut console),
         Request::Make(request) => make(rt, request, &mut console),
+        Request::Diff(request) => diff(rt, request, &mut console),
     };
     match end {
         Ok(status) => status,

@@ -37,7 +37,7 @@ pub(crate) fn show<R: System, O: Write + Drop, F: Write + Drop>(
     Ok(status)
 }
 
-// A name that the list hasn't, with those that may be meant.
+// A name that the list hasn't, with those that may be meant; where none may, how a newer list is taken.
 fn unlisted(alloc: Global, catalogue: &Catalogue, name: &str) -> Result<Trouble, AllocError> {
     let mut meant = String::new(alloc);
     for other in hints(alloc, catalogue, name.as_bytes())? {
@@ -48,16 +48,23 @@ fn unlisted(alloc: Global, catalogue: &Catalogue, name: &str) -> Result<Trouble,
         })?;
         meant.push_str(other)?;
     }
+    if meant.is_empty() {
+        meant.push_str(", which is ")?;
+        meant.push_str(catalogue.license_version())?;
+        meant.push_str("; --list, or SPDX_LIST, takes a newer one: 'spdx list --help'")?;
+    }
     Ok(Trouble::Unlisted(String::from_str(alloc, name)?, meant))
 }
 
-// Each name of the list, a line each.
+// The version of the list, and each name of it, a line each.
 fn show_names<O: Write + Drop, F: Write + Drop>(
     alloc: Global,
     catalogue: &Catalogue,
     console: &mut Console<O, F>,
 ) -> Result<u8, Trouble> {
     let mut text = Vec::new(alloc);
+    put(&mut text, "SPDX license list ", catalogue.license_version())?;
+    put(&mut text, "", "\n")?;
     for row in catalogue.licenses() {
         text.extend_from_slice(row.name.as_bytes())?;
         text.push(b'\n')?;
@@ -130,15 +137,27 @@ fn put_heir(
     extras: &Extras,
     name: &str,
 ) -> Result<(), AllocError> {
-    if let Some(mended) = Expression::fix(alloc, catalogue, name)? {
+    if let Some(heir) = heir(alloc, catalogue, extras, name)? {
         text.extend_from_slice(b"  write: ")?;
-        return put(text, mended.as_str(), "\n");
-    }
-    if let Some(other) = extras.instead(name) {
-        text.extend_from_slice(b"  write: ")?;
-        put(text, other, "\n")?;
+        put(text, heir.as_str(), "\n")?;
     }
     Ok(())
+}
+
+/// What to write in place of a deprecated name, where that is known: what it is mended to, else what the extras say.
+pub(crate) fn heir(
+    alloc: Global,
+    catalogue: &Catalogue,
+    extras: &Extras,
+    name: &str,
+) -> Result<Option<String>, AllocError> {
+    if let Some(mended) = Expression::fix(alloc, catalogue, name)? {
+        return Ok(Some(mended));
+    }
+    match extras.instead(name) {
+        Some(other) => Ok(Some(String::from_str(alloc, other)?)),
+        None => Ok(None),
+    }
 }
 
 // A line of those that are set, if any are.

@@ -1,11 +1,12 @@
 // What a policy says of an expression, as it is told.
 
 use crate::entries::entry_text;
+use crate::unread::told_reason;
 use gate_forms::{Leaf, Mark};
+use spdx::Catalogue;
 use spdx::expression::{ExprNode, ExpressionReq};
-use spdx_gate::{Judged, Outcome};
+use spdx_gate::{Advice, Judged, Judgement, Outcome};
 use spdx_policy::{Decision, Entry, Policy};
-use spdx_why::Remedy;
 use std::alloc::{AllocError, Global};
 
 /// The texts of an expression's requirements, of what decided each, and of why it is none.
@@ -16,27 +17,39 @@ pub(crate) struct Shown {
     pub(crate) reason: String,
 }
 
+/// What would make an expression pass: nothing that may be allowed, these entries, or it was not sought among so many.
+#[derive(Drop)]
+pub(crate) enum Help<'s> {
+    Unmet,
+    Allow(Vec<&'s str>),
+    NotSought(usize),
+}
+
 impl Shown {
     /// Those of what the policy made of a text.
     pub(crate) fn of(
         alloc: Global,
+        catalogue: &Catalogue,
         policy: &Policy<'_>,
-        outcome: &Outcome<'_>,
+        judgement: &Judgement<'_>,
     ) -> Result<Shown, AllocError> {
-        match outcome {
+        match &judgement.outcome {
             Outcome::Judged(judged) => Ok(Shown {
                 names: names(alloc, judged)?,
                 deciders: deciders(alloc, policy, judged)?,
                 reason: String::new(alloc),
             }),
-            Outcome::Unreadable(fault) => {
-                let reason = fault.reason;
-                Ok(Shown {
-                    names: Vec::new(alloc),
-                    deciders: Vec::new(alloc),
-                    reason: format!(in alloc; "{reason}")?,
-                })
-            }
+            Outcome::Unreadable(fault) => Ok(Shown {
+                names: Vec::new(alloc),
+                deciders: Vec::new(alloc),
+                reason: told_reason(
+                    alloc,
+                    catalogue,
+                    policy.is_lax(),
+                    judgement.text.as_str(),
+                    fault,
+                )?,
+            }),
         }
     }
 
@@ -89,26 +102,22 @@ impl Shown {
         }
     }
 
-    /// The texts of what would make the expression pass, or `None` where nothing that may be allowed does.
-    pub(crate) fn advice<'s>(
-        &'s self,
-        alloc: Global,
-        judged: &Judged<'_>,
-    ) -> Result<Option<Vec<&'s str>>, AllocError> {
-        let mut names = Vec::new(alloc);
-        let numbers = match &judged.remedy {
-            Remedy::Accept(numbers) => numbers,
-            Remedy::Unmet => return Ok(None),
-            Remedy::TooMany(_) => {
-                names.push("(not sought among more than 1,024 requirements)")?;
-                return Ok(Some(names));
-            }
-        };
-        for number in numbers {
-            names.push(self.name(*number))?;
+    /// What would make the expression pass.
+    pub(crate) fn help<'s>(alloc: Global, judged: &'s Judged<'_>) -> Result<Help<'s>, AllocError> {
+        match &judged.advice {
+            Advice::Allow(texts) => Ok(Help::Allow(texts_of(alloc, texts)?)),
+            Advice::Unmet => Ok(Help::Unmet),
+            Advice::TooMany(entries) => Ok(Help::NotSought(*entries)),
         }
-        Ok(Some(names))
     }
+}
+
+fn texts_of<'s>(alloc: Global, texts: &'s [String]) -> Result<Vec<&'s str>, AllocError> {
+    let mut names = Vec::new(alloc);
+    for text in texts {
+        names.push(text.as_str())?;
+    }
+    Ok(names)
 }
 
 fn names(alloc: Global, judged: &Judged<'_>) -> Result<Vec<String>, AllocError> {

@@ -3,12 +3,13 @@
 use crate::trouble::Trouble;
 use std::fs;
 use std::io::{Input, Read};
+use std::random::RandomSource;
 use std::rt::{Env, Files};
 
-/// Files, standard input, the environment and memory.
-pub trait System: Env + Files + Input + AllocGlobal + Clone + Drop {}
+/// Files, standard input, the environment, random bytes and memory.
+pub trait System: Env + Files + Input + RandomSource + AllocGlobal + Clone + Drop {}
 
-impl<R: Env + Files + Input + AllocGlobal + Clone + Drop> System for R {}
+impl<R: Env + Files + Input + RandomSource + AllocGlobal + Clone + Drop> System for R {}
 
 /// What a file holds.
 pub(crate) fn bytes_of<R: System>(rt: &R, path: &str) -> Result<Vec<u8>, Trouble> {
@@ -22,6 +23,14 @@ pub(crate) fn bytes_of<R: System>(rt: &R, path: &str) -> Result<Vec<u8>, Trouble
 pub(crate) fn is_folder<R: System>(rt: &R, path: &str) -> Result<bool, Trouble> {
     match fs::metadata(rt, path) {
         Ok(metadata) => Ok(metadata.is_dir()),
+        Err(error) => Err(Trouble::unreadable(rt.alloc(), path, error)),
+    }
+}
+
+/// Whether the path is neither a regular file nor a folder.
+pub(crate) fn is_special<R: System>(rt: &R, path: &str) -> Result<bool, Trouble> {
+    match fs::metadata(rt, path) {
+        Ok(metadata) => Ok(!metadata.is_file() && !metadata.is_dir()),
         Err(error) => Err(Trouble::unreadable(rt.alloc(), path, error)),
     }
 }

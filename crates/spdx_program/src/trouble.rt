@@ -1,5 +1,7 @@
-// Why the program stops, or leaves a file out.
+// Why the program stops, leaves a file out, or does other than what may be thought.
 
+use crate::replace::{Loss, Obstacle};
+use foreign_text::{Sink, text_for};
 use line_engine::device::Failed;
 use line_engine::lines::RunFault;
 use package_sources::SourceFault;
@@ -24,6 +26,8 @@ pub(crate) enum Trouble {
     Made(String, ListFault),
     /// A file isn't what it was called.
     Source(String, SourceFault),
+    /// A file lists no package.
+    Empty(String),
     /// A file holds no policy.
     Policy(String, PolicyFault),
     /// What is accepted is no licence, and why.
@@ -32,12 +36,32 @@ pub(crate) enum Trouble {
     NoPackage(String),
     /// A package has no choice, and why.
     NoChoice(String, String),
+    /// It isn't told what an expression means, and why.
+    Unmeant(String, String),
     /// A licence's text can't be had, and why.
     Text(String, String),
     /// The list has no such name; and what is told of those that may be meant.
     Unlisted(String, String),
     /// The mended file can't be written.
     Unwritable(String, io::Error),
+    /// The file that was to be mended changed since it was read.
+    Changed(String),
+    /// The file that is to be mended has other names.
+    Linked(String),
+    /// The owner or the group of a file can't be kept.
+    Owner(String, io::Error),
+    /// A file was mended, and lost this.
+    Lost(String, Loss),
+    /// A file was read as one of this form, which its shape told.
+    Guessed(String, &'static str),
+    /// What is to be written is no regular file.
+    Special(String),
+    /// The file is not in the folder in which it is looked for.
+    Outside(String),
+    /// The file stands above the folder in which a diff is applied.
+    Above(String),
+    /// Each of these, none of which is several.
+    Several(Vec<Trouble>),
     /// What is told can't be written.
     Output,
     Memory,
@@ -84,6 +108,22 @@ impl Trouble {
         }
     }
 
+    /// Of a file that stays as it is.
+    pub(crate) fn kept(alloc: Global, path: &str, obstacle: Obstacle) -> Trouble {
+        let error = match obstacle {
+            Obstacle::Failed(error) => return Trouble::unwritable(alloc, path, error),
+            obstacle => obstacle,
+        };
+        match (String::from_str(alloc, path), error) {
+            (Ok(path), Obstacle::Changed) => Trouble::Changed(path),
+            (Ok(path), Obstacle::Linked) => Trouble::Linked(path),
+            (Ok(path), Obstacle::Owner(error) | Obstacle::Failed(error)) => {
+                Trouble::Owner(path, error)
+            }
+            (Err(AllocError), _) => Trouble::Memory,
+        }
+    }
+
     /// Of the run over a path.
     pub(crate) fn of_run(alloc: Global, path: &str, fault: RunFault) -> Trouble {
         match fault {
@@ -100,8 +140,22 @@ impl Trouble {
     pub(crate) fn is_passed_over(&self) -> bool {
         matches!(
             self,
-            Trouble::Unreadable(..) | Trouble::Folder(_) | Trouble::Unlisted(..)
+            Trouble::Unreadable(..)
+                | Trouble::Folder(_)
+                | Trouble::Unlisted(..)
+                | Trouble::Special(_)
+                | Trouble::Above(_)
+                | Trouble::Changed(_)
+                | Trouble::Linked(_)
+                | Trouble::Owner(..)
+                | Trouble::Source(..)
+                | Trouble::Empty(_)
         )
+    }
+
+    /// Whether further ones of its kind are worth looking for before it is told.
+    pub(crate) fn is_one_of_several(&self) -> bool {
+        self.is_passed_over() || matches!(self, Trouble::NoChoice(..) | Trouble::Text(..))
     }
 
     /// The program's status.
@@ -109,42 +163,107 @@ impl Trouble {
         match self {
             Trouble::Broken(_) | Trouble::Unwritable(..) | Trouble::Output | Trouble::Memory => 3,
             Trouble::NoChoice(..) => 1,
+            Trouble::Lost(..) | Trouble::Guessed(..) => 0,
             _ => 2,
         }
     }
 
-    /// The line that tells it.
+    // What it is about, and why, as they were given.
+    fn texts(&self) -> (&str, &str) {
+        match self {
+            Trouble::Unreadable(path, _)
+            | Trouble::Folder(path)
+            | Trouble::Broken(path)
+            | Trouble::List(path, _)
+            | Trouble::Made(path, _)
+            | Trouble::Source(path, _)
+            | Trouble::Policy(path, _)
+            | Trouble::NoPackage(path)
+            | Trouble::Empty(path)
+            | Trouble::Unwritable(path, _)
+            | Trouble::Special(path)
+            | Trouble::Outside(path)
+            | Trouble::Above(path)
+            | Trouble::Changed(path)
+            | Trouble::Linked(path)
+            | Trouble::Owner(path, _)
+            | Trouble::Lost(path, _)
+            | Trouble::Guessed(path, _) => (path.as_str(), ""),
+            Trouble::Accepted(name, why)
+            | Trouble::Unmeant(name, why)
+            | Trouble::NoChoice(name, why)
+            | Trouble::Text(name, why)
+            | Trouble::Unlisted(name, why) => (name.as_str(), why.as_str()),
+            Trouble::Several(_) | Trouble::Output | Trouble::Memory => ("", ""),
+        }
+    }
+
+    /// The line that tells it. Names and paths stand in it as a line of a terminal may have them.
     pub(crate) fn line(&self, alloc: Global) -> Result<Vec<u8>, AllocError> {
+        let (name, why) = self.texts();
+        let name = text_for(alloc, Sink::Line, name)?;
+        let why = text_for(alloc, Sink::Line, why)?;
         let mut text = Vec::new(alloc);
-        let told = match self {
-            Trouble::Unreadable(path, error) => write!(text, "spdx: {path}: {error}\n"),
-            Trouble::Folder(path) => {
-                write!(
-                    text,
-                    "spdx: {path}: a folder; --headers reads source trees\n"
-                )
-            }
-            Trouble::Broken(path) => write!(text, "spdx: {path}: read fault\n"),
-            Trouble::List(path, fault) => write!(text, "spdx: {path}: no list: {fault}\n"),
-            Trouble::Made(path, fault) => write!(text, "spdx: {path}: no list: {fault}\n"),
-            Trouble::Source(path, fault) => write!(text, "spdx: {path}: {fault}\n"),
-            Trouble::Policy(path, fault) => write!(text, "spdx: {path}: {fault}\n"),
-            Trouble::Accepted(name, why) => write!(text, "spdx: --accept: {name}: {why}\n"),
-            Trouble::NoPackage(name) => write!(text, "spdx: --explain: no package {name}\n"),
-            Trouble::NoChoice(package, why) => write!(text, "spdx: {package}: {why}\n"),
-            Trouble::Text(name, why) => write!(text, "spdx: the text of {name}: {why}\n"),
-            Trouble::Unlisted(name, meant) => {
-                write!(text, "spdx: {name}: not in the list{meant}\n")
-            }
-            Trouble::Unwritable(path, error) => {
-                write!(text, "spdx: {path}: not written: {error}\n")
-            }
-            Trouble::Output => write!(text, "spdx: write fault\n"),
-            Trouble::Memory => write!(text, "spdx: out of memory\n"),
-        };
-        match told {
+        match self.put(&mut text, name.as_str(), why.as_str()) {
             Ok(()) => Ok(text),
             Err(_) => Err(AllocError),
+        }
+    }
+
+    fn put(&self, text: &mut Vec<u8>, name: &str, why: &str) -> io::Result<()> {
+        match self {
+            Trouble::Unreadable(_, error) => write!(text, "spdx: {name}: {error}\n"),
+            Trouble::Folder(_) => {
+                write!(
+                    text,
+                    "spdx: {name}: a folder; --headers reads source trees\n"
+                )
+            }
+            Trouble::Broken(_) => write!(text, "spdx: {name}: read fault\n"),
+            Trouble::List(_, fault) => write!(text, "spdx: {name}: no list: {fault}\n"),
+            Trouble::Made(_, fault) => write!(text, "spdx: {name}: no list: {fault}\n"),
+            Trouble::Source(_, fault) => write!(text, "spdx: {name}: {fault}\n"),
+            Trouble::Empty(_) => write!(text, "spdx: no packages in {name}\n"),
+            Trouble::Policy(_, fault) => write!(text, "spdx: {name}: {fault}\n"),
+            Trouble::Accepted(..) => write!(text, "spdx: --accept: {name}: {why}\n"),
+            Trouble::NoPackage(_) => write!(text, "spdx: --explain: no package {name}\n"),
+            Trouble::NoChoice(..) | Trouble::Unmeant(..) => {
+                write!(text, "spdx: {name}: {why}\n")
+            }
+            Trouble::Text(..) => write!(text, "spdx: the text of {name}: {why}\n"),
+            Trouble::Unlisted(..) => write!(text, "spdx: {name}: not in the list{why}\n"),
+            Trouble::Unwritable(_, error) => write!(text, "spdx: {name}: not written: {error}\n"),
+            Trouble::Special(_) => {
+                write!(text, "spdx: {name}: no regular file; left as it is\n")
+            }
+            Trouble::Outside(_) => write!(text, "spdx: {name}: outside of the folder\n"),
+            Trouble::Above(_) => write!(
+                text,
+                "spdx: {name}: no diff names a file above its folder; run spdx there, or use --write\n"
+            ),
+            Trouble::Changed(_) => {
+                write!(
+                    text,
+                    "spdx: {name}: it changed since it was read; left as it is\n"
+                )
+            }
+            Trouble::Linked(_) => write!(
+                text,
+                "spdx: {name}: it has other names, which would keep the old bytes; left as it is: see --break-links\n"
+            ),
+            Trouble::Owner(_, error) => write!(
+                text,
+                "spdx: {name}: its owner or group can't be kept: {error}; left as it is\n"
+            ),
+            Trouble::Lost(_, Loss::Nothing) => Ok(()),
+            Trouble::Lost(_, Loss::SetId) => write!(
+                text,
+                "spdx: {name}: it doesn't run as its owner or group any more\n"
+            ),
+            Trouble::Guessed(_, form) => write!(text, "spdx: {name}: read as {form}\n"),
+            Trouble::Several(_) => Ok(()),
+            Trouble::Output => write!(text, "spdx: write fault\n"),
+            Trouble::Memory => write!(text, "spdx: out of memory\n"),
         }
     }
 }

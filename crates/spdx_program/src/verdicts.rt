@@ -3,11 +3,19 @@
 use crate::check::VERSION;
 use finding_forms::Style;
 use gate_forms::{
-    Report, Totals, put_explained, put_github, put_human, put_json, put_page, put_sarif_beginning,
-    put_sarif_ending, put_sarif_result, put_short, put_totals,
+    Report, Totals, put_explained, put_github, put_human, put_json, put_page, put_refusals,
+    put_sarif_beginning, put_sarif_ending, put_sarif_result, put_short, put_totals,
 };
 use spdx_words::GateForm;
 use std::alloc::{AllocError, Global};
+
+// Each refused package is compared with all others, so above this number that would take long.
+const MOST_GATHERED: u64 = 1_000;
+
+/// Whether so few packages are refused that equal refusals are told once, and what would make all of them pass.
+pub(crate) fn are_gathered(totals: &Totals) -> bool {
+    totals.refused.saturating_add(totals.unstated) <= MOST_GATHERED
+}
 
 /// How verdicts are written.
 #[derive(Clone, Copy)]
@@ -32,7 +40,8 @@ pub(crate) fn form_of(form: GateForm, style: Style) -> Form {
     }
 }
 
-/// Appends the verdicts, and where people read them the totals.
+/// Appends the verdicts, and where people read them the totals. Refusals that are known are told where machines read them,
+/// and on the page.
 pub(crate) fn put_verdicts(
     alloc: Global,
     text: &mut Vec<u8>,
@@ -44,13 +53,47 @@ pub(crate) fn put_verdicts(
     match form {
         Form::Html => return put_page(alloc, text, policy, totals, reports),
         Form::Sarif => return put_sarif(alloc, text, reports),
-        _ => {}
-    }
-    for report in reports {
-        put_verdict(alloc, text, form, report)?;
+        Form::Json => return put_each(alloc, text, form, reports),
+        _ => put_new(alloc, text, form, totals, &new_among(alloc, reports)?)?,
     }
     if let Form::Human(_) | Form::Short = form {
         put_totals(alloc, text, totals)?;
+    }
+    Ok(())
+}
+
+// The reports but for refusals that are known.
+fn new_among<'r>(alloc: Global, reports: &[Report<'r>]) -> Result<Vec<Report<'r>>, AllocError> {
+    let mut new = Vec::new(alloc);
+    for report in reports {
+        if !report.is_known() {
+            new.push(*report)?;
+        }
+    }
+    Ok(new)
+}
+
+fn put_new(
+    alloc: Global,
+    text: &mut Vec<u8>,
+    form: Form,
+    totals: &Totals,
+    reports: &[Report<'_>],
+) -> Result<(), AllocError> {
+    match form {
+        Form::Human(style) if are_gathered(totals) => put_refusals(alloc, text, style, reports),
+        _ => put_each(alloc, text, form, reports),
+    }
+}
+
+fn put_each(
+    alloc: Global,
+    text: &mut Vec<u8>,
+    form: Form,
+    reports: &[Report<'_>],
+) -> Result<(), AllocError> {
+    for report in reports {
+        put_verdict(alloc, text, form, report)?;
     }
     Ok(())
 }
@@ -62,10 +105,10 @@ fn put_verdict(
     report: &Report<'_>,
 ) -> Result<(), AllocError> {
     match form {
-        Form::Human(style) => put_human(alloc, text, style, report),
         Form::Short => put_short(alloc, text, report),
         Form::Json => put_json(alloc, text, report),
         Form::Github => put_github(alloc, text, report),
+        Form::Human(style) => put_human(alloc, text, style, report),
         Form::Sarif | Form::Html => Ok(()),
     }
 }

@@ -1,5 +1,13 @@
-//! The items of a licence requirement: listed licences and exceptions, references, their orders,
-//! texts and equality.
+//! The items of a licence requirement: listed licences and exceptions, references, their orders, texts and
+//! equality.
+//!
+//! ```rust
+//! // crates/spdx_bench/src/calls.rt
+//! match &req.license {
+//! LicenseItem::Spdx { id, .. } => id.is_osi_approved(),
+//! ```
+//!
+//! It stands on nothing but std.
 #![tactic(auto)]
 
 pub mod endings;

@@ -1,4 +1,11 @@
-//! The tables of a catalogue, read from JSON.
+//! The tables of a catalogue, read from JSON, before they are checked.
+//!
+//! ```rust
+//! // crates/spdx_catalogue/src/catalogue.rt
+//! let tables = match Tables::from_json(alloc, bytes) {
+//! ```
+//!
+//! It stands on `spdx_requirement` and `serde_json`.
 #![tactic(auto)]
 
 pub mod error;

@@ -1,34 +1,21 @@
--- Answers where some requirements are chosen.
-use Rattle.std.proofs.Common.{◌≡◌, ℕ, zero, suc, ◌+◌, ◌<◌, ◌≤◌, Bool, true, false, ◌&&◌, ◌||◌, cond, ◌⊎◌, inl, inr, List, [], ◌∷◌, ◌++◌, length, drop, map, nat_lt, refl, sym, ◌∙◌, ap, subst, arith, get_or}
+-- Only candidates are first candidates, and only candidates are chosen.
+use Rattle.std.proofs.Common.{◌≡◌, ℕ, zero, suc, ◌+◌, ◌<◌, Bool, true, false, ◌&&◌, ◌||◌, cond, ◌⊎◌, inl, inr, List, [], ◌∷◌, length, drop, map, refl, sym, ◌∙◌, ap, arith}
 use Rattle.std.specs.List.{list_all}
-use Rattle.std.proofs.lemmas.List.{drop_more, get_or_past, length-map}
-use Rattle.std.proofs.lemmas.Bool.Decides.{nat_tests}
+use Rattle.std.proofs.lemmas.List.{drop_more, get_or_past}
 use Rattle.spdx_requirement.specs.Items.{Requirement, requirement_of}
 use Rattle.spdx_requirement.specs.Equality.{same_requirement}
 use Rattle.spdx_parser.specs.declared.node.ExpressionReq.{ExpressionReq}
 use Rattle.spdx_parser.specs.declared.node.ExprNode.{ExprNode}
 use Rattle.spdx_parser.specs.Tree.{Tree, leaves}
-use Rattle.sufficiency.specs.Selection.{IsWithin, IsLeast, NeedsEach, NoneSuffices}
+use Rattle.sufficiency.specs.Selection.{IsWithin, IsLeast, NeedsEach}
 use Rattle.spdx_evaluation.specs.Truth.{truth_of}
 use Rattle.spdx_evaluation.specs.Requirements.{requirements_in}
 use Rattle.spdx_evaluation.proofs.Nodes.{requirement_at}
-use Rattle.spdx_minimize.specs.Choice.{least_of}
 use Rattle.spdx_minimize.specs.Places.{places_from}
-use Rattle.spdx_minimize.proofs.Selections.{IsLeast-least_of, none_found}
+use Rattle.spdx_why.specs.declared.choice.Remedy.{Remedy}
+use Rattle.spdx_why.specs.declared.choice.Remedy.TheVariants.{Accept, Unmet, TooMany}
 use Rattle.spdx_why.specs.Missing.{answer_in}
-use Rattle.spdx_why.specs.Least.{with_chosen, first_candidate, firsts_of, suffices_in, numbers_of, chosen, unmet, too_many, choice_by, choice_of}
-
-pub length-with_chosen : (accepted : List Bool) (firsts : List ℕ) (selection : List Bool) → length firsts ≡ length accepted → length (with_chosen accepted firsts selection) ≡ length accepted
-length-with_chosen [] firsts selection e = refl
-length-with_chosen (a ∷ rest) [] selection e = absurd (omega arith)
-length-with_chosen (a ∷ rest) (f ∷ fs) selection e = ap suc (length-with_chosen rest fs selection (omega arith))
-
-pub chosen_at : (accepted : List Bool) (firsts : List ℕ) (selection : List Bool) (k : ℕ) (d : ℕ) → length firsts ≡ length accepted → k < length accepted
-    → (answer_in accepted k || answer_in selection (get_or firsts k d)) ≡ answer_in (with_chosen accepted firsts selection) k
-chosen_at [] firsts selection k d e h = absurd (omega arith)
-chosen_at (a ∷ rest) [] selection k d e h = absurd (omega arith)
-chosen_at (a ∷ rest) (f ∷ fs) selection zero d e h = refl
-chosen_at (a ∷ rest) (f ∷ fs) selection (suc k) d e h = chosen_at rest fs selection k d (omega arith) (omega arith)
+use Rattle.spdx_why.specs.Least.{with_chosen, first_candidate, suffices_in, numbers_of, IsLeastRemedy, AdvisesOnly}
 
 -- a candidate that is the same is the first
 pub found_first : (other : ExpressionReq) (nodes : List ExprNode) (cs : List Bool) (k : ℕ) (r : Requirement) → k < length cs → answer_in cs k ≡ true → same_requirement (requirement_of other.req) r ≡ true
@@ -139,23 +126,8 @@ only_candidates t accepted candidates selection each least needed =
     let there : answer_in candidates k ≡ true = second (answer_in selection k) (answer_in candidates k) e one in
     ap (answer_in candidates) (let z : 0 + k ≡ k = omega arith in z) ∙ there)
 
-few_enough : (n : ℕ) → n ≤ 1024 → nat_lt 1024 n ≡ false
-few_enough n h = grind (arith, nat_tests, h)
-
-pub choice_least : (t : Tree) (accepted candidates selection : List Bool) → length accepted ≤ 1024 → IsLeast (suffices_in t accepted candidates) (length accepted) selection → choice_of t accepted candidates ≡ chosen (numbers_of selection)
-choice_least t accepted candidates selection few least =
-    ap (λ (b : Bool). cond b (too_many (length accepted)) (choice_by (least_of (suffices_in t accepted candidates) (length accepted)))) (few_enough (length accepted) few)
-    ∙ ap choice_by (IsLeast-least_of (suffices_in t accepted candidates) (length accepted) selection least)
-
-pub choice_unmet : (t : Tree) (accepted candidates : List Bool) → length accepted ≤ 1024 → NoneSuffices (suffices_in t accepted candidates) (length accepted) → choice_of t accepted candidates ≡ unmet
-choice_unmet t accepted candidates few none =
-    ap (λ (b : Bool). cond b (too_many (length accepted)) (choice_by (least_of (suffices_in t accepted candidates) (length accepted)))) (few_enough (length accepted) few)
-    ∙ ap choice_by (none_found (suffices_in t accepted candidates) (length accepted) none)
-
--- what is said of a judge's choices is said of those that it was made for
-pub of_judge : (P : (List Bool → Bool) → ℕ → Type 0) (t t2 : Tree) (accepted accepted2 : List Bool) (firsts firsts2 : List ℕ) → t ≡ t2 → accepted ≡ accepted2 → firsts ≡ firsts2
-    → P (λ s. truth_of t (with_chosen accepted firsts s)) (length accepted) → P (λ s. truth_of t2 (with_chosen accepted2 firsts2 s)) (length accepted2)
-of_judge P t t2 accepted accepted2 firsts firsts2 e f g h =
-    subst (λ (z : List Bool). P (λ s. truth_of t2 (with_chosen z firsts2 s)) (length z)) f
-    (subst (λ (z : List ℕ). P (λ s. truth_of t2 (with_chosen accepted z s)) (length accepted)) g
-    (subst (λ (z : Tree). P (λ s. truth_of z (with_chosen accepted firsts s)) (length accepted)) e h))
+pub advises_candidates : (t : Tree) (accepted candidates : List Bool) → length accepted ≡ length (leaves t) → (advice : Remedy) → IsLeastRemedy (suffices_in t accepted candidates) (length accepted) advice → AdvisesOnly candidates advice
+advises_candidates t accepted candidates each (Accept v) known =
+    ap (λ (z : List ℕ). list_all (answer_in candidates) z) known.numbers_are ∙ only_candidates t accepted candidates known.selection each known.least known.needed
+advises_candidates t accepted candidates each Unmet known = tt
+advises_candidates t accepted candidates each (TooMany n) known = tt

@@ -2,3 +2,4 @@ pub mod Numbering
 pub mod Listing
 pub mod Hanging
 pub mod Chosen
+pub mod Served

@@ -5,7 +5,7 @@ use Rattle.spdx_requirement.specs.Items.{requirement_of}
 use Rattle.spdx_parser.specs.declared.node.Operator.{Operator}
 use Rattle.spdx_parser.specs.declared.node.ExpressionReq.{ExpressionReq}
 use Rattle.spdx_parser.specs.declared.node.ExprNode.{ExprNode}
-use Rattle.spdx_parser.specs.Tree.{Tree, Leaf, Join, Node, Op, postfix, leaves, node_of}
+use Rattle.spdx_parser.specs.Tree.{Tree, Leaf, Node, postfix, leaves, node_of}
 use Rattle.spdx_evaluation.specs.Postfix.{join_trees, trees_behind, tree_in, newest}
 use Rattle.spdx_evaluation.specs.Truth.{joined}
 use Rattle.spdx_evaluation.specs.Requirements.{requirements_in}

@@ -1,5 +1,5 @@
 -- The truth of a tree over a list of answers, and over answers by number.
-use Rattle.std.proofs.Common.{◌≡◌, ℕ, zero, suc, ◌+◌, ◌-◌, ◌≤◌, Bool, true, false, List, [], ◌∷◌, ◌++◌, length, take, drop, refl, sym, ◌∙◌, ap, arith, get_or}
+use Rattle.std.proofs.Common.{◌≡◌, ℕ, zero, suc, ◌+◌, ◌-◌, ◌≤◌, Bool, false, List, [], ◌∷◌, ◌++◌, length, take, drop, refl, ◌∙◌, ap, arith, get_or}
 use Rattle.std.proofs.lemmas.List.{length-append, drop-drop, drop-take}
 use Rattle.spdx_parser.specs.Tree.{Tree, Leaf, Join, leaves}
 use Rattle.spdx_evaluation.specs.Truth.{joined, truth_of}

@@ -4,14 +4,13 @@ ghost use Rattle.std.specs.Prelude.{◌≡◌, IfOk, length, map};
 ghost use Rattle.spdx_parser.specs.Tree.{leaves, node_of};
 ghost use Rattle.spdx_evaluation.specs.Postfix.{IsPostfix, tree_in};
 ghost use Rattle.spdx_why.specs.Marks.{allows, leaves_open, none_of};
-ghost use Rattle.spdx_why.specs.Least.{suffices_in, numbers_of, choice_of, advised, IsLeastRemedy, AdvisesOnly};
+ghost use Rattle.spdx_why.specs.Least.{suffices_in, choice_of, advised, IsLeastRemedy, AdvisesOnly};
 
 use crate::firsts::first_candidates;
-use crate::judge::ChoiceJudge;
 use crate::marks::Mark;
+use crate::serving::least_serving;
 use spdx_parser::node::ExprNode;
 use std::alloc::{AllocError, Global};
-use sufficiency::least_selection;
 
 /// What would make an expression pass.
 #[derive(Debug, Drop)]
@@ -92,14 +91,8 @@ pub fn least(
     if count > 1024 {
         return Ok(Remedy::TooMany(count));
     }
-    let firsts = first_candidates(alloc, nodes, candidates)?;
-    let mut judge = ChoiceJudge::new(alloc, nodes, accepted, firsts.as_slice())?;
-    let mut selection = Vec::from_elem(alloc, false, count)?;
-    let chosen = selection.as_mut_slice();
-    if !least_selection(&mut judge, chosen) {
-        return Ok(Remedy::Unmet);
-    }
-    Ok(Remedy::Accept(chosen_numbers(alloc, chosen)?))
+    let serving = first_candidates(alloc, nodes, candidates)?;
+    least_serving(alloc, nodes, accepted, serving.as_slice(), count)
 }
 
 // Whether each mark allows.
@@ -121,17 +114,4 @@ fn open_among(alloc: Global, marks: &[Mark]) -> Result<Vec<bool>, AllocError>
     ensures { IfOk result (λ answers. answers.items ≡ map leaves_open marks.now) }
 {
     marks.iter().map(|mark| mark.is_open()).collect(alloc)
-}
-
-// The numbers of the chosen.
-fn chosen_numbers(alloc: Global, selection: &[bool]) -> Result<Vec<usize>, AllocError>
-    ensures { IfOk result (λ numbers. numbers.items ≡ numbers_of selection.now) }
-{
-    let mut numbers = Vec::new(alloc);
-    for number in 0..selection.len() {
-        if selection[number] {
-            numbers.push(number)?;
-        }
-    }
-    Ok(numbers)
 }

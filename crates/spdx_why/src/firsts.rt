@@ -5,30 +5,32 @@ ghost use Rattle.spdx_requirement.specs.Items.{requirement_of};
 ghost use Rattle.spdx_parser.specs.Tree.{leaves, node_of};
 ghost use Rattle.spdx_evaluation.specs.Postfix.{IsPostfix, tree_in};
 ghost use Rattle.spdx_why.specs.Least.{first_candidate, firsts_of};
+ghost use Rattle.spdx_why.specs.Serving.{lists_in, alone};
 
 use spdx_catalogue::LicenseReq;
 use spdx_parser::node::ExprNode;
 use spdx_requirement::equality::are_same_requirement;
 use std::alloc::{AllocError, Global};
 
-// For each requirement the number of the first candidate that is the same.
+// For each requirement the number of the first candidate that is the same, alone.
 pub(crate) fn first_candidates(
     alloc: Global,
     nodes: &[ExprNode<'_>],
     candidates: &[bool],
-) -> Result<Vec<usize>, AllocError>
+) -> Result<Vec<Vec<usize>>, AllocError>
     requires tree { IsPostfix (map node_of nodes.now) }
     requires each { length candidates.now ≡ length (leaves (tree_in nodes.now)) }
-    ensures { IfOk result (λ firsts.
-        firsts.items ≡ firsts_of (tree_in nodes.now) candidates.now) }
+    ensures { IfOk result (λ serving. lists_in serving.items ≡
+        map alone (firsts_of (tree_in nodes.now) candidates.now)) }
 {
-    let mut firsts = Vec::new(alloc);
+    let mut serving = Vec::new(alloc);
     for node in nodes {
         if let ExprNode::Req(requirement) = node {
-            firsts.push(first_same(nodes, candidates, &requirement.req))?;
+            let first = first_same(nodes, candidates, &requirement.req);
+            serving.push(vec![in alloc; first]?)?;
         }
     }
-    Ok(firsts)
+    Ok(serving)
 }
 
 // The number of the first candidate that is the same requirement; how many there are, where none is.

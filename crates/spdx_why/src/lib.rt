@@ -1,5 +1,5 @@
 //! Why an expression is refused, over its nodes and a mark for each of its requirements: which of them the refusal hangs
-//! on, and the fewest that would make it pass.
+//! on, and the fewest that would make it pass; or the fewest of other candidates, each of which serves some of them.
 //!
 //! A requirement is named by its number: how many stand before it in the text.
 #![tactic(auto)]
@@ -10,7 +10,9 @@ mod judge;
 mod marks;
 mod parts;
 mod reasons;
+mod serving;
 
 pub use crate::choice::{Remedy, advice, least, least_allowed};
 pub use crate::marks::Mark;
 pub use crate::reasons::{is_accepted, missing};
+pub use crate::serving::least_serving;

@@ -15,9 +15,27 @@ const FIX_EXAMPLE: &str = "Example:
 Status: 0 nothing is left to mend, 1 some expression has no mended text, 2 wrong words, list or file, 3 a read, a write
 or memory failed.";
 
+const COMPARE_EXAMPLE: &str = "Example:
+  spdx compare 'MIT OR (MIT AND Zlib)' MIT
+
+Status: 0 they mean the same, 1 they don't, 2 wrong words or list, or a text that is no expression, 3 memory failed.";
+
+const SIMPLIFY_EXAMPLE: &str = "Example:
+  echo 'MIT OR (MIT AND Zlib)' | spdx simplify
+
+Status: 0 each line has a meaning, 1 some line is no expression or makes too many sets of licenses and is written as it
+stands, 2 wrong words, list or file, 3 a read, a write or memory failed.";
+
 const LIST_EXAMPLE: &str = "Examples:
   spdx list show MIT GPL-2.0
-  spdx list make licenses.json exceptions.json --extras extras.json > list.json";
+  spdx list make licenses.json exceptions.json --extras extras.json > list.json
+  spdx list diff newer_folder
+
+A newer list: put SPDX's own licenses.json and exceptions.json (github.com/spdx/license-list-data, folder json) into a
+folder, and name the folder by --list, or by the environment's SPDX_LIST for every command.";
+
+const NEWER_HELP: &str =
+    "The newer list; without it, OLD is the newer one, and the list in use the older";
 
 const EXAMPLES: &str = "Examples:
   spdx check licenses.txt            what is wrong in a list with an expression a line
@@ -27,6 +45,8 @@ const EXAMPLES: &str = "Examples:
                                      which packages a policy refuses, and why
   spdx notice --accept MIT,Apache-2.0 --texts texts --from cargo metadata.json
                                      the page that says who is owed what
+  spdx compare 'MIT OR Apache-2.0' MIT
+                                     which of two expressions asks for more
   spdx list show Apache-2.0          what the list says of a name";
 
 /// The command `spdx`. `version` is what `--version` prints.
@@ -42,6 +62,8 @@ pub(crate) fn command<'a>(alloc: Global, version: &'a str) -> Result<Command<'a>
         .subcommand(fix(alloc)?)?
         .subcommand(gate(alloc)?)?
         .subcommand(notice(alloc)?)?
+        .subcommand(compare(alloc)?)?
+        .subcommand(simplify(alloc)?)?
         .subcommand(list(alloc)?)
 }
 
@@ -59,11 +81,7 @@ fn check<'a>(alloc: Global) -> Result<Command<'a>, AllocError> {
         .arg(flag(alloc, "strict", "Reads as SPDX has it; this is the default").conflicts_with(
             "lax",
         )?)?
-        .arg(flag(
-            alloc,
-            "lax",
-            "Reads names in any case, imprecise names and `/` for OR too",
-        ))?
+        .arg(lax(alloc))?
         .arg(headers(alloc))?
         .arg(list_file(alloc))?
         .arg(flag(alloc, "quiet", "Writes nothing; the status tells").short('q'))?
@@ -80,16 +98,50 @@ fn fix<'a>(alloc: Global) -> Result<Command<'a>, AllocError> {
         .about("Shows what the refused expressions should be, or writes it")
         .after_help(FIX_EXAMPLE)
         .arg(flag(alloc, "write", "Mends the files in place"))?
+        .arg(flag(
+            alloc,
+            "break-links",
+            "With --write: mends a file that has other names too, which keep what it was",
+        ))?
         .arg(headers(alloc))?
         .arg(list_file(alloc))?
         .arg(paths(alloc))
+}
+
+fn compare<'a>(alloc: Global) -> Result<Command<'a>, AllocError> {
+    Command::new(alloc, "compare")
+        .about("Tells whether two expressions mean the same, or which asks for more")
+        .after_help(COMPARE_EXAMPLE)
+        .arg(lax(alloc))?
+        .arg(list_file(alloc))?
+        .arg(file(alloc, "ONE", "An expression"))?
+        .arg(file(alloc, "OTHER", "Another one"))
+}
+
+fn simplify<'a>(alloc: Global) -> Result<Command<'a>, AllocError> {
+    Command::new(alloc, "simplify")
+        .about("Writes what each expression means, without what it says twice")
+        .after_help(SIMPLIFY_EXAMPLE)
+        .arg(lax(alloc))?
+        .arg(list_file(alloc))?
+        .arg(paths(alloc))
+}
+
+fn lax<'a>(alloc: Global) -> Arg<'a> {
+    flag(
+        alloc,
+        "lax",
+        "Reads names in any case, imprecise names and `/` for OR too",
+    )
 }
 
 fn list<'a>(alloc: Global) -> Result<Command<'a>, AllocError> {
     let names = Arg::new(alloc, "NAME")
         .action(ArgAction::Append)
         .num_args(0..)
-        .help("License and exception names; all of them where there is none");
+        .help(
+            "License and exception names; the list's version and all of them where there is none",
+        );
     let show = Command::new(alloc, "show")
         .about("Shows what the list says of names")
         .arg(list_file(alloc))?
@@ -103,13 +155,22 @@ fn list<'a>(alloc: Global) -> Result<Command<'a>, AllocError> {
         .arg(file(alloc, "LICENSES", "SPDX's licenses.json"))?
         .arg(file(alloc, "EXCEPTIONS", "SPDX's exceptions.json"))?
         .arg(extras)?;
+    let diff = Command::new(alloc, "diff")
+        .about("Tells what a newer list added, removed, deprecated and changed")
+        .arg(file(
+            alloc,
+            "OLD",
+            "The older list: a file of this program, or a folder with SPDX's own two",
+        ))?
+        .arg(Arg::new(alloc, "NEW").help(NEWER_HELP))?;
     Command::new(alloc, "list")
-        .about("Shows or makes the list of licenses")
+        .about("Shows, makes or compares lists of licenses")
         .subcommand_required(true)
         .arg_required_else_help(true)
         .after_help(LIST_EXAMPLE)
         .subcommand(show)?
-        .subcommand(make)
+        .subcommand(make)?
+        .subcommand(diff)
 }
 
 pub(crate) fn flag<'a>(alloc: Global, name: &'a str, help: &'a str) -> Arg<'a> {

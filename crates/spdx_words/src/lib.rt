@@ -1,4 +1,11 @@
 //! The words of the program `spdx`: what its command line asks for.
+//!
+//! ```rust
+//! // crates/spdx_main/src/main.rt
+//! let request: Request<'_> = match read(alloc, version.as_str(), words.as_slice()) {
+//! ```
+//!
+//! It stands on `clap`.
 #![tactic(auto)]
 
 mod command;
@@ -11,5 +18,8 @@ mod words;
 pub use crate::packages_request::{
     Accepted, GateForm, GateRequest, NoticeRequest, PageForm, Source, SourceForm,
 };
-pub use crate::request::{CheckRequest, FixRequest, Form, MakeRequest, Request, ShowRequest};
+pub use crate::request::{
+    CheckRequest, CompareRequest, DiffRequest, FixRequest, Form, MakeRequest, Request, ShowRequest,
+    SimplifyRequest,
+};
 pub use crate::words::read;

@@ -42,8 +42,24 @@ pub(crate) fn gate<'a>(alloc: Global) -> Result<Command<'a>, AllocError> {
         .after_help(GATE_EXAMPLE)
         .arg(policy)?
         .arg(form)?
+        .arg(option(
+            alloc,
+            "baseline",
+            "FILE",
+            "Packages of before, or an earlier --format json: fails only on what is not refused there",
+        ))?
         .arg(explain)?
-        .arg(flag(alloc, "quiet", "Writes nothing; the status tells").short('q'))?;
+        .arg(flag(alloc, "quiet", "Writes nothing; the status tells").short('q'))?
+        .arg(flag(
+            alloc,
+            "allow-empty",
+            "Lets a file pass that lists no package",
+        ))?
+        .arg(flag(
+            alloc,
+            "no-unused",
+            "Leaves out which entries of the policy are not used",
+        ))?;
     sources(alloc, gate)?
         .arg(list_file(alloc))?
         .arg(paths(alloc))
@@ -83,6 +99,11 @@ pub(crate) fn notice<'a>(alloc: Global) -> Result<Command<'a>, AllocError> {
         .arg(flag(alloc, "without-texts", "Leaves the texts out").conflicts_with("texts")?)?
         .arg(flag(
             alloc,
+            "follow",
+            "Follows links that lead out of the folder of the texts",
+        ))?
+        .arg(flag(
+            alloc,
             "lax",
             "With --accept: reads names in any case, imprecise names and `/` for OR too",
         ))?
@@ -102,8 +123,25 @@ pub(crate) fn sources<'a>(alloc: Global, command: Command<'a>) -> Result<Command
     let from = Arg::new(alloc, "from")
         .long("from")
         .value_name("FORM")
-        .value_parser(["lines", "tsv", "cargo", "npm", "cyclonedx", "spdx"].as_slice())
-        .help("What the files are: lines of expressions where nothing is said");
+        .value_parser([
+            "auto",
+            "lines",
+            "tsv",
+            "csv",
+            "verdicts",
+            "cargo",
+            "npm",
+            "composer",
+            "pip",
+            "cyclonedx",
+            "spdx",
+            "spdx-3",
+            "license-checker",
+            "pnpm",
+            "metadata",
+        ]
+        .as_slice())
+        .help("What the files are: where nothing is said, what their shape tells");
     let each = option(
         alloc,
         "each",
@@ -111,13 +149,29 @@ pub(crate) fn sources<'a>(alloc: Global, command: Command<'a>) -> Result<Command
         "Any JSON: where its list of packages is, as /packages",
     );
     command
+        .arg(flag(
+            alloc,
+            "exclude-own",
+            "Leaves out the packages of one's own project, as members of a workspace",
+        ))?
         .arg(from.conflicts_with("each")?)?
+        .arg(flag(
+            alloc,
+            "header",
+            "With csv and tsv: the first row names the columns",
+        ))?
         .arg(each)?
         .arg(option(
             alloc,
             "name",
             "POINTER",
             "With --each: a package's name, from the package; /name where nothing is said",
+        ))?
+        .arg(option(
+            alloc,
+            "package-version",
+            "POINTER",
+            "With --each: its version; none where nothing is said",
         ))?
         .arg(option(
             alloc,

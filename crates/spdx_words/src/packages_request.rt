@@ -3,21 +3,39 @@
 /// What the files are.
 #[derive(Clone, Copy)]
 pub enum Source<'w> {
+    /// The form that the file's shape tells.
+    Auto,
     /// A form with a name.
     Named(SourceForm),
-    /// Any JSON, by the pointers to its list of packages and, from each of them, to a name and a license.
-    At(&'w str, &'w str, &'w str),
+    /// Any JSON, by the pointers to its list of packages and, from each of them, to a name, a version and a license.
+    At {
+        each: &'w str,
+        name: &'w str,
+        version: Option<&'w str>,
+        license: &'w str,
+    },
 }
 
 /// The forms with names.
 #[derive(Clone, Copy, PartialEq, Eq, Debug)]
 pub enum SourceForm {
     Lines,
-    Tsv,
+    /// Whether the first row names the columns.
+    Tsv { header: bool },
+    /// Whether the first row names the columns.
+    Csv { header: bool },
+    /// What the gate wrote as JSON.
+    Verdicts,
     Cargo,
     Npm,
+    Composer,
+    Pip,
     CycloneDx,
     Spdx,
+    SpdxThree,
+    LicenseChecker,
+    Pnpm,
+    Metadata,
 }
 
 /// How the verdicts of a gate are written.
@@ -47,10 +65,18 @@ pub struct GateRequest<'w> {
     pub policy: &'w str,
     pub source: Source<'w>,
     pub form: GateForm,
+    /// A file whose refusals are known: what is refused there too is no failure.
+    pub baseline: Option<&'w str>,
     /// The name of a package that is explained.
     pub explain: Option<&'w str>,
     /// Whether nothing is written, and the status alone tells.
     pub quiet: bool,
+    /// Whether a file that lists no package passes.
+    pub allow_empty: bool,
+    /// Whether it is told which entries of the policy are not used.
+    pub tells_unused: bool,
+    /// Whether packages of one's own project are left out.
+    pub exclude_own: bool,
     pub paths: Vec<&'w str>,
 }
 
@@ -72,8 +98,12 @@ pub struct NoticeRequest<'w> {
     pub source: Source<'w>,
     /// The folder with the texts; none where they are left out.
     pub texts: Option<&'w str>,
+    /// Whether links that lead out of that folder are followed.
+    pub follow: bool,
     /// Whether one choice is made for all packages together.
     pub one_for_all: bool,
+    /// Whether packages of one's own project are left out.
+    pub exclude_own: bool,
     pub form: PageForm,
     pub paths: Vec<&'w str>,
 }

@@ -22,8 +22,12 @@ pub(crate) fn gate_request<'w>(
         policy,
         source: source(alloc, matches)?,
         form: gate_form(matches.get_str("format")),
+        baseline: matches.get_str("baseline"),
         explain: matches.get_str("explain"),
         quiet: matches.get_flag("quiet"),
+        allow_empty: matches.get_flag("allow-empty"),
+        tells_unused: !matches.get_flag("no-unused"),
+        exclude_own: matches.get_flag("exclude-own"),
         paths: texts(alloc, matches, "PATH")?,
     }))
 }
@@ -44,7 +48,9 @@ pub(crate) fn notice_request<'w>(
         accepted: accepted(alloc, matches)?,
         source: source(alloc, matches)?,
         texts: texts_folder,
+        follow: matches.get_flag("follow"),
         one_for_all: matches.get_flag("one-for-all"),
+        exclude_own: matches.get_flag("exclude-own"),
         form: page_form(matches.get_str("format")),
         paths: texts(alloc, matches, "PATH")?,
     }))
@@ -63,25 +69,50 @@ fn accepted<'w>(alloc: Global, matches: &ArgMatches<'w>) -> Result<Accepted<'w>,
 
 fn source<'w>(alloc: Global, matches: &ArgMatches<'w>) -> Result<Source<'w>, Error> {
     let name = matches.get_str("name");
+    let version = matches.get_str("package-version");
     let license = matches.get_str("license");
     let Some(each) = matches.get_str("each") else {
-        if name.is_some() || license.is_some() {
-            let why = "--name and --license go with --each";
+        if name.is_some() || version.is_some() || license.is_some() {
+            let why = "--name, --package-version and --license go with --each";
             return Err(refused(alloc, ErrorKind::MissingRequiredArgument, why));
         }
-        return Ok(Source::Named(source_form(matches.get_str("from"))));
+        return named_source(alloc, matches.get_str("from"), matches.get_flag("header"));
     };
-    Ok(Source::At(each, name.unwrap_or("/name"), license.unwrap_or("/license")))
+    Ok(Source::At {
+        each,
+        name: name.unwrap_or("/name"),
+        version,
+        license: license.unwrap_or("/license"),
+    })
 }
 
-fn source_form(name: Option<&str>) -> SourceForm {
+fn named_source<'w>(alloc: Global, name: Option<&str>, header: bool) -> Result<Source<'w>, Error> {
     match name {
-        Some("tsv") => SourceForm::Tsv,
-        Some("cargo") => SourceForm::Cargo,
-        Some("npm") => SourceForm::Npm,
-        Some("cyclonedx") => SourceForm::CycloneDx,
-        Some("spdx") => SourceForm::Spdx,
-        _ => SourceForm::Lines,
+        Some("tsv") => Ok(Source::Named(SourceForm::Tsv { header })),
+        Some("csv") => Ok(Source::Named(SourceForm::Csv { header })),
+        _ if header => {
+            let why = "--header goes with --from csv and --from tsv";
+            Err(refused(alloc, ErrorKind::ArgumentConflict, why))
+        }
+        _ => Ok(other_source(name)),
+    }
+}
+
+fn other_source<'w>(name: Option<&str>) -> Source<'w> {
+    match name {
+        Some("lines") => Source::Named(SourceForm::Lines),
+        Some("verdicts") => Source::Named(SourceForm::Verdicts),
+        Some("cargo") => Source::Named(SourceForm::Cargo),
+        Some("npm") => Source::Named(SourceForm::Npm),
+        Some("composer") => Source::Named(SourceForm::Composer),
+        Some("pip") => Source::Named(SourceForm::Pip),
+        Some("cyclonedx") => Source::Named(SourceForm::CycloneDx),
+        Some("spdx") => Source::Named(SourceForm::Spdx),
+        Some("spdx-3") => Source::Named(SourceForm::SpdxThree),
+        Some("license-checker") => Source::Named(SourceForm::LicenseChecker),
+        Some("pnpm") => Source::Named(SourceForm::Pnpm),
+        Some("metadata") => Source::Named(SourceForm::Metadata),
+        _ => Source::Auto,
     }
 }
 

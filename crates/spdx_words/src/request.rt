@@ -13,10 +13,16 @@ pub enum Request<'w> {
     Gate(GateRequest<'w>),
     /// `notice`.
     Notice(NoticeRequest<'w>),
+    /// `compare`.
+    Compare(CompareRequest<'w>),
+    /// `simplify`.
+    Simplify(SimplifyRequest<'w>),
     /// `list show`.
     Show(ShowRequest<'w>),
     /// `list make`.
     Make(MakeRequest<'w>),
+    /// `list diff`.
+    Diff(DiffRequest<'w>),
 }
 
 /// How findings are written.
@@ -51,7 +57,26 @@ pub struct FixRequest<'w> {
     pub list: Option<&'w str>,
     /// Whether the files are written; else a diff is.
     pub write: bool,
+    /// Whether a file that has other names is written, which keep the old bytes then.
+    pub break_links: bool,
     pub headers: bool,
+    pub paths: Vec<&'w str>,
+}
+
+/// Which expressions are compared.
+#[derive(Drop)]
+pub struct CompareRequest<'w> {
+    pub list: Option<&'w str>,
+    pub is_lax: bool,
+    pub one: &'w str,
+    pub other: &'w str,
+}
+
+/// Which expressions are simplified. No paths are standard input, as is the path `-`.
+#[derive(Drop)]
+pub struct SimplifyRequest<'w> {
+    pub list: Option<&'w str>,
+    pub is_lax: bool,
     pub paths: Vec<&'w str>,
 }
 
@@ -68,4 +93,12 @@ pub struct MakeRequest<'w> {
     pub licenses: &'w str,
     pub exceptions: &'w str,
     pub extras: Option<&'w str>,
+}
+
+/// The lists that are compared, each a file or a folder.
+#[derive(Drop)]
+pub struct DiffRequest<'w> {
+    /// The older list; where there is none, the one that the other commands read by.
+    pub old: Option<&'w str>,
+    pub new: &'w str,
 }

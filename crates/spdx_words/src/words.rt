@@ -2,7 +2,10 @@
 
 use crate::command::command;
 use crate::packages_words::{gate_request, notice_request};
-use crate::request::{CheckRequest, FixRequest, Form, MakeRequest, Request, ShowRequest};
+use crate::request::{
+    CheckRequest, CompareRequest, DiffRequest, FixRequest, Form, MakeRequest, Request, ShowRequest,
+    SimplifyRequest,
+};
 use clap::error::ErrorKind;
 use clap::{ArgMatches, Command, Error};
 use std::alloc::{AllocError, Global};
@@ -24,6 +27,12 @@ pub fn read<'w>(
         Some(("fix", matches)) => Ok(Request::Fix(fix_request(alloc, matches)?)),
         Some(("gate", matches)) => gate_request(alloc, matches),
         Some(("notice", matches)) => notice_request(alloc, matches),
+        Some(("compare", matches)) => compare_request(alloc, matches),
+        Some(("simplify", matches)) => Ok(Request::Simplify(SimplifyRequest {
+            list: matches.get_str("list"),
+            is_lax: matches.get_flag("lax"),
+            paths: texts(alloc, matches, "PATH")?,
+        })),
         Some(("list", matches)) => list_request(alloc, matches),
         _ => Err(refused(alloc, ErrorKind::MissingSubcommand, "a command is missing")),
     }
@@ -75,15 +84,33 @@ fn fix_request<'w>(alloc: Global, matches: &ArgMatches<'w>) -> Result<FixRequest
     Ok(FixRequest {
         list: matches.get_str("list"),
         write: matches.get_flag("write"),
+        break_links: matches.get_flag("break-links"),
         headers: matches.get_flag("headers"),
         paths: texts(alloc, matches, "PATH")?,
     })
+}
+
+// Both texts are required, so there is one.
+fn compare_request<'w>(alloc: Global, matches: &ArgMatches<'w>) -> Result<Request<'w>, Error> {
+    match (matches.get_str("ONE"), matches.get_str("OTHER")) {
+        (Some(one), Some(other)) => Ok(Request::Compare(CompareRequest {
+            list: matches.get_str("list"),
+            is_lax: matches.get_flag("lax"),
+            one,
+            other,
+        })),
+        _ => Err(no_file(alloc)),
+    }
 }
 
 fn list_request<'w>(alloc: Global, matches: &ArgMatches<'w>) -> Result<Request<'w>, Error> {
     match matches.subcommand() {
         Some(("make", matches)) => match make_request(matches) {
             Some(request) => Ok(Request::Make(request)),
+            None => Err(no_file(alloc)),
+        },
+        Some(("diff", matches)) => match diff_request(matches) {
+            Some(request) => Ok(Request::Diff(request)),
             None => Err(no_file(alloc)),
         },
         Some((_, matches)) => Ok(Request::Show(ShowRequest {
@@ -101,6 +128,21 @@ fn make_request<'w>(matches: &ArgMatches<'w>) -> Option<MakeRequest<'w>> {
         exceptions: matches.get_str("EXCEPTIONS")?,
         extras: matches.get_str("extras"),
     })
+}
+
+// Of one list alone it is the newer one.
+fn diff_request<'w>(matches: &ArgMatches<'w>) -> Option<DiffRequest<'w>> {
+    let first = matches.get_str("OLD")?;
+    match matches.get_str("NEW") {
+        Some(new) => Some(DiffRequest {
+            old: Some(first),
+            new,
+        }),
+        None => Some(DiffRequest {
+            old: None,
+            new: first,
+        }),
+    }
 }
 
 pub(crate) fn texts<'w>(

@@ -1,7 +1,13 @@
 //! The least selection of members that suffices, by dropping members from the last to the first.
 //!
-//! What suffices is given by a [`Sufficiency`]: any test that a larger selection meets if a smaller
-//! one does.
+//! What suffices is given by a [`Sufficiency`]: any test that a larger selection meets if a smaller one does.
+//!
+//! ```rust
+//! // crates/spdx_minimize/src/choice.rt
+//! if !least_selection(&mut judge, places) {
+//! ```
+//!
+//! It stands on nothing but std, and knows nothing of licences.
 #![tactic(auto)]
 
 ghost use Rattle.std.specs.Prelude.{◌≡◌, ◌+◌, ◌≤◌, ℕ, Bool, List, length, true, false};

@@ -1,4 +1,5 @@
 use Rattle.notice_forms.specs.Told.{told}
+use Rattle.notice_forms.proofs.Fenced.{stays_fenced}
 use Rattle.notice_forms.proofs.Seeing.{is_shown}
 use Rattle.notice_forms.proofs.put_page.Goals as goal
 
@@ -10,3 +11,12 @@ returns-in_err-extend_from_slice-clause-shown c = is_shown (told c.args.shown.no
 
 pub returns-clause-shown : goal.returns-clause-shown
 returns-clause-shown c = is_shown (told c.args.shown.now)
+
+pub returns-in_err-whole-clause-fenced : goal.returns-in_err-whole-clause-fenced
+returns-in_err-whole-clause-fenced c = stays_fenced
+
+pub returns-in_err-extend_from_slice-clause-fenced : goal.returns-in_err-extend_from_slice-clause-fenced
+returns-in_err-extend_from_slice-clause-fenced c = stays_fenced
+
+pub returns-clause-fenced : goal.returns-clause-fenced
+returns-clause-fenced c = stays_fenced

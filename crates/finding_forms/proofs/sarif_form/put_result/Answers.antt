@@ -2,16 +2,16 @@ use Rattle.std.proofs.Common.{◌≡◌, ℕ, List, ◌++◌, ◌∙◌, subst}
 use Rattle.json.specs.Tree.{json_tokens, members_tokens}
 use Rattle.finding_forms.specs.Sarif.{location, fix_members}
 use Rattle.finding_forms.specs.Finding.{told}
-use Rattle.finding_forms.specs.Escapes.{escaped}
-use Rattle.finding_forms.specs.declared.escapes.Escape.TheVariants.{Path}
+use Rattle.foreign_text.specs.Written.{text_for}
+use Rattle.foreign_text.specs.declared.sinks.Sink.TheVariants.{Path}
 use Rattle.finding_forms.proofs.Tokens.{begun, written}
 use Rattle.finding_forms.proofs.sarif_form.put_result.Goals as goal
 
 pub returns-clause-tokens : goal.returns-clause-tokens
 returns-clause-tokens c =
     let t = told c.args.finding.now in
-    let path : c.as_str-2.result.now ≡ escaped Path t.file = c.as_str-2.ensures.value ∙ c.in_ok-path.ensures in
-    let path_again : c.as_str-3.result.now ≡ escaped Path t.file = c.as_str-3.ensures.value ∙ c.in_ok-path.ensures in
+    let path : c.as_str-2.result.now ≡ text_for Path t.file = c.as_str-2.ensures.value ∙ c.in_ok-path.ensures.value in
+    let path_again : c.as_str-3.result.now ≡ text_for Path t.file = c.as_str-3.ensures.value ∙ c.in_ok-path.ensures.value in
     let w1 = written (begun c.args.writer.now.tokens) _ _ c.in_ok-begin_object.ensures.ok in
     let w2 = written w1 _ _ c.in_ok-key.ensures.ok in
     let w3 = written w2 _ _ (rw (c.as_str.ensures.value, c.in_ok-rule.ensures) at c.in_ok-string.ensures.ok) in

@@ -6,4 +6,5 @@ returns-clause-tokens c =
     let w1 = written (begun c.args.writer.now.tokens) _ _ c.in_ok-key.ensures.ok in
     let w2 = written w1 _ _ c.in_ok-string.ensures.ok in
     let w3 = written w2 _ _ c.in_ok-key-2.ensures.ok in
-    (written w3 _ _ (rw (c.word.ensures) at c.in_ok-string-2.ensures.ok)).is
+    let w4 = written w3 _ _ (rw (c.word.ensures) at c.in_ok-string-2.ensures.ok) in
+    (written w4 _ _ c.in_ok-put_baseline_member.ensures.tokens).is

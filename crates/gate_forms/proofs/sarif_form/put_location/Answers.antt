@@ -1,14 +1,14 @@
 use Rattle.std.proofs.Common.{◌≡◌, ℕ, List, ◌++◌, ◌∙◌, subst}
 use Rattle.json.specs.Tree.{json_tokens}
 use Rattle.finding_forms.specs.SarifLog.{artifact}
-use Rattle.finding_forms.specs.Escapes.{escaped}
-use Rattle.finding_forms.specs.declared.escapes.Escape.TheVariants.{Path}
+use Rattle.foreign_text.specs.Written.{text_for}
+use Rattle.foreign_text.specs.declared.sinks.Sink.TheVariants.{Path}
 use Rattle.finding_forms.proofs.Tokens.{begun, written}
 use Rattle.gate_forms.proofs.sarif_form.put_location.Goals as goal
 
 pub returns-clause-tokens : goal.returns-clause-tokens
 returns-clause-tokens c =
-    let path : c.as_str.result.now ≡ escaped Path c.args.report.now.file.now = c.as_str.ensures.value ∙ c.in_ok-path.ensures in
+    let path : c.as_str.result.now ≡ text_for Path c.args.report.now.file.now = c.as_str.ensures.value ∙ c.in_ok-path.ensures.value in
     let w1 = written (begun c.args.writer.now.tokens) _ _ c.in_ok-begin_object.ensures.ok in
     let w2 = written w1 _ _ c.in_ok-key.ensures.ok in
     let w3 = written w2 _ _ c.in_ok-begin_object-2.ensures.ok in

@@ -1,12 +1,12 @@
 use Rattle.std.proofs.Common.{◌≡◌, ◌++◌, Ok, map, drop, ℕ, List, Bor}
-use Rattle.serde_json.specs.View.{items_view}
-use Rattle.package_sources.specs.Members.{on_ok}
-use Rattle.package_sources.specs.Items.{each_from}
+use Rattle.package_items.specs.Rows.{item_row}
+use Rattle.package_items.specs.Members.{on_ok}
+use Rattle.package_items.specs.Items.{each}
 use Rattle.package_sources.specs.Several.{entry_text}
 use Rattle.package_sources.proofs.several.texts_in.Given as goal
 
-abbrev pub invariant-loop-index : goal.invariant-loop-index
-invariant-loop-index l =
+abbrev pub invariant-loop-entry : goal.invariant-loop-entry
+invariant-loop-entry l =
     let shown : Bor (List ℕ) → List ℕ = λ x. x.now in
-    each_from (entry_text l.kind l.list) 0 (items_view l.entry-items)
-    ≡ on_ok (each_from (entry_text l.kind l.list) l.index (items_view (drop l.index l.entry-items))) (λ rows. Ok (map shown l.texts.items ++ rows))
+    each (entry_text l.kind) (map item_row l.entries)
+    ≡ on_ok (each (entry_text l.kind) (map item_row (drop l.entry-index l.entries))) (λ more. Ok (map shown l.texts.items ++ more))

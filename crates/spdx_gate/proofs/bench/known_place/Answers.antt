@@ -1,4 +1,15 @@
+use Rattle.std.proofs.Common.{ℕ, List, below_more, subst, sym}
+use Rattle.std.specs.Prelude.{Contains}
+use Rattle.spdx_gate.proofs.Benches.{nowhere}
 use Rattle.spdx_gate.proofs.bench.known_place.Goals as goal
 
+pub loop-place-preserved : goal.loop-place-preserved
+loop-place-preserved c = below_more _ _ c.loop-place.invariant (λ at. absurd (cc (c.is_at.ensures.found at)))
+
 pub returns-then-is_at : goal.returns-then-is_at
-returns-then-is_at c = c.is_at.ensures c.if-is_at.true
+returns-then-is_at c = c.is_at.ensures.told c.if-is_at.true
+
+pub returns : goal.returns
+returns c =
+    nowhere c.args.judgements.now c.args.exceptions.now c.args.text.now c.places_under-places.result.now c.loop-place.place-index c.loop-place-test.false
+    (λ k at. subst (λ (z : List ℕ). Contains z k) (sym c.places_under-places.ensures) (c.requires c.args.exceptions.now c.args.text.now k at)) c.loop-place.invariant

@@ -1,7 +1,7 @@
 use Rattle.std.proofs.Common.{◌≡◌, ◌∙◌, ap, subst, Bool, map}
 use Rattle.std.specs.Prelude.{IfOk}
 use Rattle.spdx_evaluation.specs.Postfix.{tree_in}
-use Rattle.spdx_gate.specs.Judging.{mark_of}
+use Rattle.spdx_gate.specs.Allowing.{mark_of}
 use Rattle.spdx_gate.proofs.Passing.{passing}
 use Rattle.spdx_gate.proofs.judgement.is_passing.Goals as goal
 

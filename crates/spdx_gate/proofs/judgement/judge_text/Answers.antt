@@ -1,9 +1,15 @@
-use Rattle.spdx_gate.proofs.Passing.{parsed_postfix, judged_of}
+use Rattle.spdx_gate.proofs.Normal.{normal_text_agrees}
+use Rattle.spdx_gate.proofs.Order.{no_order}
+use Rattle.spdx_gate.proofs.Spelling.{no_spelling}
 use Rattle.spdx_gate.proofs.judgement.judge_text.Goals as goal
 
-pub judge_nodes-requires : goal.judge_nodes-requires
-judge_nodes-requires c = parsed_postfix _ _ _ _ c.in-Ok.ensures.ok
+pub returns-clause-spelling : goal.returns-clause-spelling
+returns-clause-spelling c =
+    no_spelling c.args.catalogue.now c.is_well_formed.ensures c.args.policy.now c.args.exceptions.now c.args.text.now c.in_ok-outcome.outcome c.in_ok-outcome.ensures
 
-pub returns-in_ok-judge_nodes-in-Ok : goal.returns-in_ok-judge_nodes-in-Ok
-returns-in_ok-judge_nodes-in-Ok c =
-    judged_of c.args.catalogue.now c.args.policy.now c.args.exceptions.now c.args.text.now _ _ c.in_ok-judge_nodes-in-Ok.field-0 c.mode.ensures c.in_ok-judge_nodes-in-Ok.ensures.nodes c.in-Ok.ensures.ok c.in_ok-judge_nodes-in-Ok.ensures.judged
+pub returns-clause-normal : goal.returns-clause-normal
+returns-clause-normal c =
+    normal_text_agrees c.args.catalogue.now c.is_well_formed.ensures c.args.policy.now c.args.exceptions.now c.args.text.now c.in_ok-outcome.outcome c.in_ok-outcome.ensures
+
+pub returns-clause-order : goal.returns-clause-order
+returns-clause-order c = no_order c.args.catalogue.now c.args.policy.now c.args.exceptions.now c.args.text.now c.in_ok-outcome.outcome c.in_ok-outcome.ensures

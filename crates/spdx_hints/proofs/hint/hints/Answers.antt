@@ -1,7 +1,8 @@
-use Rattle.std.proofs.Common.{◌≡◌, map, ap, ◌∙◌}
+use Rattle.std.proofs.Common.{rules, ◌≡◌, map, ap, ◌∙◌}
 use Rattle.std.proofs.lemmas.Result.{IfOk-weaker}
 use Rattle.spdx_requirement.specs.Rows.{row_of, license_name}
 use Rattle.spdx_hints.specs.Borrowed.{nows}
+use Rattle.spdx_hints.specs.Plain.{plain_of}
 use Rattle.spdx_hints.specs.Hints.{hints_of, meant}
 use Rattle.spdx_hints.proofs.Good.{hints_six, hints_good, len_six}
 use Rattle.spdx_hints.proofs.hint.hints.Goals as goal
@@ -9,8 +10,9 @@ use Rattle.spdx_hints.proofs.hint.hints.Goals as goal
 pub returns-clause-names : goal.returns-clause-names
 unfolding hints_of
 returns-clause-names c =
-    let same : map row_of (nows c.as_slice.result.now) ≡ meant c.args.catalogue.now c.args.phrase.now =
-    ap (λ xs. map row_of (nows xs)) c.as_slice.ensures.value ∙ c.in_ok-rows.ensures in
+    let plain : c.deref.result.now ≡ plain_of c.args.phrase.now = search rules in
+    let same : map row_of (nows c.as_slice.result.now) ≡ meant c.args.catalogue.now (plain_of c.args.phrase.now) =
+    ap (λ xs. map row_of (nows xs)) c.as_slice.ensures.value ∙ c.in_ok-rows.ensures ∙ ap (meant c.args.catalogue.now) plain in
     IfOk-weaker c.names_of.result (λ names. nows names.items ≡ map license_name (map row_of (nows c.as_slice.result.now))) _
     (λ names e. e ∙ ap (map license_name) same) c.names_of.ensures
 

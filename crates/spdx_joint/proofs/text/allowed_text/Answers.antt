@@ -12,7 +12,7 @@ returns-in_ok-allowed-in-Judged c =
     let tables = c.args.exceptions.now in
     let text = c.args.text.now in
     let j = c.in-Judged.judged in
-    let h : IsJudged rows p tables text j = subst (IsOutcome rows p tables text) c.in-Judged.is c.in_ok-judged.ensures in
+    let h : IsJudged rows p tables text j = subst (IsOutcome rows p tables text) c.in-Judged.is c.in_ok-judged.ensures.exact in
     let made : offer_of c.new.result ≡ offered p tables h.parsed.tree =
     c.new.ensures ∙ offer_there rows p tables text j h j.nodes.items c.in_ok-allowed-in-Judged.allowed.items refl (c.in_ok-allowed-in-Judged.ensures ∙ ap accepted_in c.as_slice.ensures.value) in
     record {

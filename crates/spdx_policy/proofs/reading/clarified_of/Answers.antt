@@ -1,4 +1,4 @@
-use Rattle.std.proofs.Common.{◌≡◌, Err, rules, ◌<◌, length, arith}
+use Rattle.std.proofs.Common.{◌≡◌, Err, rules, ◌<◌, length, map, arith}
 use Rattle.spdx_policy.proofs.Blamed.{blamed, clarified_blame}
 use Rattle.spdx_policy.proofs.Eaches.{each_more}
 use Rattle.spdx_policy.specs.Meant.{IsClarified}
@@ -16,4 +16,4 @@ pub returns-in_err-clarified_in-clause-err : goal.returns-in_err-clarified_in-cl
 returns-in_err-clarified_in-clause-err c =
     let lt : c.loop-index.index < length c.args.clarifications.now = omega arith in
     let same : c.from_residual.result ≡ Err c.in_err-clarified_in.field-0.0 = search rules in
-    blamed _ _ c.from_residual.result c.in_err-clarified_in.field-0.0 same c.in_err-clarified_in.ensures.err (clarified_blame c.args.clarifications.now c.loop-index.index c.index-clarifications-index.result lt c.index-clarifications-index.is)
+    blamed _ _ c.from_residual.result c.in_err-clarified_in.field-0.0 same c.in_err-clarified_in.ensures.err (clarified_blame c.args.clarifications.now c.loop-index.index c.index-clarifications-index.result (map scope_row c.loop-index.scopes.items) lt c.index-clarifications-index.is c.loop-index.invariant)

@@ -1,47 +1,42 @@
-use Rattle.std.proofs.Common.{rules, arith, ◌≡◌, ◌≤◌, ◌∙◌, sym, ap, ℕ, Bool, List, length, subst}
-use Rattle.std.specs.List.{list_all}
-use Rattle.sufficiency.specs.Selection.{IsLeast, NeedsEach, NoneSuffices}
+use Rattle.std.proofs.Common.{◌≡◌, ◌∙◌, sym, ap, ℕ, Bool, List, Vec, IfOk, length, map, subst}
+use Rattle.std.specs.declared.alloc.Global.{Global}
+use Rattle.std.proofs.lemmas.List.{length-map}
+use Rattle.std.proofs.lemmas.Result.{IfOk-weaker}
+use Rattle.spdx_parser.specs.Tree.{leaves}
 use Rattle.spdx_evaluation.specs.Postfix.{tree_in}
-use Rattle.spdx_why.specs.Missing.{answer_in}
-use Rattle.spdx_why.specs.Least.{chosen, suffices_in}
-use Rattle.spdx_why.proofs.Chosen.{choice_least, choice_unmet, of_judge, only_candidates}
+use Rattle.spdx_why.specs.Least.{Choice, advised, first_candidate, firsts_of, suffices_in, IsLeastRemedy, AdvisesOnly}
+use Rattle.spdx_why.specs.Serving.{lists_in, alone, serves_in, choice_among}
+use Rattle.spdx_why.proofs.Chosen.{advises_candidates}
+use Rattle.spdx_why.proofs.Served.{same_choice, same_meaning}
 use Rattle.spdx_why.proofs.choice.least.Goals as goal
 
-pub returns-then-not-least_selection-clause-exact : goal.returns-then-not-least_selection-clause-exact
-returns-then-not-least_selection-clause-exact c =
+pub least_serving-requires-clause-served : goal.least_serving-requires-clause-served
+least_serving-requires-clause-served c =
     let t = tree_in c.args.nodes.now in
-    let none = c.least_selection.ensures.none_suffices (search rules) in
-    let firsts = c.in_ok-judge.ensures.firsts ∙ c.as_slice.ensures.value ∙ c.in_ok-firsts.ensures in
-    sym (choice_unmet t c.args.accepted.now c.args.candidates.now c.if-count-gt1024.false
-    (of_judge NoneSuffices _ t _ c.args.accepted.now _ _ c.in_ok-judge.ensures.tree c.in_ok-judge.ensures.accepted firsts none))
+    let serving = c.as_slice.result.now in
+    let firsts : lists_in serving ≡ map alone (firsts_of t c.args.candidates.now) = ap lists_in c.as_slice.ensures.value ∙ c.in_ok-serving.ensures in
+    sym (length-map serving (λ (v : Vec ℕ Global). v.items)) ∙ ap length firsts
+    ∙ length-map (firsts_of t c.args.candidates.now) alone ∙ length-map (leaves t) (first_candidate (leaves t) c.args.candidates.now)
 
 pub returns-clause-exact : goal.returns-clause-exact
 returns-clause-exact c =
     let t = tree_in c.args.nodes.now in
-    let s = c.least_selection.new.selection in
-    let firsts = c.in_ok-judge.ensures.firsts ∙ c.as_slice.ensures.value ∙ c.in_ok-firsts.ensures in
-    let least = c.least_selection.ensures.least (search rules) in
-    let moved : IsLeast (suffices_in t c.args.accepted.now c.args.candidates.now) (length c.args.accepted.now) s =
-    of_judge (λ f n. IsLeast f n s) _ t _ c.args.accepted.now _ _ c.in_ok-judge.ensures.tree c.in_ok-judge.ensures.accepted firsts least in
-    ap chosen c.in_ok-chosen_numbers.ensures ∙ sym (choice_least t c.args.accepted.now c.args.candidates.now s c.if-count-gt1024.false moved)
+    let a = c.args.accepted.now in
+    let firsts : lists_in c.as_slice.result.now ≡ map alone (firsts_of t c.args.candidates.now) = ap lists_in c.as_slice.ensures.value ∙ c.in_ok-serving.ensures in
+    let same = ap (λ (s : List (List ℕ)). choice_among t a s (length a)) firsts ∙ same_choice t a c.args.candidates.now in
+    subst (λ (z : Choice). IfOk c.least_serving.result (λ advice. advised advice ≡ z)) same c.least_serving.ensures.exact
 
 pub returns-clause-least : goal.returns-clause-least
 returns-clause-least c =
     let t = tree_in c.args.nodes.now in
-    let s = c.least_selection.new.selection in
-    let firsts = c.in_ok-judge.ensures.firsts ∙ c.as_slice.ensures.value ∙ c.in_ok-firsts.ensures in
-    let least = c.least_selection.ensures.least (search rules) in
-    let needed = c.least_selection.ensures.needed (search rules) in
-    record {
-      selection = s;
-      least = of_judge (λ f n. IsLeast f n s) _ t _ c.args.accepted.now _ _ c.in_ok-judge.ensures.tree c.in_ok-judge.ensures.accepted firsts least;
-      needed = of_judge (λ f n. NeedsEach f s) _ t _ c.args.accepted.now _ _ c.in_ok-judge.ensures.tree c.in_ok-judge.ensures.accepted firsts needed;
-      numbers_are = c.in_ok-chosen_numbers.ensures;
-    }
+    let a = c.args.accepted.now in
+    let firsts : lists_in c.as_slice.result.now ≡ map alone (firsts_of t c.args.candidates.now) = ap lists_in c.as_slice.ensures.value ∙ c.in_ok-serving.ensures in
+    let same = ap (λ (s : List (List ℕ)). serves_in t a s) firsts ∙ same_meaning t a c.args.candidates.now in
+    subst (λ (f : List Bool → Bool). IfOk c.least_serving.result (IsLeastRemedy f (length a))) same c.least_serving.ensures.least
 
 pub returns-clause-only : goal.returns-clause-only
 returns-clause-only c =
     let t = tree_in c.args.nodes.now in
-    let known = returns-clause-least c in
-    ap (λ (z : List ℕ). list_all (answer_in c.args.candidates.now) z) known.numbers_are
-    ∙ only_candidates t c.args.accepted.now c.args.candidates.now known.selection c.requires.each known.least known.needed
+    let a = c.args.accepted.now in
+    IfOk-weaker c.least_serving.result (IsLeastRemedy (suffices_in t a c.args.candidates.now) (length a)) (AdvisesOnly c.args.candidates.now)
+    (advises_candidates t a c.args.candidates.now c.requires.each) (returns-clause-least c)

@@ -1,8 +1,7 @@
-use Rattle.std.proofs.Common.{rules, arith, sym, ◌∙◌, ap, ◌≡◌, ℕ, ◌+◌, ◌<◌, Bool, true, ◌&&◌, List, ◌∷◌, length, drop, map, get_or, zero-add, add-zero}
+use Rattle.std.proofs.Common.{rules, arith, sym, ◌∙◌, ap, ◌≡◌, ℕ, ◌+◌, ◌<◌, List, length, drop, map, zero-add, add-zero}
 use Rattle.std.proofs.lemmas.List.{drop_all}
 use Rattle.spdx_requirement.specs.Items.{Requirement, requirement_of}
 use Rattle.spdx_parser.specs.declared.node.ExprNode.{ExprNode}
-use Rattle.spdx_parser.specs.Tree.{leaves}
 use Rattle.spdx_evaluation.specs.Postfix.{tree_in}
 use Rattle.spdx_evaluation.specs.Requirements.{requirements_in}
 use Rattle.spdx_evaluation.proofs.Nodes.{requirement_at, requirements_of_tree}

@@ -1,32 +1,19 @@
-use Rattle.std.proofs.Common.{rules, sym, ◌∙◌, ap, ◌≡◌, Bool, true, false, ◌||◌, get_or}
+use Rattle.std.proofs.Common.{ℕ, Vec, sym, ◌∙◌, ap}
+use Rattle.std.specs.List.{list_any}
+use Rattle.std.specs.declared.alloc.Global.{Global}
 use Rattle.spdx_why.specs.Missing.{answer_in}
-use Rattle.spdx_why.specs.Least.{with_chosen}
-use Rattle.spdx_why.proofs.Chosen.{chosen_at}
+use Rattle.spdx_why.proofs.Served.{met_before, met_by_served}
 use Rattle.spdx_why.proofs.judge.is_met.Goals as goal
 
 pub returns-then-accepted-number : goal.returns-then-accepted-number
 returns-then-accepted-number c =
-    let at = chosen_at c.args.accepted.now c.args.firsts.now c.args.selection.now c.args.number 0 c.requires.each c.requires.within in
-    let is : answer_in c.args.accepted.now c.args.number ≡ true = c.if-accepted-number.true in
-    is ∙ sym (ap (λ (b : Bool). b || answer_in c.args.selection.now (get_or c.args.firsts.now c.args.number 0)) is) ∙ at
+    c.if-accepted-number.true
+    ∙ sym (met_before (answer_in c.args.selection.now) c.args.accepted.now c.args.serving.now c.args.number c.requires.served c.if-accepted-number.true)
 
-pub returns-in-Some-true : goal.returns-in-Some-true
-returns-in-Some-true c =
-    let at = chosen_at c.args.accepted.now c.args.firsts.now c.args.selection.now c.args.number 0 c.requires.each c.requires.within in
-    let is : answer_in c.args.accepted.now c.args.number ≡ false = c.if-accepted-number.false in
-    let chosen : answer_in c.args.selection.now (get_or c.args.firsts.now c.args.number 0) ≡ true = search rules in
-    sym (sym at ∙ ap (λ (b : Bool). b || answer_in c.args.selection.now (get_or c.args.firsts.now c.args.number 0)) is ∙ chosen)
-
-pub returns-in_default : goal.returns-in_default
-returns-in_default c =
-    let at = chosen_at c.args.accepted.now c.args.firsts.now c.args.selection.now c.args.number 0 c.requires.each c.requires.within in
-    let is : answer_in c.args.accepted.now c.args.number ≡ false = c.if-accepted-number.false in
-    let chosen : answer_in c.args.selection.now (get_or c.args.firsts.now c.args.number 0) ≡ false = search rules in
-    sym (sym at ∙ ap (λ (b : Bool). b || answer_in c.args.selection.now (get_or c.args.firsts.now c.args.number 0)) is ∙ chosen)
-
-pub returns-in_default-2 : goal.returns-in_default-2
-returns-in_default-2 c =
-    let at = chosen_at c.args.accepted.now c.args.firsts.now c.args.selection.now c.args.number 0 c.requires.each c.requires.within in
-    let is : answer_in c.args.accepted.now c.args.number ≡ false = c.if-accepted-number.false in
-    let chosen : answer_in c.args.selection.now (get_or c.args.firsts.now c.args.number 0) ≡ false = search rules in
-    sym (sym at ∙ ap (λ (b : Bool). b || answer_in c.args.selection.now (get_or c.args.firsts.now c.args.number 0)) is ∙ chosen)
+pub returns-else-accepted-number : goal.returns-else-accepted-number
+returns-else-accepted-number c =
+    let chosen = answer_in c.args.selection.now in
+    let list = c.index-serving-number.result in
+    c.is_any_chosen.ensures
+    ∙ ap (list_any chosen) (c.as_slice.ensures.value ∙ ap (λ (v : Vec ℕ Global). v.items) c.index-serving-number.is)
+    ∙ met_by_served chosen c.args.accepted.now c.args.serving.now c.args.number list c.requires.served c.requires.within c.if-accepted-number.false

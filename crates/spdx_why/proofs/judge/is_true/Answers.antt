@@ -1,15 +1,22 @@
-use Rattle.std.proofs.Common.{rules, arith, sym, ◌∙◌, ap, ◌≡◌, ◌<◌, ℕ, Bool, ◌∷◌, length}
+use Rattle.std.proofs.Common.{rules, arith, sym, ◌∙◌, ap, ◌≡◌, ℕ, Bool, List, ◌∷◌, Vec, length}
+use Rattle.std.specs.declared.alloc.Global.{Global}
+use Rattle.std.proofs.lemmas.List.{length-map}
 use Rattle.spdx_parser.specs.declared.node.Operator.TheVariants.{And, Or}
 use Rattle.spdx_parser.specs.declared.node.ExprNode.TheVariants.{Op}
 use Rattle.spdx_evaluation.specs.Postfix.{tree_in}
 use Rattle.spdx_minimize.proofs.Asking.{begins, leaf_there, reads_requirement, reads_operator, finishes}
-use Rattle.spdx_why.proofs.Chosen.{length-with_chosen}
+use Rattle.spdx_why.specs.Missing.{answer_in}
+use Rattle.spdx_why.specs.Serving.{lists_in}
+use Rattle.spdx_why.proofs.Served.{length-served}
 use Rattle.spdx_why.proofs.judge.is_true.Goals as goal
 use Rattle.spdx_why.proofs.judge.is_true.Goals.{in-Req, in-Op-And, in-Op-Or}
 
+each_list : (serving : List (Vec ℕ Global)) → length (lists_in serving) ≡ length serving
+each_list serving = length-map serving (λ (v : Vec ℕ Global). v.items)
+
 pub loop-node-init : goal.loop-node-init
 loop-node-init c =
-    let each = length-with_chosen c.args.accepted.now c.args.firsts.now c.args.selection.now c.requires.firsts_each in
+    let each = length-served (answer_in c.args.selection.now) c.args.accepted.now (lists_in c.args.serving.now) (each_list c.args.serving.now ∙ c.requires.served) in
     record {
       so_far = begins _ _ _ (tree_in c.args.nodes.now) c.requires.tree (each ∙ c.requires.each) c.clear.ensures.items (omega (arith, c.requires.room, c.clear.ensures.room));
       place = omega arith;
@@ -19,7 +26,7 @@ loop-node-init c =
 pub is_met-requires-clause-within : goal.is_met-requires-clause-within
 is_met-requires-clause-within c =
     let there = leaf_there _ _ _ _ _ _ _ c.loop-node.invariant.so_far c.loop-node-test.true (sym c.node-item.is ∙ c.in-Req.is) in
-    omega (arith, there, length-with_chosen c.args.accepted.now c.args.firsts.now c.args.selection.now c.requires.firsts_each)
+    omega (arith, there, length-served (answer_in c.args.selection.now) c.args.accepted.now (lists_in c.args.serving.now) (each_list c.args.serving.now ∙ c.requires.served))
 
 pub loop-node-preserved : goal.loop-node-preserved
 loop-node-preserved c = elim c.match-node.branch [
@@ -49,5 +56,5 @@ loop-node-preserved c = elim c.match-node.branch [
 
 pub returns-clause-answer : goal.returns-clause-answer
 returns-clause-answer c =
-    let each = length-with_chosen c.args.accepted.now c.args.firsts.now c.args.selection.now c.requires.firsts_each in
+    let each = length-served (answer_in c.args.selection.now) c.args.accepted.now (lists_in c.args.serving.now) (each_list c.args.serving.now ∙ c.requires.served) in
     finishes _ _ _ _ _ _ _ (tree_in c.args.nodes.now) c.loop-node.invariant.so_far (search rules) c.take.ensures.items c.requires.tree (each ∙ c.requires.each)

@@ -1,10 +1,8 @@
-use Rattle.std.proofs.Common.{rules, arith, sym, ◌∙◌, ◌≡◌, ap, subst, map, ℕ, ◌<◌, Bool, cond, List, [], ◌∷◌, ◌++◌, length}
+use Rattle.std.proofs.Common.{rules, arith, sym, ◌∙◌, ◌≡◌, ap, subst, map, ◌<◌, Bool, cond, [], ◌∷◌, ◌++◌, length}
 use Rattle.std.proofs.lemmas.List.{length-map}
-use Rattle.spdx_parser.specs.declared.node.ExprNode.TheVariants.{Op}
 use Rattle.spdx_evaluation.specs.Postfix.{tree_in}
-use Rattle.spdx_why.specs.declared.marks.Mark.{Mark}
 use Rattle.spdx_why.specs.Marks.{allows}
-use Rattle.spdx_why.specs.Missing.{answer_in, Cures, Binds, missing_of}
+use Rattle.spdx_why.specs.Missing.{answer_in, Cures, Binds}
 use Rattle.spdx_why.proofs.Listing.{begins, requirement_there, reads_requirement, reads_operator, finishes, marked}
 use Rattle.spdx_why.proofs.Hanging.{cures, binds}
 use Rattle.spdx_why.proofs.reasons.missing.Goals as goal

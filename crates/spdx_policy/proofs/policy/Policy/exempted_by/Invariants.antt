@@ -1,7 +1,8 @@
-use Rattle.std.proofs.Common.{◌≡◌, drop}
+use Rattle.std.proofs.Common.{◌≡◌, drop, map}
 use Rattle.spdx_requirement.specs.Items.{requirement_of}
-use Rattle.spdx_policy.specs.Decisions as spec
+use Rattle.spdx_policy.specs.Decisions.{exempted_by}
 use Rattle.spdx_policy.proofs.policy.Policy.exempted_by.Given as goal
 
 abbrev pub invariant-loop-table : goal.invariant-loop-table
-invariant-loop-table l = spec.exempted_by l.self l.exceptions (requirement_of l.req) ≡ spec.exempted_by l.self (drop l.table-index l.exceptions) (requirement_of l.req)
+invariant-loop-table l =
+    exempted_by l.self l.exceptions (drop l.table-index l.exceptions) (map requirement_of l.ways) ≡ exempted_by l.self l.exceptions l.exceptions (map requirement_of l.ways)

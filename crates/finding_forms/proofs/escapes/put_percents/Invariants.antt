@@ -1,7 +1,0 @@
-use Rattle.std.proofs.Common.{◌≡◌, ◌++◌, string_bytes, flat_map, encode_utf8, take}
-use Rattle.finding_forms.specs.Escapes.{percent}
-use Rattle.finding_forms.proofs.escapes.put_percents.Given as goal
-
-abbrev pub invariant-loop-byte : goal.invariant-loop-byte
-invariant-loop-byte l =
-    (l.byte-items ≡ encode_utf8 l.fn.letter) × (string_bytes l.line ≡ string_bytes l.initial.line ++ flat_map percent (take l.byte-index l.byte-items))

@@ -1,0 +1,4 @@
+pub mod Hidden
+pub mod Written
+pub mod Read
+pub mod Names

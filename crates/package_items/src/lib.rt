@@ -1,0 +1,27 @@
+//! What a file's items say of packages: what a package is as it is read, and how texts, lists and objects are found in
+//! JSON, each at its place.
+//!
+//! It knows nothing of the language of licenses: the text of one is carried on as it stands, or is made of several by
+//! the words `OR` and `AND`.
+#![tactic(auto)]
+
+pub mod error;
+pub mod item;
+pub mod joined;
+pub mod json;
+pub mod member;
+pub mod nested;
+pub mod package;
+pub mod texts;
+
+pub use crate::error::{Found, SourceError, SourceFault};
+pub use crate::item::{
+    Item, check_object, list_in, list_in_if_any, list_items, list_items_if_any, member_item,
+    member_items, member_items_if_any, root_item,
+};
+pub use crate::joined::license_of_all;
+pub use crate::json::{found_of, value_of};
+pub use crate::member::{license_at, text_if_any, text_of, texts_of};
+pub use crate::nested::{Parts, all_with_parts, with_parts};
+pub use crate::package::{License, Package, Spot, said};
+pub use crate::texts::{copy_of, is_blank, is_unstated, license_in};

@@ -1,0 +1,33 @@
+-- SPDX 2.
+use Rattle.std.specs.Prelude.{List, ◌++◌, Option, Some, None, Result, Ok, Err, codes}
+use Rattle.serde_json.specs.Data.{Data}
+use Rattle.serde_json.specs.Find.{get}
+use Rattle.package_items.specs.Rows.{Fault, LicenseRow, unstated, stated, ItemRow, PackageRow}
+use Rattle.package_items.specs.Members.{text_of, text_if_any, license_at}
+use Rattle.package_items.specs.Items.{list_items}
+use Rattle.package_items.specs.Packages.{said_of}
+
+-- the first, if it is stated, else the next
+abbrev pub stated_first : Result LicenseRow Fault → Result LicenseRow Fault → Result LicenseRow Fault
+stated_first (Err f) next = Err f
+stated_first (Ok (stated text)) next = Ok (stated text)
+stated_first (Ok unstated) next = next
+
+-- the concluded license if it is stated, else the declared one
+abbrev pub license : ItemRow → Result LicenseRow Fault
+license i =
+    stated_first (license_at (i.at ++ codes "/licenseConcluded") (get (codes "licenseConcluded") i.holds))
+    (license_at (i.at ++ codes "/licenseDeclared") (get (codes "licenseDeclared") i.holds))
+
+abbrev pub spdx : ItemRow → Result PackageRow Fault
+spdx i =
+    said_of i (text_of (i.at ++ codes "/name") (get (codes "name") i.holds))
+    (text_if_any (i.at ++ codes "/versionInfo") (get (codes "versionInfo") i.holds)) (license i)
+
+abbrev pub items_in : Data → Option Data → Result (List ItemRow) Fault
+items_in d (Some bill) = list_items (codes "/sbom/packages") (get (codes "packages") bill)
+items_in d None = list_items (codes "/packages") (get (codes "packages") d)
+
+-- the packages of a document, or of the bill that GitHub wraps
+abbrev pub items : Data → Result (List ItemRow) Fault
+items d = items_in d (get (codes "sbom") d)

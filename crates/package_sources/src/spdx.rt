@@ -1,0 +1,52 @@
+// SPDX 2.
+
+ghost use Rattle.std.specs.Prelude.{◌≡◌, ◌++◌, Ok, Err, IfOk, IfErr, map, codes};
+ghost use Rattle.serde_json.specs.View.{view};
+ghost use Rattle.package_items.specs.Rows.{Says, item_row, license_of, row_of};
+ghost use Rattle.package_sources.specs.Spdx as spec;
+
+use package_items::{
+    Item, License, Package, SourceError, license_at, list_items, said, text_if_any, text_of,
+};
+use serde_json::Value;
+use std::alloc::Global;
+
+// The concluded license if it is stated, else the declared one.
+fn license(alloc: Global, item: &Item<'_>) -> Result<License, SourceError>
+    ensures ok { IfOk result (λ l. spec.license (item_row item.now) ≡ Ok (license_of l)) }
+    ensures err { IfErr result (Says (λ f. spec.license (item_row item.now) ≡ Err f)) }
+{
+    let concluded = item.value.get("licenseConcluded");
+    match license_at(alloc, item, "/licenseConcluded", concluded)? {
+        License::Stated(text) => Ok(License::Stated(text)),
+        License::Unstated => {
+            let declared = item.value.get("licenseDeclared");
+            license_at(alloc, item, "/licenseDeclared", declared)
+        }
+    }
+}
+
+/// The package that an item is.
+pub(crate) fn spdx(alloc: Global, item: &Item<'_>) -> Result<Package, SourceError>
+    ensures ok { IfOk result (λ p. spec.spdx (item_row item.now) ≡ Ok (row_of p)) }
+    ensures err { IfErr result (Says (λ f. spec.spdx (item_row item.now) ≡ Err f)) }
+{
+    let name = text_of(alloc, item, "/name", item.value.get("name"))?;
+    let version = text_if_any(alloc, item, "/versionInfo", item.value.get("versionInfo"))?;
+    let license = license(alloc, item)?;
+    Ok(said(alloc, item, name, version, license)?)
+}
+
+/// The packages of a document, or of the bill that GitHub wraps.
+pub(crate) fn spdx_items<'v>(
+    alloc: Global,
+    document: &'v Value,
+) -> Result<Vec<Item<'v>>, SourceError>
+    ensures ok { IfOk result (λ v. spec.items (view document.now) ≡ Ok (map item_row v.items)) }
+    ensures err { IfErr result (Says (λ f. spec.items (view document.now) ≡ Err f)) }
+{
+    match document.get("sbom") {
+        Some(bill) => list_items(alloc, "/sbom/packages", bill.get("packages")),
+        None => list_items(alloc, "/packages", document.get("packages")),
+    }
+}

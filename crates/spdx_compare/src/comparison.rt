@@ -1,0 +1,71 @@
+//! How what two texts ask compares.
+
+ghost use Rattle.std.specs.Prelude.{◌≡◌, ◌⊎◌, IfOk, IfErr, Err, map};
+ghost use Rattle.spdx_requirement.specs.Failures.{IfRefused};
+ghost use Rattle.spdx_parser.specs.Tree.{node_of};
+ghost use Rattle.spdx_evaluation.specs.Postfix.{IsPostfix, tree_in};
+ghost use Rattle.spdx_meaning.specs.Made.{made_in};
+ghost use Rattle.spdx_compare.specs.Comparing.{IsComparison, IsComparisonOf, IsUnmeantPair};
+
+use crate::apart::first_apart;
+use crate::reading::{Unmeant, nodes_of};
+use spdx_catalogue::{Catalogue, Failure};
+use spdx_lexer::ParseMode;
+use spdx_meaning::{Relation, TooManySets, compare, minimal_sets};
+use spdx_parser::node::ExprNode;
+use std::alloc::Global;
+
+/// How what two expressions ask compares, and what tells them apart.
+#[derive(Drop)]
+pub struct Comparison {
+    pub relation: Relation,
+    /// Requirements with which alone the first holds and the second doesn't, as few as there are.
+    pub first_alone: Option<Vec<String>>,
+    /// Requirements with which alone the second holds and the first doesn't, as few as there are.
+    pub second_alone: Option<Vec<String>>,
+}
+
+/// How what the one text asks compares with what the other one asks.
+///
+/// # Errors
+///
+/// One of them is no expression, too many sets are made of one, or memory was refused. What the first lacks is told first.
+pub fn compare_texts<'t>(
+    alloc: Global,
+    catalogue: &Catalogue,
+    mode: ParseMode,
+    one: &'t str,
+    other: &'t str,
+) -> Result<Comparison, Failure<Unmeant<'t>>>
+    ensures ok { IfOk result (IsComparison catalogue.now mode one.now other.now) }
+    ensures err { IfErr result (IfRefused (IsUnmeantPair catalogue.now mode one.now other.now)) }
+{
+    let first = nodes_of(alloc, catalogue, mode, one)?;
+    let second = nodes_of(alloc, catalogue, mode, other)?;
+    match compare_nodes(alloc, first.as_slice(), second.as_slice()) {
+        Ok(comparison) => Ok(comparison),
+        Err(Failure::Refused(many)) => Err(Failure::Refused(Unmeant::TooMany(many))),
+        Err(Failure::Memory(error)) => Err(Failure::Memory(error)),
+    }
+}
+
+fn compare_nodes<'c>(
+    alloc: Global,
+    one: &[ExprNode<'c>],
+    other: &[ExprNode<'c>],
+) -> Result<Comparison, Failure<TooManySets>>
+    requires tree { IsPostfix (map node_of one.now) }
+    requires other { IsPostfix (map node_of other.now) }
+    ensures ok { IfOk result (IsComparisonOf (tree_in one.now) (tree_in other.now)) }
+    ensures err { IfErr result (IfRefused (λ e.
+        (made_in (tree_in one.now) ≡ Err e.0) ⊎ (made_in (tree_in other.now) ≡ Err e.0))) }
+{
+    let relation = compare(alloc, one, other)?;
+    let of_first = minimal_sets(alloc, one)?;
+    let of_second = minimal_sets(alloc, other)?;
+    Ok(Comparison {
+        relation,
+        first_alone: first_apart(alloc, one, other, of_first.as_slice())?,
+        second_alone: first_apart(alloc, other, one, of_second.as_slice())?,
+    })
+}

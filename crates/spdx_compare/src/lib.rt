@@ -1,0 +1,19 @@
+//! What licence expressions mean, for texts: how what two of them ask compares, with licences that tell them apart, and the
+//! shortest text of what one means.
+//!
+//! ```rust
+//! // crates/spdx_program/src/compare.rt
+//! match compare_texts(alloc, &catalogue, mode, one.as_str(), other.as_str()) {
+//! ```
+//!
+//! It stands on the parser, `spdx_meaning` and `spdx_meaning_text`.
+#![tactic(auto)]
+
+mod apart;
+pub mod comparison;
+mod meaning;
+mod reading;
+
+pub use crate::comparison::{Comparison, compare_texts};
+pub use crate::meaning::meaning_of;
+pub use crate::reading::Unmeant;

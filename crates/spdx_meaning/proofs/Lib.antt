@@ -1,0 +1,5 @@
+pub mod Machine
+pub mod Refusals
+pub mod Meaning
+pub mod Least
+pub mod Relating

@@ -1,0 +1,7 @@
+pub mod Places
+pub mod Meaning
+pub mod Made
+pub mod Minimal
+pub mod Stack
+pub mod Faults
+pub mod Relations

@@ -1,0 +1,120 @@
+//! Whether one expression asks at least what another one asks, and whether two are equivalent.
+
+ghost use Rattle.std.specs.Prelude.{◌≡◌, ◌≤◌, ◌↔◌, ◌⊎◌, IsTrue, length, map, IfOk, IfErr, Err};
+ghost use Rattle.std.specs.List.{list_all};
+ghost use Rattle.spdx_requirement.specs.Failures.{IfRefused};
+ghost use Rattle.spdx_parser.specs.Tree.{leaves, node_of};
+ghost use Rattle.spdx_evaluation.specs.Postfix.{IsPostfix, tree_in};
+ghost use Rattle.spdx_evaluation.specs.Truth.{truth_of};
+ghost use Rattle.least_sets.specs.Sets.{is_in, sets_in};
+ghost use Rattle.spdx_meaning.specs.Made.{made_in};
+ghost use Rattle.spdx_meaning.specs.Meaning.{AsksAtLeast, IsEquivalent};
+
+use crate::error::TooManySets;
+use crate::made::sets_of;
+use crate::places::places_among;
+use bit_stack::Truths;
+use spdx_catalogue::Failure;
+use spdx_parser::node::{ExprNode, Operator};
+use std::alloc::Global;
+
+/// Whether the one expression asks at least what the other one asks: whatever requirements are accepted, where the one holds
+/// the other one does.
+///
+/// The least sets of the one are made, and the other one is read once for each of them until one doesn't make it hold.
+///
+/// # Errors
+///
+/// Memory was refused, or the one makes too many sets.
+pub fn asks_at_least<'c>(
+    alloc: Global,
+    one: &[ExprNode<'c>],
+    other: &[ExprNode<'c>],
+) -> Result<bool, Failure<TooManySets>>
+    requires tree { IsPostfix (map node_of one.now) }
+    requires other { IsPostfix (map node_of other.now) }
+    ensures ok { IfOk result (λ asks.
+        IsTrue asks ↔ AsksAtLeast (tree_in one.now) (tree_in other.now)) }
+    ensures err { IfErr result (IfRefused (λ e. made_in (tree_in one.now) ≡ Err e.0)) }
+{
+    let numbers = places_among(alloc, one, one)?;
+    let sets = sets_of(alloc, one, numbers.as_slice())?;
+    let places = places_among(alloc, one, other)?;
+    let mut truths = Truths::with_room(alloc, other.len())?;
+    let asks = each_makes_hold(&mut truths, other, places.as_slice(), sets.as_slice());
+    Ok(asks)
+}
+
+/// Whether two expressions are equivalent: whatever requirements are accepted, both hold or none does. They are exactly if
+/// each asks at least what the other one asks.
+///
+/// # Errors
+///
+/// Memory was refused, or one of them makes too many sets; the other one's are made only where the one asks at least as
+/// much.
+pub fn is_equivalent<'c>(
+    alloc: Global,
+    one: &[ExprNode<'c>],
+    other: &[ExprNode<'c>],
+) -> Result<bool, Failure<TooManySets>>
+    requires tree { IsPostfix (map node_of one.now) }
+    requires other { IsPostfix (map node_of other.now) }
+    ensures ok { IfOk result (λ same.
+        IsTrue same ↔ IsEquivalent (tree_in one.now) (tree_in other.now)) }
+    ensures err { IfErr result (IfRefused (λ e.
+        (made_in (tree_in one.now) ≡ Err e.0) ⊎ (made_in (tree_in other.now) ≡ Err e.0))) }
+{
+    if !asks_at_least(alloc, one, other)? {
+        return Ok(false);
+    }
+    asks_at_least(alloc, other, one)
+}
+
+// Whether the expression holds where the requirements of one of the sets are accepted, for each of them.
+fn each_makes_hold(
+    truths: &mut Truths,
+    nodes: &[ExprNode<'_>],
+    numbers: &[usize],
+    sets: &[Vec<usize>],
+) -> bool
+    requires tree { IsPostfix (map node_of nodes.now) }
+    requires each { length numbers.now ≡ length (leaves (tree_in nodes.now)) }
+    requires room { length nodes.now ≤ truths.old.room }
+    ensures { result ≡ list_all
+        (λ s. truth_of (tree_in nodes.now) (map (is_in s) numbers.now)) (sets_in sets.now) }
+{
+    for set in sets {
+        if !holds_with(truths, nodes, numbers, set.as_slice()) {
+            return false;
+        }
+    }
+    true
+}
+
+// Whether the expression holds where the requirements of some numbers are accepted.
+fn holds_with(
+    truths: &mut Truths,
+    nodes: &[ExprNode<'_>],
+    numbers: &[usize],
+    accepted: &[usize],
+) -> bool
+    requires tree { IsPostfix (map node_of nodes.now) }
+    requires each { length numbers.now ≡ length (leaves (tree_in nodes.now)) }
+    requires room { length nodes.now ≤ truths.old.room }
+    ensures answer { result ≡ truth_of (tree_in nodes.now) (map (is_in accepted.now) numbers.now) }
+    ensures room { truths.new.room ≡ truths.old.room }
+{
+    let mut number = 0;
+    truths.clear();
+    for node in nodes {
+        match node {
+            ExprNode::Req(_) => {
+                truths.push(accepted.contains(&numbers[number]));
+                number += 1;
+            }
+            ExprNode::Op(Operator::And) => truths.both(),
+            ExprNode::Op(Operator::Or) => truths.either(),
+        }
+    }
+    truths.take()
+}

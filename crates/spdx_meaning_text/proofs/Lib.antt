@@ -1,0 +1,11 @@
+pub mod Order
+pub mod Later
+pub mod Numbers
+pub mod Ranks
+pub mod Least
+pub mod Tree
+pub mod One
+pub mod Read
+pub mod Telling
+pub mod Written
+pub mod Needed

@@ -1,0 +1,6 @@
+pub mod Sets
+pub mod Ranks
+pub mod LeastSets
+pub mod Joined
+pub mod MeaningText
+pub mod Plan

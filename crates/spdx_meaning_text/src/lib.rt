@@ -1,0 +1,16 @@
+//! The text of what a licence expression means: its least sets of requirements, joined by `OR`. Two expressions have the same
+//! text exactly if they are equivalent.
+//!
+//! ```rust
+//! // crates/spdx_meaning_rows/src/answers.rt
+//! match meaning_text(alloc, nodes) {
+//! ```
+//!
+//! It stands on `spdx_meaning`, and its laws on those of `spdx_normal`.
+#![tactic(auto)]
+
+pub mod laws;
+mod names;
+pub mod text;
+
+pub use crate::text::meaning_text;

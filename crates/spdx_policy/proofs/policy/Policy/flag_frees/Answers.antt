@@ -1,0 +1,10 @@
+use Rattle.std.proofs.Common.{◌∙◌, sym, not, ◌&&◌}
+use Rattle.spdx_requirement.specs.Items.{requirement_of}
+use Rattle.spdx_policy.specs.Decisions as spec
+use Rattle.spdx_policy.proofs.Placed.{any_map}
+use Rattle.spdx_policy.proofs.policy.Policy.flag_frees.Goals as goal
+
+pub returns : goal.returns
+returns c =
+    c.is_freed_by.ensures
+    ∙ sym (any_map (λ w. spec.flag_allows w c.args.flag && not (spec.is_denied_way c.args.self.now c.args.exceptions.now w)) requirement_of c.args.ways.now)
