@@ -55,9 +55,10 @@ verdicts: $(SPDX)
 hostile: $(SPDX)
 	@tools/hostile $(SPDX)
 
-# All wrong bodies of planted/, over what make build or rt check kept of the proofs.
+# All wrong bodies of planted/, over what make build or rt check kept of the proofs; and the samples, with the sanitizers.
 planted:
 	@tools/planted
+	@tools/samples
 
 # The samples in C, C++ and Python, over the library, which is proved and built first where it isn't: minutes, so it is no
 # part of the gate.

@@ -217,14 +217,16 @@ static void *in_thread(void *given) {
     return NULL;
 }
 
+enum { THREADS = 8 };
+
 static void threads(const spdx_list *list, spdx_text corpus, spdx_text wanted) {
-    pthread_t ids[4];
-    job jobs[4];
-    for (int i = 0; i < 4; i++) {
+    pthread_t ids[THREADS];
+    job jobs[THREADS];
+    for (int i = 0; i < THREADS; i++) {
         jobs[i] = (job){list, corpus, wanted, 0};
         if (pthread_create(&ids[i], NULL, in_thread, &jobs[i])) exit(2);
     }
-    for (int i = 0; i < 4; i++) {
+    for (int i = 0; i < THREADS; i++) {
         pthread_join(ids[i], NULL);
         expect(jobs[i].holds, "a thread");
     }
