@@ -1,7 +1,8 @@
 // What packages are used under.
 
 use spdx_catalogue::Catalogue;
-use spdx_joint::{Allowed, Joint, Offer, Reading, allowed_text, joint_choices};
+use spdx_gate::{Judged, Outcome, judge_text};
+use spdx_joint::{Joint, Offer, joint_choices};
 use spdx_parser::node::ExprNode;
 use spdx_policy::Policy;
 use spdx_why::Remedy;
@@ -14,8 +15,7 @@ pub(crate) struct Rows<'c> {
     pub asked: Vec<String>,
     /// What it wants.
     pub wanted: Vec<String>,
-    offers: Vec<Offer<'c>>,
-    own: Vec<Remedy>,
+    judged: Vec<Judged<'c>>,
 }
 
 /// The rows of some lines; those that hold no expression are left out.
@@ -28,18 +28,15 @@ pub(crate) fn read_rows<'c>(
     let mut rows = Rows {
         asked: Vec::new(alloc),
         wanted: Vec::new(alloc),
-        offers: Vec::new(alloc),
-        own: Vec::new(alloc),
+        judged: Vec::new(alloc),
     };
     for line in lines.lines() {
         if line.is_empty() || line.starts_with('#') {
             continue;
         }
         let (asked, wanted) = line.split_once(" => ").unwrap_or((line, ""));
-        if let Reading::Read(allowed) = read(alloc, catalogue, policy, asked)? {
-            let Allowed { offer, own } = allowed;
-            rows.offers.push(offer)?;
-            rows.own.push(own)?;
+        if let Outcome::Judged(judged) = read(alloc, catalogue, policy, asked)? {
+            rows.judged.push(judged)?;
             rows.asked.push(String::from_str(alloc, asked)?)?;
             rows.wanted.push(String::from_str(alloc, wanted)?)?;
         }
@@ -52,36 +49,47 @@ fn read<'c>(
     catalogue: &'c Catalogue,
     policy: &Policy<'c>,
     asked: &str,
-) -> Result<Reading<'c>, AllocError> {
+) -> Result<Outcome<'c>, AllocError> {
     let (name, rest) = asked.split_once(" ").unwrap_or((asked, ""));
     let (version, text) = rest.split_once(" ").unwrap_or((rest, ""));
     let exceptions = policy.exceptions_for(alloc, name, Some(version))?;
-    allowed_text(alloc, catalogue, policy, &exceptions, text)
+    judge_text(alloc, catalogue, policy, &exceptions, text)
 }
 
 /// What each row is answered: what its package is used under alone, and by the one choice for all.
 pub(crate) fn answers(alloc: Global, rows: &Rows<'_>) -> Result<Vec<String>, AllocError> {
-    let together = together(alloc, rows)?;
+    let offers = offers(alloc, rows)?;
+    let together = together(alloc, &offers)?;
     let mut answers = Vec::new(alloc);
-    for place in 0..rows.offers.len() {
-        if let Some(offer) = rows.offers.get(place) {
-            let alone = told(alloc, offer, rows.own.get(place))?;
-            let joined = told(alloc, offer, together.get(place))?;
-            answers.push(format!(in alloc; "{alone} ; {joined}")?)?;
-        }
+    for (place, (offer, judged)) in offers.iter().zip(rows.judged.iter()).enumerate() {
+        let alone = told(alloc, offer, Some(&judged.choice))?;
+        let joined = told(alloc, offer, together.get(place))?;
+        answers.push(format!(in alloc; "{alone} ; {joined}")?)?;
     }
     Ok(answers)
 }
 
-fn together(alloc: Global, rows: &Rows<'_>) -> Result<Vec<Remedy>, AllocError> {
-    match joint_choices(alloc, &rows.offers)? {
+fn offers<'j, 'c>(alloc: Global, rows: &'j Rows<'c>) -> Result<Vec<Offer<'j, 'c>>, AllocError> {
+    let mut offers = Vec::new(alloc);
+    for judged in &rows.judged {
+        offers.push(Offer::of(alloc, judged)?)?;
+    }
+    Ok(offers)
+}
+
+fn together(alloc: Global, offers: &[Offer<'_, '_>]) -> Result<Vec<Remedy>, AllocError> {
+    match joint_choices(alloc, offers)? {
         Joint::Together(choices) => Ok(choices),
         Joint::Unmet | Joint::TooMany(_) => Ok(Vec::new(alloc)),
     }
 }
 
 // The requirements of a choice; `-`, where there is none.
-fn told(alloc: Global, offer: &Offer<'_>, choice: Option<&Remedy>) -> Result<String, AllocError> {
+fn told(
+    alloc: Global,
+    offer: &Offer<'_, '_>,
+    choice: Option<&Remedy>,
+) -> Result<String, AllocError> {
     let Some(Remedy::Accept(numbers)) = choice else {
         return String::from_str(alloc, "-");
     };

@@ -1,4 +1,4 @@
--- Judgements that are there once, each with its place under its text.
+-- Judgements that are there once, each with its place under its key.
 use Rattle.std.proofs.Common.{◌≡◌, ℕ, zero, suc, ◌<◌, ◌≤◌, ◌⊎◌, inl, inr, Bool, true, false, cond, List, [], ◌∷◌, ◌++◌, Some, None, String, Vec, Global, length, get_or, refl, sym, ◌∙◌, ap, subst, arith}
 use Rattle.std.specs.Prelude.{slice_get, Contains, bytes_eq}
 use Rattle.std.specs.BTreeMap.{BTreeMap}
@@ -7,7 +7,7 @@ use Rattle.std.proofs.lemmas.List.Elements.{Contains-append_left, Contains-push}
 use Rattle.std.proofs.lemmas.Slice.Eq.{bytes_eq-Decides}
 use Rattle.spdx_gate.specs.declared.judgement.Judgement.{Judgement}
 use Rattle.spdx_gate.specs.Reports.{IsOf, IsAt, AreDistinct}
-use Rattle.spdx_gate.specs.Benches.{IsUnknown, places_at, Notes, IsIndex}
+use Rattle.spdx_gate.specs.Benches.{IsUnknown, key_of, places_at, Notes, IsIndex}
 
 -- ---- one judgement more
 
@@ -50,7 +50,7 @@ distinct_more js new j tables text last apart is_of none = subst AreDistinct (sy
 pub distinct_none : AreDistinct []
 distinct_none = λ tables text i k at other. let bad : None ≡ Some at.judgement = at.there in absurd (cc)
 
--- ---- the places under texts
+-- ---- the places under keys
 
 kept_there : (b : Bool) (xs ys : List ℕ) (p k : ℕ) → ys ≡ cond b (xs ++ p ∷ []) xs → Contains xs k → Contains ys k
 kept_there true xs ys p k e h = subst (λ (z : List ℕ). Contains z k) (sym e) (Contains-append_left xs (p ∷ []) k h)
@@ -61,21 +61,22 @@ put_there true xs ys p is e = subst (λ (z : List ℕ). Contains z p) (sym e) (C
 put_there false xs ys p is e = absurd (cc)
 
 pub index_more : (old new : BTreeMap (String Global) (Vec ℕ Global)) (js more : List Judgement) (j : Judgement) (tables text : List ℕ) (place : ℕ) → more ≡ js ++ j ∷ [] → place ≡ length js
-    → IsIndex old js → IsOf tables text j → Notes old text place new → IsIndex new more
+    → IsIndex old js → IsOf tables text j → Notes old (key_of tables text) place new → IsIndex new more
 index_more old new js more j tables text place last at_end index is_of notes = subst (IsIndex new) (sym last) (λ ts t k at. by ts t k (at_cases js j ts t k at))
   where
-    by : (ts t : List ℕ) (k : ℕ) → IsAt js ts t k ⊎ ((k ≡ length js) × IsOf ts t j) → Contains (places_at new t) k
-    by ts t k (inl a) = kept_there (bytes_eq t text) (places_at old t) (places_at new t) place k (notes t) (index ts t k a)
+    by : (ts t : List ℕ) (k : ℕ) → IsAt js ts t k ⊎ ((k ≡ length js) × IsOf ts t j) → Contains (places_at new (key_of ts t)) k
+    by ts t k (inl a) = kept_there (bytes_eq (key_of ts t) (key_of tables text)) (places_at old (key_of ts t)) (places_at new (key_of ts t)) place k (notes (key_of ts t)) (index ts t k a)
     by ts t k (inr b) =
-        let same : text ≡ t = sym is_of.text_is ∙ b.1.text_is in
-        let here : Contains (places_at new text) place = put_there (bytes_eq text text) (places_at old text) (places_at new text) place ((bytes_eq-Decides text text).1 refl) (notes text) in
-        let there : Contains (places_at new text) k = subst (Contains (places_at new text)) (at_end ∙ sym b.0) here in
+        let key = key_of tables text in
+        let same : key ≡ key_of ts t = ap (λ (z : List ℕ). key_of z text) (sym is_of.exceptions_are ∙ b.1.exceptions_are) ∙ ap (key_of ts) (sym is_of.text_is ∙ b.1.text_is) in
+        let here : Contains (places_at new key) place = put_there (bytes_eq key key) (places_at old key) (places_at new key) place ((bytes_eq-Decides key key).1 refl) (notes key) in
+        let there : Contains (places_at new key) k = subst (Contains (places_at new key)) (at_end ∙ sym b.0) here in
         subst (λ (z : List ℕ). Contains (places_at new z) k) same there
 
-pub index_none : (by_text : BTreeMap (String Global) (Vec ℕ Global)) → IsIndex by_text []
-index_none by_text = λ tables text k at. let bad : None ≡ Some at.judgement = at.there in absurd (cc)
+pub index_none : (by_key : BTreeMap (String Global) (Vec ℕ Global)) → IsIndex by_key []
+index_none by_key = λ tables text k at. let bad : None ≡ Some at.judgement = at.there in absurd (cc)
 
--- what stands at none of the places under its text is nowhere
+-- what stands at none of the places under its key is nowhere
 pub nowhere : (js : List Judgement) (tables text places : List ℕ) (n : ℕ) → length places ≤ n → ((k : ℕ) → IsAt js tables text k → Contains places k)
     → ((i : ℕ) → i < n → IsAt js tables text (get_or places i 0) → ⊥) → IsUnknown js tables text
 nowhere js tables text places n all index none = λ k at.

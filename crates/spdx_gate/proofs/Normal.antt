@@ -15,7 +15,7 @@ use Rattle.spdx_policy.specs.Decisions.{decision_of}
 use Rattle.spdx_policy.specs.Rules.{Rules}
 use Rattle.spdx_why.specs.Least.{choice_of}
 use Rattle.spdx_why.specs.Missing.{missing_of}
-use Rattle.spdx_gate.specs.declared.judgement.Judged.{Judged}
+use Rattle.spdx_gate.specs.declared.judged.Judged.{Judged}
 use Rattle.spdx_gate.specs.declared.judgement.Outcome.{Outcome}
 use Rattle.spdx_gate.specs.declared.judgement.Outcome.TheVariants as outcome
 use Rattle.spdx_gate.specs.Judging.{mode_of, verdict_of, accepted_in, none_in, IsDecided, IsOutcome}

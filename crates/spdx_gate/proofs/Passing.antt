@@ -14,7 +14,7 @@ use Rattle.spdx_policy.specs.Decisions.{decision_of}
 use Rattle.spdx_policy.specs.Rules.{Rules}
 use Rattle.spdx_why.specs.declared.marks.Mark.{Mark}
 use Rattle.spdx_why.specs.Marks.{allows}
-use Rattle.spdx_gate.specs.declared.judgement.Judged.{Judged}
+use Rattle.spdx_gate.specs.declared.judged.Judged.{Judged}
 use Rattle.spdx_gate.specs.Allowing.{mark_of, allowed_in}
 use Rattle.spdx_gate.specs.Judging.{mode_of, IsDecided, IsJudged}
 

@@ -2,7 +2,7 @@
 use Rattle.std.specs.Prelude.{◌≡◌, map}
 use Rattle.spdx_parser.specs.Tree.{node_of}
 use Rattle.spdx_why.specs.Least.{advised}
-use Rattle.spdx_gate.specs.declared.judgement.Judged.{Judged}
+use Rattle.spdx_gate.specs.declared.judged.Judged.{Judged}
 use Rattle.spdx_gate.specs.declared.judgement.Outcome.{Outcome}
 use Rattle.spdx_gate.specs.declared.judgement.Outcome.TheVariants as outcome
 

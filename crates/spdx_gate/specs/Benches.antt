@@ -1,5 +1,5 @@
 -- What one text more does to the judgements, and where those of a text may stand.
-use Rattle.std.specs.Prelude.{◌≡◌, ℕ, List, [], ◌∷◌, ◌++◌, Option, Some, None, String, Vec, Contains, bytes_eq, if◌then◌else◌}
+use Rattle.std.specs.Prelude.{◌≡◌, ℕ, List, [], ◌∷◌, ◌++◌, flat_map, decimal, Option, Some, None, String, Vec, Contains, bytes_eq, if◌then◌else◌}
 use Rattle.std.specs.Option.{option_map_or}
 use Rattle.std.specs.BTreeMap.{BTreeMap, get_by_text}
 use Rattle.std.specs.declared.alloc.Global.{Global}
@@ -34,18 +34,26 @@ AddsOf c p tables (Some text) old new = Adds c p tables text old new
 abbrev pub AddsFor : Rows → Rules → Package → List Judgement → List Judgement → Type 0
 AddsFor c p x old new = AddsOf c p (tables_of p x) (text_of p x) old new
 
--- places under texts
+-- a number, as a key has it
+abbrev pub number_key : ℕ → List ℕ
+number_key n = decimal n ++ 32 ∷ []
+
+-- the key of a text under some exceptions; without any it is the text
+abbrev pub key_of : List ℕ → List ℕ → List ℕ
+key_of tables text = flat_map number_key tables ++ text
+
+-- places under keys
 abbrev pub Index : Type 0
 Index = BTreeMap (String Global) (Vec ℕ Global)
 
 abbrev pub places_at : Index → List ℕ → List ℕ
-places_at by_text text = option_map_or (λ (v : Vec ℕ Global). v.items) (get_by_text by_text text) []
+places_at by_key key = option_map_or (λ (v : Vec ℕ Global). v.items) (get_by_text by_key key) []
 
--- under that text the place stands last, and under each other one what stood there
+-- under that key the place stands last, and under each other one what stood there
 abbrev pub Notes : Index → List ℕ → ℕ → Index → Type 0
-Notes old text place new =
-    (q : List ℕ) → places_at new q ≡ (if bytes_eq q text then places_at old q ++ place ∷ [] else places_at old q)
+Notes old key place new =
+    (q : List ℕ) → places_at new q ≡ (if bytes_eq q key then places_at old q ++ place ∷ [] else places_at old q)
 
--- the place of each judgement stands under its text
+-- the place of each judgement stands under its key
 abbrev pub IsIndex : Index → List Judgement → Type 0
-IsIndex by_text js = (tables text : List ℕ) (k : ℕ) → IsAt js tables text k → Contains (places_at by_text text) k
+IsIndex by_key js = (tables text : List ℕ) (k : ℕ) → IsAt js tables text k → Contains (places_at by_key (key_of tables text)) k

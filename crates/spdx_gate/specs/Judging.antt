@@ -20,7 +20,7 @@ use Rattle.spdx_why.specs.Missing.{missing_of, Cures, Binds}
 use Rattle.spdx_why.specs.Least.{choice_of, advised}
 use Rattle.spdx_gate.specs.declared.package.Verdict.{Verdict}
 use Rattle.spdx_gate.specs.declared.judgement.Fault.{Fault}
-use Rattle.spdx_gate.specs.declared.judgement.Judged.{Judged}
+use Rattle.spdx_gate.specs.declared.judged.Judged.{Judged}
 use Rattle.spdx_gate.specs.declared.judgement.Outcome.{Outcome}
 use Rattle.spdx_gate.specs.declared.judgement.Outcome.TheVariants as outcome
 use Rattle.spdx_gate.specs.Verdicts.{verdict_by}

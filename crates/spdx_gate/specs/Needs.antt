@@ -7,7 +7,7 @@ use Rattle.spdx_policy.specs.Growing.{with_allowed}
 use Rattle.spdx_policy.specs.Rules.{NamedRow, Rules}
 use Rattle.spdx_gate.specs.declared.advice.Advice.{Advice}
 use Rattle.spdx_gate.specs.declared.advice.Advice.TheVariants as advice
-use Rattle.spdx_gate.specs.declared.judgement.Judged.{Judged}
+use Rattle.spdx_gate.specs.declared.judged.Judged.{Judged}
 use Rattle.spdx_gate.specs.declared.judgement.Judgement.{Judgement}
 use Rattle.spdx_gate.specs.declared.judgement.Outcome.{Outcome}
 use Rattle.spdx_gate.specs.declared.judgement.Outcome.TheVariants as outcome

@@ -17,6 +17,7 @@ ghost use Rattle.spdx_gate.specs.Rearranged.{NoOrderMatters};
 ghost use Rattle.spdx_why.specs.Marks.{allows};
 
 use crate::advice::{Advice, advise};
+use crate::judged::Judged;
 use crate::package::Verdict;
 use spdx_catalogue::{Catalogue, Failure};
 use spdx_lexer::error::Reason;
@@ -33,23 +34,6 @@ use std::ops::Range;
 pub struct Fault {
     pub reason: Reason,
     pub span: Range<usize>,
-}
-
-/// What a policy says of an expression.
-#[derive(Drop)]
-pub struct Judged<'c> {
-    /// The nodes of its tree, in postfix order.
-    pub nodes: NodeList<'c>,
-    /// Of each requirement, in the order of the text, what the policy says of it.
-    pub decisions: Vec<Decision>,
-    /// The numbers of the requirements that a refusal hangs on.
-    pub missing: Vec<usize>,
-    /// What would make it pass.
-    pub advice: Advice,
-    /// The least choice among what is allowed.
-    pub choice: Remedy,
-    /// Whether it passes.
-    pub verdict: Verdict,
 }
 
 /// What comes out of a text.

@@ -3,6 +3,7 @@
 
 mod advice;
 mod bench;
+mod judged;
 mod judgement;
 pub mod laws;
 mod needs;
@@ -11,7 +12,8 @@ mod report;
 mod totals;
 
 pub use crate::advice::Advice;
-pub use crate::judgement::{Fault, Judged, Judgement, Outcome, judge_text};
+pub use crate::judged::Judged;
+pub use crate::judgement::{Fault, Judgement, Outcome, judge_text};
 pub use crate::needs::Need;
 pub use crate::package::{Package, Verdict};
 pub use crate::report::{Report, Row, judge};

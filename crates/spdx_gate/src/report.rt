@@ -49,7 +49,7 @@ pub fn judge<'c>(
         IsReport catalogue.now policy.now packages.now report) }
 {
     let mut judgements = Vec::new(alloc);
-    let mut by_text = BTreeMap::new(alloc);
+    let mut by_key = BTreeMap::new(alloc);
     let mut rows = Vec::new(alloc);
     for asked in packages {
         let row = row_of(
@@ -58,7 +58,7 @@ pub fn judge<'c>(
             policy,
             asked,
             &mut judgements,
-            &mut by_text,
+            &mut by_key,
         )?;
         rows.push(row)?;
     }
@@ -72,15 +72,15 @@ fn row_of<'c>(
     policy: &Policy<'c>,
     asked: &Package<'_>,
     judgements: &mut Vec<Judgement<'c>>,
-    by_text: &mut BTreeMap<String, Vec<usize>>,
+    by_key: &mut BTreeMap<String, Vec<usize>>,
 ) -> Result<Row, AllocError>
     requires right { All (IsRight catalogue.now policy.now) judgements.old.items }
-    requires index { IsIndex by_text.old judgements.old.items }
+    requires index { IsIndex by_key.old judgements.old.items }
     ensures row { IfOk result (λ row.
         IsRow catalogue.now policy.now judgements.new.items asked.now row) }
     ensures adds { IfOk result (λ _. AddsFor catalogue.now policy.now asked.now
         judgements.old.items judgements.new.items) }
-    ensures index { IfOk result (λ _. IsIndex by_text.new judgements.new.items) }
+    ensures index { IfOk result (λ _. IsIndex by_key.new judgements.new.items) }
 {
     let exceptions = policy.exceptions_for(alloc, asked.name, asked.version)?;
     let clarification = policy.clarification_for(alloc, asked.name, asked.version)?;
@@ -99,7 +99,7 @@ fn row_of<'c>(
         exceptions.as_slice(),
         text,
         judgements,
-        by_text,
+        by_key,
     )?;
     let verdict = judgements[place].verdict();
     Ok(Row {

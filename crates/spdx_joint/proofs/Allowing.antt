@@ -12,10 +12,14 @@ use Rattle.spdx_evaluation.specs.PostfixLaws.{tree_of_postfix}
 use Rattle.spdx_policy.specs.Decisions.{decision_of}
 use Rattle.spdx_policy.specs.Rules.{Rules}
 use Rattle.spdx_why.specs.Least.{choice_of, advised}
-use Rattle.spdx_gate.specs.declared.judgement.Judged.{Judged}
+use Rattle.spdx_gate.specs.declared.judged.Judged.{Judged}
+use Rattle.spdx_policy.specs.declared.decision.Decision.{Decision}
+use Rattle.spdx_why.specs.declared.marks.Mark.{Mark}
+use Rattle.spdx_why.specs.Marks.{allows}
+use Rattle.spdx_gate.specs.Allowing.{mark_of}
 use Rattle.spdx_gate.specs.Judging.{allowed_in, accepted_in, none_in, IsJudged}
 use Rattle.spdx_joint.specs.Choice.{Offered, own_choice}
-use Rattle.spdx_joint.specs.Texts.{offered}
+use Rattle.spdx_joint.specs.Texts.{offered, judged_offer, IsAllowedOf}
 
 each_allowed : (p : Rules) (tables : List ℕ) (rs : List Requirement) → accepted_in (map (decision_of p tables) rs) ≡ map (allowed_in p tables) rs
 each_allowed p tables [] = refl
@@ -25,26 +29,10 @@ nothing : (p : Rules) (tables : List ℕ) (rs : List Requirement) → none_in (m
 nothing p tables [] = refl
 nothing p tables (r ∷ rs) = ap (λ (z : List Bool). false ∷ z) (nothing p tables rs)
 
-pub tree_parsed : (c : Rows) (m : ParseMode) (text : List ℕ) (nodes : List ExprNode) (v : IsParsed c m text nodes) → tree_in nodes ≡ v.tree
-tree_parsed c m text nodes v = ap tree_of v.nodes_are ∙ tree_of_postfix v.tree
-
-pub postfix_parsed : (c : Rows) (m : ParseMode) (text : List ℕ) (nodes : List ExprNode) → IsParsed c m text nodes → IsPostfix (map node_of nodes)
-postfix_parsed c m text nodes v = v.nodes_are ∙ ap postfix (sym (tree_parsed c m text nodes v))
-
-abbrev the : Tree → List Bool → Offered
+abbrev pub the : Tree → List Bool → Offered
 the t allowed = record { tree = t; allowed = allowed }
 
 module _ (c : Rows) (p : Rules) (tables text : List ℕ) (j : Judged) (h : IsJudged c p tables text j) where
-  -- what is accepted is what is allowed of its tree
-  pub allowed_there : accepted_in j.decisions.items ≡ map (allowed_in p tables) (leaves (tree_in j.nodes.items))
-  allowed_there =
-      ap accepted_in h.decided.decisions_are
-      ∙ each_allowed p tables (leaves h.parsed.tree)
-      ∙ ap (λ (t : Tree). map (allowed_in p tables) (leaves t)) (sym h.tree_is)
-
-  pub each_there : length (accepted_in j.decisions.items) ≡ length (leaves (tree_in j.nodes.items))
-  each_there = ap (λ (z : List Bool). length z) allowed_there ∙ length-map (leaves (tree_in j.nodes.items)) (allowed_in p tables)
-
   -- its nodes and what is accepted are its offer
   pub offer_there : (nodes : List ExprNode) (allowed : List Bool) → nodes ≡ j.nodes.items → allowed ≡ accepted_in j.decisions.items
       → record { tree = tree_in nodes; allowed = allowed } ≡ offered p tables h.parsed.tree
@@ -61,3 +49,15 @@ module _ (c : Rows) (p : Rules) (tables text : List ℕ) (j : Judged) (h : IsJud
       h.decided.choice_is
       ∙ ap (choice_of t (none_in j.decisions.items)) (ap accepted_in ds ∙ each_allowed p tables (leaves t))
       ∙ ap (λ (z : List Bool). choice_of t z (map (allowed_in p tables) (leaves t))) (ap none_in ds ∙ nothing p tables (leaves t))
+
+-- of each decision it is known whether it allows
+pub each_judged : (ds : List Decision) → length (accepted_in ds) ≡ length ds
+each_judged ds = length-map (map mark_of ds) allows ∙ length-map ds mark_of
+
+pub allowed_of_judged : (j : Judged) (o : Offered) → o ≡ judged_offer j → IsAllowedOf j o
+allowed_of_judged j o e c p tables text h = record {
+  tree = h.parsed.tree;
+  means = (h.parsed.read, h.parsed.reads, h.parsed.meant);
+  offer_is = e ∙ offer_there c p tables text j h j.nodes.items (accepted_in j.decisions.items) refl refl;
+  own_is = choice_there c p tables text j h;
+}

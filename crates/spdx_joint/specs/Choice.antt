@@ -20,7 +20,7 @@ pub record Offered : Type 0 where
   pub allowed : List Bool
 
 abbrev pub offer_of : declared.Offer → Offered
-offer_of o = record { tree = tree_in o.nodes.items; allowed = o.allowed.items }
+offer_of o = record { tree = tree_in o.nodes.now; allowed = o.allowed.items }
 
 -- its allowed requirements, from left to right
 abbrev pub allowed_of : Offered → List Requirement

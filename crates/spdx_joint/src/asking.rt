@@ -21,7 +21,7 @@ use std::alloc::{AllocError, Global};
 pub(crate) fn questions_of<'a, 'c>(
     alloc: Global,
     members: &[LicenseReq<'_>],
-    offers: &'a [Offer<'c>],
+    offers: &'a [Offer<'a, 'c>],
 ) -> Result<Vec<Question<'a, 'c>>, AllocError>
     ensures { IfOk result (λ questions. map asked_of questions.items ≡
         map (asked (shown members.now)) (map offer_of offers.now)) }
@@ -37,12 +37,12 @@ pub(crate) fn questions_of<'a, 'c>(
 fn question_of<'a, 'c>(
     alloc: Global,
     members: &[LicenseReq<'_>],
-    offer: &'a Offer<'c>,
+    offer: &'a Offer<'a, 'c>,
 ) -> Result<Question<'a, 'c>, AllocError>
     ensures { IfOk result (λ question.
         asked_of question ≡ asked (shown members.now) (offer_of offer.now)) }
 {
-    let nodes = offer.nodes.as_slice();
+    let nodes = offer.nodes;
     let numbers = numbers_of(alloc, members, nodes)?;
     Ok(Question {
         nodes,

@@ -17,8 +17,6 @@ mod judge;
 mod members;
 mod offer;
 mod question;
-mod text;
 
 pub use crate::joint::{Joint, joint_choices};
 pub use crate::offer::Offer;
-pub use crate::text::{Allowed, Reading, allowed_text};

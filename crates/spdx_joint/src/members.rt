@@ -17,7 +17,7 @@ use std::alloc::{AllocError, Global};
 // The distinct requirements that some of the offers allow, at first occurrence.
 pub(crate) fn members_of<'c>(
     alloc: Global,
-    offers: &[Offer<'c>],
+    offers: &[Offer<'_, 'c>],
 ) -> Result<Vec<LicenseReq<'c>>, AllocError>
     ensures { IfOk result (λ members.
         shown members.items ≡ spec.members_of (map offer_of offers.now)) }
@@ -33,14 +33,14 @@ pub(crate) fn members_of<'c>(
 fn put_allowed<'c>(
     alloc: Global,
     members: &mut Vec<LicenseReq<'c>>,
-    offer: &Offer<'c>,
+    offer: &Offer<'_, 'c>,
 ) -> Result<(), AllocError>
     ensures { IfOk result (λ _. shown members.new.items ≡
         grown (shown members.old.items) (allowed_of (offer_of offer.now))) }
 {
     let allowed = offer.allowed.as_slice();
     let mut number = 0;
-    for node in offer.nodes.as_slice() {
+    for node in offer.nodes {
         if let ExprNode::Req(requirement) = node {
             if allowed[number] {
                 put_new(alloc, members, &requirement.req)?;

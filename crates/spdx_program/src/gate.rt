@@ -6,7 +6,7 @@ use crate::details::{Detail, told_verdict};
 use crate::entries::put_all_unused;
 use crate::list;
 use crate::needs::put_needs;
-use crate::packages::{AllListed, Listed, Wanted, read_all};
+use crate::packages::{AllListed, Listed, Wanted, read_all, view};
 use crate::policy::policy;
 use crate::shown::Shown;
 use crate::system::System;
@@ -15,7 +15,7 @@ use crate::verdicts::{are_gathered, form_of, put_explanations, put_verdicts};
 use finding_forms::Style;
 use gate_forms::{Baseline, Node, Report as Told, Totals as ToldTotals, Why, put_known};
 use line_engine::lines::write_all;
-use package_sources::{License, Package as ListedPackage};
+use package_sources::Package as ListedPackage;
 use spdx::Catalogue;
 use spdx_gate::{Package, Report, Row, judge};
 use spdx_policy::Policy;
@@ -148,17 +148,7 @@ fn all_of<'l>(alloc: Global, listed: &'l [Listed]) -> Result<Vec<Package<'l>>, A
     let mut packages = Vec::new(alloc);
     for file in listed {
         for package in &file.packages {
-            packages.push(Package {
-                name: package.name.as_str(),
-                version: match &package.version {
-                    Some(version) => Some(version.as_str()),
-                    None => None,
-                },
-                license: match &package.license {
-                    License::Stated(text) => Some(text.as_str()),
-                    License::Unstated => None,
-                },
-            })?;
+            packages.push(view(package))?;
         }
     }
     Ok(packages)

@@ -11,6 +11,7 @@
 //! It stands on all crates of the program.
 #![tactic(auto)]
 
+mod allowed;
 mod baseline;
 mod check;
 mod chosen;

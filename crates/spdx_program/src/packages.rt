@@ -3,7 +3,10 @@
 use crate::console::Console;
 use crate::system::{System, bytes_of, input_bytes, paths_or_input};
 use crate::trouble::Trouble;
-use package_sources::{Form, Package, Pointers, SourceError, form_of, packages, packages_at};
+use package_sources::{
+    Form, License, Package, Pointers, SourceError, form_of, packages, packages_at,
+};
+use spdx_gate::Package as Judged;
 use spdx_words::{Source, SourceForm};
 use std::alloc::{AllocError, Global};
 use std::io::Write;
@@ -16,6 +19,21 @@ pub(crate) struct Listed {
     /// The form that it was read in, if its shape told that.
     pub(crate) guessed: Option<Form>,
     pub(crate) packages: Vec<Package>,
+}
+
+/// A package, as a policy judges it.
+pub(crate) fn view(package: &Package) -> Judged<'_> {
+    Judged {
+        name: package.name.as_str(),
+        version: match &package.version {
+            Some(version) => Some(version.as_str()),
+            None => None,
+        },
+        license: match &package.license {
+            License::Stated(text) => Some(text.as_str()),
+            License::Unstated => None,
+        },
+    }
 }
 
 /// Which packages are wanted of which files.

@@ -4,4 +4,4 @@ use Rattle.spdx_gate.proofs.bench.known_place.Given as goal
 
 -- at none of the places so far
 abbrev pub invariant-loop-place : goal.invariant-loop-place
-invariant-loop-place l = (i : ℕ) → i < l.place-index → IsAt l.judgements l.exceptions l.text (get_or l.places i 0) → ⊥
+invariant-loop-place l = (i : ℕ) → i < l.place-index → IsAt l.judgements l.sought.exceptions.now l.sought.text.now (get_or l.places i 0) → ⊥

@@ -5,5 +5,5 @@ use Rattle.spdx_gate.proofs.report.judge.Given as goal
 abbrev pub invariant-loop-asked : goal.invariant-loop-asked
 invariant-loop-asked l = record {
   report : Reporting l.catalogue l.policy l.packages l.asked-index l.judgements.items l.rows.items;
-  index : IsIndex l.by_text l.judgements.items;
+  index : IsIndex l.by_key l.judgements.items;
 }

@@ -15,13 +15,13 @@ loop-node-init c =
     let o = c.args.offer.now in
     record {
       so_far = refl;
-      left = omega (arith, each_leaf o.nodes.items (tree_in o.nodes.items) o.postfix, o.each);
+      left = omega (arith, each_leaf o.nodes.now (tree_in o.nodes.now) o.postfix, o.each);
     }
 
 pub returns : goal.returns
 returns c =
     let o = c.args.offer.now in
-    let nodes = o.nodes.items in
+    let nodes = o.nodes.now in
     let none : drop c.loop-node.node-index nodes ≡ [] = drop_all c.loop-node.node-index nodes (search rules) in
     let members = shown c.loop-node.members.items in
     sym (ap (λ (z : List ExprNode). grown members (chosen_of (map requirement_at (requirements_in z)) (drop c.loop-node.number o.allowed.items))) none)

@@ -7,7 +7,7 @@ use Rattle.spdx_joint.proofs.members.put_allowed.Given as goal
 
 abbrev pub invariant-loop-node : goal.invariant-loop-node
 invariant-loop-node l = record {
-  so_far : grown (shown l.members.items) (chosen_of (map requirement_at (requirements_in (drop l.node-index l.offer.nodes.items))) (drop l.number l.offer.allowed.items))
-      ≡ grown (shown l.fn.members.items) (chosen_of (map requirement_at (requirements_in l.offer.nodes.items)) l.offer.allowed.items);
-  left : l.number + length (requirements_in (drop l.node-index l.offer.nodes.items)) ≡ length l.offer.allowed.items;
+  so_far : grown (shown l.members.items) (chosen_of (map requirement_at (requirements_in (drop l.node-index l.offer.nodes.now))) (drop l.number l.offer.allowed.items))
+      ≡ grown (shown l.fn.members.items) (chosen_of (map requirement_at (requirements_in l.offer.nodes.now)) l.offer.allowed.items);
+  left : l.number + length (requirements_in (drop l.node-index l.offer.nodes.now)) ≡ length l.offer.allowed.items;
 }
