@@ -1,6 +1,9 @@
 //! Checks and mends SPDX licence expressions: the program over the process's own arguments and outputs.
 #![tactic(auto)]
 
+mod given;
+
+use given::words;
 use spdx_program::{Screen, known_version, run};
 use spdx_words::{Request, read};
 use std::env;
@@ -11,13 +14,7 @@ const VERSION: &str = "0.1.0";
 
 fn main(rt: HostRuntime) -> anyhow::Result<ExitCode> {
     let alloc = rt.alloc();
-    let words: Vec<String> = match env::args(&rt) {
-        Ok(words) => words.collect(alloc)?,
-        Err(error) => {
-            eprintln!(rt; "spdx: an argument can't be read: {error}")?;
-            return Ok(ExitCode::from(2));
-        }
-    };
+    let words = words(&rt)?;
     let list = known_version();
     let version = format!(in alloc; "{VERSION} (SPDX license list {list})")?;
     let request: Request<'_> = match read(alloc, version.as_str(), words.as_slice()) {

@@ -176,16 +176,13 @@ fn check_tree<R: System, O: Write + Drop, F: Write + Drop>(
     console: &mut Console<O, F>,
 ) -> Result<(), Trouble> {
     let alloc = rt.alloc();
-    let mut walk = match Walk::new(rt, path) {
-        Ok(walk) => walk,
-        Err(error) => return Err(Trouble::unreadable(alloc, path, error)),
-    };
+    let mut walk = Walk::new(rt, path)?;
     for count in 0..u64::MAX {
         console.show_progress(alloc, count)?;
         let checked = match walk.next_file(rt) {
             Ok(Some(file)) => check_file(rt, job, file.as_str(), totals, console),
             Ok(None) => break,
-            Err(error) => Err(Trouble::unreadable(alloc, path, error)),
+            Err(trouble) => Err(trouble),
         };
         if let Err(trouble) = checked {
             pass_over(alloc, trouble, totals, console)?;

@@ -61,17 +61,14 @@ fn fix_tree<R: System, O: Write + Drop, F: Write + Drop>(
     console: &mut Console<O, F>,
 ) -> Result<u8, Trouble> {
     let alloc = rt.alloc();
-    let mut walk = match Walk::new(rt, path) {
-        Ok(walk) => walk,
-        Err(error) => return Err(Trouble::unreadable(alloc, path, error)),
-    };
+    let mut walk = Walk::new(rt, path)?;
     let mut status = 0;
     for count in 0..u64::MAX {
         console.show_progress(alloc, count)?;
         let found = match walk.next_file(rt) {
             Ok(Some(file)) => fix_file(rt, job, file.as_str(), console),
             Ok(None) => break,
-            Err(error) => Err(Trouble::unreadable(alloc, path, error)),
+            Err(trouble) => Err(trouble),
         };
         match found {
             Ok(other) => status = status.max(other),

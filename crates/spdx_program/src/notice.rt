@@ -7,6 +7,7 @@ use crate::packages::{AllListed, Listed, Wanted, read_all};
 use crate::several::Several;
 use crate::system::{System, bytes_of, is_special};
 use crate::trouble::Trouble;
+use foreign_text::{Sink, text_for};
 use license_notice::{Package as Noted, Requirement, notice_of};
 use line_engine::lines::write_all;
 use notice_forms::{Form, LicenseText, Page, PageError, put_page};
@@ -48,7 +49,7 @@ pub(crate) fn notice<R: System, O: Write + Drop, F: Write + Drop>(
     let packages = all_of(alloc, &files)?;
     let choices = choices(rt, &catalogue, request, &packages)?;
     let held = match request.texts {
-        Some(folder) => texts(rt, folder, request.follow, &choices)?,
+        Some(folder) => texts(rt, folder, request, &choices)?,
         None => Vec::new(alloc),
     };
     let text = page(alloc, request.form, &packages, &choices, &held)?;
@@ -185,21 +186,35 @@ fn noted<'c, 'r, 't>(
 fn texts<R: System>(
     rt: &R,
     folder: &str,
-    follows: bool,
+    request: &NoticeRequest<'_>,
     choices: &[Choice],
 ) -> Result<Vec<HeldText>, Trouble> {
     let alloc = rt.alloc();
     let mut held: Vec<HeldText> = Vec::new(alloc);
     let mut several = Several::new(alloc);
     for name in &wanted_texts(alloc, choices)? {
-        if let Some(bytes) = several.keep(text(rt, folder, follows, *name))? {
+        if let Some(bytes) = several.keep(text(rt, folder, request.follow, *name))? {
             held.push(HeldText {
                 name: String::from_str(alloc, *name)?,
-                bytes,
+                bytes: if request.plain {
+                    plain(alloc, &bytes)?
+                } else {
+                    bytes
+                },
             })?;
         }
     }
     several.or(held)
+}
+
+// The text without what a terminal obeys but newlines: a tab as blanks, what turns the page left out, and any other such
+// character by its number.
+fn plain(alloc: Global, bytes: &[u8]) -> Result<Vec<u8>, AllocError> {
+    let read = String::from_utf8_lossy(alloc, bytes)?;
+    let lines = read.as_str().replace(alloc, "\r\n", "\n")?;
+    let paged = lines.as_str().replace(alloc, '\u{c}', "")?;
+    let blank = paged.as_str().replace(alloc, '\t', "    ")?;
+    Ok(text_for(alloc, Sink::Lines, blank.as_str())?.into_bytes())
 }
 
 // The names of the texts that these choices want, each once, in the order in which they are wanted first.

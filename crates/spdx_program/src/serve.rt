@@ -16,8 +16,8 @@ use spdx_words::Request;
 use std::io::Write;
 
 /// Does what the request asks for, and answers the program's status: 0 where nothing was refused, 1 where something was,
-/// 2 where the list or a file can't be used, 3 where a read, a write or memory failed. What was asked goes to `output`;
-/// each trouble is a line of `faults`, and a file that can't be read keeps no other from being read.
+/// 2 where the list or a file can't be used, or a read breaks off, 3 where a write or memory failed. What was asked goes to
+/// `output`; each trouble is a line of `faults`, and a file that can't be read keeps no other from being read.
 pub fn run<R: System, O: Write + Drop, F: Write + Drop>(
     rt: &R,
     request: &Request<'_>,

@@ -16,6 +16,10 @@ use std::io::{self, ErrorKind, Write};
 pub(crate) enum Trouble {
     /// A file or folder can't be opened or read.
     Unreadable(String, io::Error),
+    /// The path has a byte that is no UTF-8, and so can't be opened.
+    NotUtf8(String),
+    /// So many files or folders in a folder have names that are no UTF-8.
+    Unnamed(String, u64),
     /// Lines were asked for, and the path is a folder.
     Folder(String),
     /// What was read broke off at a fault.
@@ -86,12 +90,13 @@ impl From<Failed> for Trouble {
 }
 
 impl Trouble {
-    /// Of a path that gave this error.
+    /// Of a path that gave this error. A NUL in it stands for what is no UTF-8 in an argument.
     pub(crate) fn unreadable(alloc: Global, path: &str, error: io::Error) -> Trouble {
         if error.kind() == ErrorKind::OutOfMemory {
             return Trouble::Memory;
         }
         match String::from_str(alloc, path) {
+            Ok(path) if path.as_str().contains('\0') => Trouble::NotUtf8(path),
             Ok(path) => Trouble::Unreadable(path, error),
             Err(AllocError) => Trouble::Memory,
         }
@@ -141,6 +146,9 @@ impl Trouble {
         matches!(
             self,
             Trouble::Unreadable(..)
+                | Trouble::NotUtf8(_)
+                | Trouble::Unnamed(..)
+                | Trouble::Broken(_)
                 | Trouble::Folder(_)
                 | Trouble::Unlisted(..)
                 | Trouble::Special(_)
@@ -161,7 +169,7 @@ impl Trouble {
     /// The program's status.
     pub(crate) fn status(&self) -> u8 {
         match self {
-            Trouble::Broken(_) | Trouble::Unwritable(..) | Trouble::Output | Trouble::Memory => 3,
+            Trouble::Unwritable(..) | Trouble::Output | Trouble::Memory => 3,
             Trouble::NoChoice(..) => 1,
             Trouble::Lost(..) | Trouble::Guessed(..) => 0,
             _ => 2,
@@ -172,6 +180,8 @@ impl Trouble {
     fn texts(&self) -> (&str, &str) {
         match self {
             Trouble::Unreadable(path, _)
+            | Trouble::NotUtf8(path)
+            | Trouble::Unnamed(path, _)
             | Trouble::Folder(path)
             | Trouble::Broken(path)
             | Trouble::List(path, _)
@@ -213,6 +223,16 @@ impl Trouble {
     fn put(&self, text: &mut Vec<u8>, name: &str, why: &str) -> io::Result<()> {
         match self {
             Trouble::Unreadable(_, error) => write!(text, "spdx: {name}: {error}\n"),
+            Trouble::NotUtf8(_) => {
+                write!(
+                    text,
+                    "spdx: {name}: a name that is no UTF-8 can't be opened\n"
+                )
+            }
+            Trouble::Unnamed(_, count) => write!(
+                text,
+                "spdx: {name}: left out: {count} with a name that is no UTF-8\n"
+            ),
             Trouble::Folder(_) => {
                 write!(
                     text,

@@ -1,7 +1,9 @@
 // The files of source trees.
 
-use std::rt::Files;
-use std::{fs, io};
+use crate::system::System;
+use crate::trouble::Trouble;
+use std::fs;
+use std::io::{self, ErrorKind};
 
 // Folders that hold what others wrote or what a build made.
 const LEFT_OUT: [&str; 9] = [
@@ -38,10 +40,14 @@ impl Walk {
     /// # Errors
     ///
     /// There is nothing at the path, or memory was refused.
-    pub fn new<R: Files + AllocGlobal>(rt: &R, path: &str) -> io::Result<Walk> {
-        let is_folder = fs::metadata(rt, path)?.is_dir();
-        let path = String::from_str(rt.alloc(), path)?;
-        let mut entries = Vec::new(rt.alloc());
+    pub(crate) fn new<R: System>(rt: &R, path: &str) -> Result<Walk, Trouble> {
+        let alloc = rt.alloc();
+        let is_folder = match fs::metadata(rt, path) {
+            Ok(metadata) => metadata.is_dir(),
+            Err(error) => return Err(Trouble::unreadable(alloc, path, error)),
+        };
+        let path = String::from_str(alloc, path)?;
+        let mut entries = Vec::new(alloc);
         entries.push(Entry { path, is_folder })?;
         Ok(Walk { entries })
     }
@@ -50,11 +56,9 @@ impl Walk {
     ///
     /// # Errors
     ///
-    /// A folder can't be read, whose files are left out then; or memory was refused.
-    pub fn next_file<R: Files + AllocGlobal + Clone + Drop>(
-        &mut self,
-        rt: &R,
-    ) -> io::Result<Option<String>> {
+    /// A folder can't be read, whose files are left out then; in a folder stand names that are no UTF-8, which alone are
+    /// left out; or memory was refused. The files behind it come with the next calls.
+    pub(crate) fn next_file<R: System>(&mut self, rt: &R) -> Result<Option<String>, Trouble> {
         for _ in 0..u64::MAX {
             let Some(entry) = self.entries.pop() else {
                 return Ok(None);
@@ -68,33 +72,57 @@ impl Walk {
     }
 
     // Puts what is in the folder before all else that is yet to be visited.
-    fn open<R: Files + AllocGlobal + Clone + Drop>(
-        &mut self,
-        rt: &R,
-        path: &str,
-    ) -> io::Result<()> {
-        let mut inside = entries_of(rt, path)?;
-        inside.sort_by(|one, other| other.path.cmp(&one.path))?;
-        for entry in inside {
+    fn open<R: System>(&mut self, rt: &R, path: &str) -> Result<(), Trouble> {
+        let alloc = rt.alloc();
+        let mut inside = match inside_of(rt, path) {
+            Ok(inside) => inside,
+            Err(error) => return Err(Trouble::unreadable(alloc, path, error)),
+        };
+        inside
+            .entries
+            .sort_by(|one, other| other.path.cmp(&one.path))?;
+        for entry in inside.entries {
             self.entries.push(entry)?;
+        }
+        if inside.unnamed > 0 {
+            let path = String::from_str(alloc, path)?;
+            return Err(Trouble::Unnamed(path, inside.unnamed));
         }
         Ok(())
     }
 }
 
-// The files and folders in a folder that are visited.
-fn entries_of<R: Files + AllocGlobal + Clone + Drop>(rt: &R, path: &str) -> io::Result<Vec<Entry>> {
-    let mut entries = Vec::new(rt.alloc());
+// What is in a folder.
+#[derive(Drop)]
+struct Inside {
+    // the files and folders that are visited
+    entries: Vec<Entry>,
+    // how many have a name that is no UTF-8
+    unnamed: u64,
+}
+
+fn inside_of<R: System>(rt: &R, path: &str) -> io::Result<Inside> {
+    let mut inside = Inside {
+        entries: Vec::new(rt.alloc()),
+        unnamed: 0,
+    };
     for entry in fs::read_dir(rt, path)? {
-        let entry = entry?;
-        let kind = entry.file_type()?;
-        let is_folder = kind.is_dir();
-        if kind.is_file() || (is_folder && !is_left_out(entry.file_name())) {
-            let path = String::from_str(rt.alloc(), entry.path().as_str())?;
-            entries.push(Entry { path, is_folder })?;
+        match entry {
+            Ok(entry) => {
+                let kind = entry.file_type()?;
+                let is_folder = kind.is_dir();
+                if kind.is_file() || (is_folder && !is_left_out(entry.file_name())) {
+                    let path = String::from_str(rt.alloc(), entry.path().as_str())?;
+                    inside.entries.push(Entry { path, is_folder })?;
+                }
+            }
+            Err(error) if error.kind() == ErrorKind::InvalidFilename => {
+                inside.unnamed = inside.unnamed.saturating_add(1);
+            }
+            Err(error) => return Err(error),
         }
     }
-    Ok(entries)
+    Ok(inside)
 }
 
 fn is_left_out(name: &str) -> bool {

@@ -7,12 +7,12 @@ use std::alloc::{AllocError, Global};
 const CHECK_EXAMPLE: &str = "Example:
   printf 'MIT\\nGPL-2.0+ OR Apache2\\n' | spdx check
 
-Status: 0 nothing refused, 1 something refused, 2 wrong words, list or file, 3 a read, a write or memory failed.";
+Status: 0 nothing refused, 1 something refused, 2 wrong words, list or file, 3 a write or memory failed.";
 
 const FIX_EXAMPLE: &str = "Example:
   spdx fix --write licenses.txt
 
-Status: 0 nothing is left to mend, 1 some expression has no mended text, 2 wrong words, list or file, 3 a read, a write
+Status: 0 nothing is left to mend, 1 some expression has no mended text, 2 wrong words, list or file, 3 a write
 or memory failed.";
 
 const COMPARE_EXAMPLE: &str = "Example:
@@ -24,7 +24,7 @@ const SIMPLIFY_EXAMPLE: &str = "Example:
   echo 'MIT OR (MIT AND Zlib)' | spdx simplify
 
 Status: 0 each line has a meaning, 1 some line is no expression or makes too many sets of licenses and is written as it
-stands, 2 wrong words, list or file, 3 a read, a write or memory failed.";
+stands, 2 wrong words, list or file, 3 a write or memory failed.";
 
 const LIST_EXAMPLE: &str = "Examples:
   spdx list show MIT GPL-2.0

@@ -7,14 +7,14 @@ use std::alloc::{AllocError, Global};
 const GATE_EXAMPLE: &str = "Example:
   cargo metadata --format-version 1 | spdx gate --policy policy.toml --from cargo
 
-Status: 0 every package is allowed, 1 some package is not, 2 wrong words, list, policy or file, 3 a read, a write or
+Status: 0 every package is allowed, 1 some package is not, 2 wrong words, list, policy or file, 3 a write or
 memory failed.";
 
 const NOTICE_EXAMPLE: &str = "Example:
   spdx notice --accept MIT,Apache-2.0 --texts texts --format html --from cargo metadata.json > notice.html
 
 Status: 0 the page is written, 1 some package has no choice that is accepted, 2 wrong words, list, policy, file or
-license text, 3 a read, a write or memory failed. No page is written but with 0.";
+license text, 3 a write or memory failed. No page is written but with 0.";
 
 /// The command `gate`.
 pub(crate) fn gate<'a>(alloc: Global) -> Result<Command<'a>, AllocError> {
@@ -101,6 +101,11 @@ pub(crate) fn notice<'a>(alloc: Global) -> Result<Command<'a>, AllocError> {
             alloc,
             "follow",
             "Follows links that lead out of the folder of the texts",
+        ))?
+        .arg(flag(
+            alloc,
+            "plain",
+            "Writes nothing of the texts that a terminal would obey",
         ))?
         .arg(flag(
             alloc,

@@ -100,6 +100,8 @@ pub struct NoticeRequest<'w> {
     pub texts: Option<&'w str>,
     /// Whether links that lead out of that folder are followed.
     pub follow: bool,
+    /// Whether what a terminal would obey in the texts is written by its number.
+    pub plain: bool,
     /// Whether one choice is made for all packages together.
     pub one_for_all: bool,
     /// Whether packages of one's own project are left out.

@@ -49,6 +49,7 @@ pub(crate) fn notice_request<'w>(
         source: source(alloc, matches)?,
         texts: texts_folder,
         follow: matches.get_flag("follow"),
+        plain: matches.get_flag("plain"),
         one_for_all: matches.get_flag("one-for-all"),
         exclude_own: matches.get_flag("exclude-own"),
         form: page_form(matches.get_str("format")),
