@@ -5,3 +5,4 @@ mod JsonLaws
 pub mod SarifLogLaw
 mod SarifLaw
 mod OneLine
+pub mod Excerpts

@@ -1,40 +1,19 @@
 -- A finding in each form.
-use Rattle.std.specs.Prelude.{◌≡◌, ℕ, max, List, [], ◌∷◌, ◌++◌, Bool, false, if◌then◌else◌, chars, codes, decimal, replicate}
-use Rattle.unicode_width.specs.Width.{str_width}
+use Rattle.std.specs.Prelude.{◌≡◌, ℕ, List, [], ◌∷◌, ◌++◌, Bool, if◌then◌else◌, codes, decimal}
 use Rattle.foreign_text.specs.declared.sinks.Sink.TheVariants.{Line, Command, Property}
 use Rattle.finding_forms.specs.declared.forms.Style.{Style}
-use Rattle.finding_forms.specs.declared.forms.Style.TheVariants.{Plain, Coloured}
 use Rattle.finding_forms.specs.declared.forms.Form.{Form}
 use Rattle.finding_forms.specs.declared.forms.Form.TheVariants.{Human, Short, Json, Github, Sarif}
 use Rattle.foreign_text.specs.Written.{text_for}
-use Rattle.finding_forms.specs.Finding.{Aid, Told, before_of, fault_of, fault_column}
+use Rattle.finding_forms.specs.Finding.{Aid, Told, fault_column}
+use Rattle.finding_forms.specs.Excerpt.{carets_under, excerpt_line}
+use Rattle.finding_forms.specs.Paint.{bold, cyan, painted, red}
 use Rattle.finding_forms.specs.Message.{helps, help_text, message_text, place_text}
 use Rattle.finding_forms.specs.Json.{HasNoNewline, json_line}
 use Rattle.finding_forms.specs.SarifLog.{sarif_beginning, sarif_ending}
 use Rattle.finding_forms.specs.Sarif.{sarif_result}
 
 -- ---- for people
-
--- what begins one of a terminal's colours, and what ends each
-abbrev pub paint_begins : Style → List ℕ → List ℕ
-paint_begins Plain colour = []
-paint_begins Coloured colour = 27 ∷ colour
-
-abbrev pub paint_ends : Style → List ℕ
-paint_ends Plain = []
-paint_ends Coloured = 27 ∷ codes "[0m"
-
-abbrev pub painted : Style → List ℕ → List ℕ → List ℕ
-painted style colour text = paint_begins style colour ++ (text ++ paint_ends style)
-
-abbrev pub bold : List ℕ
-bold = codes "[1m"
-
-abbrev pub red : List ℕ
-red = codes "[1;31m"
-
-abbrev pub cyan : List ℕ
-cyan = codes "[1;36m"
 
 -- what is wrong, to the end of its line
 abbrev pub reason_text : Style → Told → List ℕ
@@ -44,14 +23,9 @@ reason_text style t = codes ": " ++ (painted style red (codes "error") ++ (codes
 abbrev pub reason_line : Style → Told → List ℕ
 reason_line style t = painted style bold (place_text Line t) ++ reason_text style t
 
--- how many columns of a terminal a text takes as it is shown
-abbrev pub shown_width : List ℕ → ℕ
-shown_width text = str_width false (chars (text_for Line text))
-
--- carets under the fault, one at least; the expression above stands two columns in
+-- carets under the fault
 abbrev pub caret_line : Style → Told → List ℕ
-caret_line style t =
-    codes "  " ++ (replicate (shown_width (before_of t)) 32 ++ (painted style red (replicate (max 1 (shown_width (fault_of t))) 94) ++ 10 ∷ []))
+caret_line style t = carets_under style t.expression t.start t.end ++ 10 ∷ []
 
 abbrev pub help_line : Style → Aid → List ℕ
 help_line style aid =
@@ -59,7 +33,7 @@ help_line style aid =
 
 abbrev pub human_text : Style → Told → List ℕ
 human_text style t =
-    reason_line style t ++ (codes "  " ++ (text_for Line t.expression ++ (10 ∷ (caret_line style t ++ help_line style t.aid))))
+    reason_line style t ++ (excerpt_line t.expression t.start ++ (caret_line style t ++ help_line style t.aid))
 
 -- ---- a line each
 

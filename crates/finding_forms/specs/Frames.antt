@@ -8,7 +8,9 @@ use Rattle.finding_forms.specs.declared.frames.Frame.{Frame}
 use Rattle.foreign_text.specs.Written.{text_for}
 use Rattle.finding_forms.specs.Finding.{Told, fault_column}
 use Rattle.finding_forms.specs.Message.{message_text}
-use Rattle.finding_forms.specs.Forms.{bold, caret_line, finding_text, help_line, paint_begins, paint_ends, reason_text}
+use Rattle.finding_forms.specs.Excerpt.{excerpt_line}
+use Rattle.finding_forms.specs.Forms.{caret_line, finding_text, help_line, reason_text}
+use Rattle.finding_forms.specs.Paint.{bold, paint_begins, paint_ends}
 
 -- the same finding in another line
 abbrev pub on_line : Told → ℕ → Told
@@ -41,7 +43,7 @@ column_human style t = 58 ∷ (decimal (fault_column t) ++ paint_ends style)
 
 abbrev pub behind_human : Style → Told → List ℕ
 behind_human style t =
-    column_human style t ++ (reason_text style t ++ (codes "  " ++ (text_for Line t.expression ++ (10 ∷ (caret_line style t ++ help_line style t.aid)))))
+    column_human style t ++ (reason_text style t ++ (excerpt_line t.expression t.start ++ (caret_line style t ++ help_line style t.aid)))
 
 abbrev pub before_short : List ℕ → List ℕ
 before_short file = text_for Line file ++ 58 ∷ []

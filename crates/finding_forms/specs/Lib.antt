@@ -5,6 +5,8 @@ pub mod Json
 pub mod JsonTokens
 pub mod SarifLog
 pub mod Sarif
+pub mod Paint
+pub mod Excerpt
 pub mod Forms
 pub mod Frames
 pub mod Totals

@@ -1,6 +1,6 @@
 -- Findings as a log of SARIF 2.1.0.
-use Rattle.std.specs.Prelude.{◌≡◌, ℕ, ◌^◌, ◌<◌, List, [], ◌∷◌, ◌++◌, map, Some, ⊤, codes, decimal}
-use Rattle.json.specs.Json.{Json, number, string, array, object, document, Items, no_items, item, Members, no_members, member}
+use Rattle.std.specs.Prelude.{◌≡◌, ℕ, ◌^◌, ◌<◌, List, [], ◌∷◌, map, Some, ⊤, codes, decimal}
+use Rattle.json.specs.Json.{Json, number, string, array, object, document, no_items, item, Members, no_members, member}
 use Rattle.json.specs.Token.{Token}
 use Rattle.json.specs.Print.{print}
 use Rattle.json.specs.Tree.{json_tokens}

@@ -1,20 +1,22 @@
 // The form for people, with carets under the fault.
 
-ghost use Rattle.std.specs.Prelude.{◌≡◌, ℕ, ◌<◌, ◌++◌, OnOk, OnErr, IfOk, replicate, string_bytes};
+ghost use Rattle.std.specs.Prelude.{◌≡◌, ℕ, ◌++◌, OnOk, OnErr, IfOk, string_bytes};
 ghost use Rattle.finding_forms.specs.Finding.{told, aid_of};
-ghost use Rattle.finding_forms.specs.Forms.{caret_line, help_line, human_text, paint_begins, paint_ends, painted, reason_text, shown_width};
+ghost use Rattle.finding_forms.specs.Forms.{caret_line, help_line, human_text, reason_text};
 ghost use Rattle.finding_forms.specs.Frames.{before_human, behind_human, column_human, framed, on_line};
 
+use crate::excerpt::{put_carets_under, put_excerpt_line};
 use crate::findings::{Finding, Help};
 use crate::forms::Style;
 use crate::frames::Frame;
 use crate::messages::{put_column, put_help};
-use foreign_text::{Sink, put_text, text_for};
+use crate::paint::{begin_paint, end_paint, put_painted};
+use foreign_text::{Sink, put_text};
 use std::alloc::{AllocError, Global};
-use unicode_width::UnicodeWidthStr;
 
 /// Appends a finding as people read it: the place of the fault and the reason, the expression, carets under the fault
-/// by the columns of a terminal, and what helps.
+/// by the columns of a terminal, and what helps. An expression of more than 200 bytes is shown round the fault, as by
+/// `put_excerpt_line`.
 ///
 /// # Errors
 ///
@@ -65,9 +67,7 @@ fn behind_human(alloc: Global, style: Style, finding: &Finding<'_>) -> Result<St
     let mut lines = String::new(alloc);
     put_place_end(&mut lines, style, finding)?;
     put_reason(&mut lines, style, finding)?;
-    lines.push_str("  ")?;
-    put_text(&mut lines, Sink::Line, finding.expression)?;
-    lines.push('\n')?;
+    put_excerpt_line(&mut lines, finding.expression, finding.start)?;
     put_carets(alloc, &mut lines, style, finding)?;
     put_help_line(&mut lines, style, &finding.help)?;
     Ok(lines)
@@ -106,15 +106,16 @@ fn put_carets(
     ensures { OnOk result (string_bytes lines.new ≡
         string_bytes lines.old ++ caret_line style (told finding.now)) }
 {
-    let parts = finding.parts();
-    let before = shown_width(alloc, parts.before)?;
-    let fault = shown_width(alloc, parts.fault)?;
-    lines.push_str("  ")?;
-    put_copies(lines, ' ', before)?;
-    begin_paint(lines, style, "[1;31m")?;
-    put_copies(lines, '^', fault.max(1))?;
-    end_paint(lines, style)?;
-    lines.push('\n')
+    put_carets_under(
+        alloc,
+        lines,
+        style,
+        finding.expression,
+        finding.start,
+        finding.end,
+    )?;
+    lines.push('\n')?;
+    Ok(())
 }
 
 fn put_help_line(lines: &mut String, style: Style, help: &Help<'_>) -> Result<(), AllocError>
@@ -129,56 +130,4 @@ fn put_help_line(lines: &mut String, style: Style, help: &Help<'_>) -> Result<()
     lines.push_str(": ")?;
     put_help(lines, Sink::Line, help)?;
     lines.push('\n')
-}
-
-// How many columns of a terminal the text takes as it is shown.
-fn shown_width(alloc: Global, text: &str) -> Result<usize, AllocError>
-    ensures { IfOk result (λ width. width ≡ shown_width text.now) }
-{
-    let shown = text_for(alloc, Sink::Line, text)?;
-    Ok(shown.as_str().width())
-}
-
-fn put_copies(lines: &mut String, letter: char, count: usize) -> Result<(), AllocError>
-    requires { letter < 128 }
-    ensures { OnOk result (
-        string_bytes lines.new ≡ string_bytes lines.old ++ replicate count letter) }
-{
-    for _ in 0..count {
-        lines.push(letter)?;
-    }
-    Ok(())
-}
-
-fn put_painted(lines: &mut String, style: Style, colour: &str, text: &str) -> Result<(), AllocError>
-    ensures { OnOk result (string_bytes lines.new ≡
-        string_bytes lines.old ++ painted style colour.now text.now) }
-{
-    begin_paint(lines, style, colour)?;
-    lines.push_str(text)?;
-    end_paint(lines, style)?;
-    Ok(())
-}
-
-fn begin_paint(lines: &mut String, style: Style, colour: &str) -> Result<(), AllocError>
-    ensures { OnOk result (
-        string_bytes lines.new ≡ string_bytes lines.old ++ paint_begins style colour.now) }
-{
-    match style {
-        Style::Plain => Ok(()),
-        Style::Coloured => {
-            lines.push('\x1b')?;
-            lines.push_str(colour)
-        }
-    }
-}
-
-fn end_paint(lines: &mut String, style: Style) -> Result<(), AllocError>
-    ensures { OnOk result (
-        string_bytes lines.new ≡ string_bytes lines.old ++ paint_ends style) }
-{
-    match style {
-        Style::Plain => Ok(()),
-        Style::Coloured => lines.push_str("\x1b[0m"),
-    }
 }

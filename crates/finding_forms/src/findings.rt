@@ -59,8 +59,8 @@ impl Help<'_> {
     }
 }
 
-// The place in the text, which is its end where the place is none.
-fn place_in(text: &str, at: usize) -> usize
+/// The place in the text, which is its end where the place is none.
+pub(crate) fn place_in(text: &str, at: usize) -> usize
     ensures place { result ≡ place_in text.now at }
     ensures boundary { IsCharBoundary text.now result }
 {

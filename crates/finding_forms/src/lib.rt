@@ -3,17 +3,20 @@
 #![tactic(auto)]
 
 mod carets;
+mod excerpt;
 mod findings;
 mod forms;
 mod frames;
 mod json_form;
 mod line_forms;
 mod messages;
+mod paint;
 mod rules;
 mod sarif_form;
 mod total_line;
 
 pub use carets::put_human;
+pub use excerpt::{put_carets_under, put_excerpt_line};
 pub use findings::{Finding, Help, Place};
 pub use forms::{Form, Style, put_beginning, put_ending, put_finding};
 pub use frames::{Frame, frame_of};
