@@ -3,7 +3,8 @@ use Rattle.std.specs.Prelude.{ℕ, ◌+◌, ◌*◌, ◌-◌, max, min, List, []
 use Rattle.unicode_width.specs.Width.{str_width}
 use Rattle.finding_forms.specs.declared.forms.Style.{Style}
 use Rattle.finding_forms.specs.Finding.{place_in}
-use Rattle.finding_forms.specs.Forms.{bold, red, painted}
+use Rattle.finding_forms.specs.Excerpt.{carets_under, excerpt_line}
+use Rattle.finding_forms.specs.Paint.{bold, red, painted}
 use Rattle.foreign_text.specs.declared.sinks.Sink.TheVariants.{Line}
 use Rattle.gate_forms.specs.declared.reports.Advice.{Advice}
 use Rattle.gate_forms.specs.declared.reports.Leaf.{Leaf}
@@ -42,12 +43,23 @@ package_line style r =
 abbrev pub head_line : Style → Report → List ℕ
 head_line style r = painted style red (codes "error") ++ (codes ": " ++ package_line style r)
 
-abbrev pub expression_line : List ℕ → List ℕ
-expression_line [] = []
-expression_line (b ∷ bs) = codes "  " ++ (text_for Line (b ∷ bs) ++ 10 ∷ [])
+abbrev pub whole_line : List ℕ → List ℕ
+whole_line text = codes "  " ++ (text_for Line text ++ 10 ∷ [])
 
+-- a text with a fault is shown round it; of another all is shown
+abbrev pub shown_line : List ℕ → Why → List ℕ
+shown_line text Nothing = whole_line text
+shown_line text (Fault reason start end) = excerpt_line text start
+shown_line text (Missing leaves advice) = whole_line text
+
+abbrev pub expression_line : List ℕ → Why → List ℕ
+expression_line [] why = []
+expression_line (b ∷ bs) why = shown_line (b ∷ bs) why
+
+-- carets under what is shown of the fault, and the reason
 abbrev pub fault_line : Style → List ℕ → List ℕ → ℕ → ℕ → List ℕ
-fault_line style text reason start end = caret_part style text start end ++ (text_for Line reason ++ 10 ∷ [])
+fault_line style text reason start end =
+    carets_under style text start end ++ (32 ∷ (text_for Line reason ++ 10 ∷ []))
 
 abbrev pub leaf_line : Style → List ℕ → Leaf → List ℕ
 leaf_line style text leaf = caret_part style text leaf.start leaf.end ++ (leaf_decided Line leaf ++ 10 ∷ [])
@@ -68,7 +80,7 @@ why_lines style text (Fault reason start end) = fault_line style text reason.now
 why_lines style text (Missing leaves advice) = leaf_lines style text leaves.now ++ advice_line advice
 
 abbrev pub reasons_text : Style → Report → List ℕ
-reasons_text style r = expression_line r.expression.now ++ why_lines style r.expression.now r.why
+reasons_text style r = expression_line r.expression.now r.why ++ why_lines style r.expression.now r.why
 
 abbrev pub refused_lines : Style → Report → List ℕ
 refused_lines style r = head_line style r ++ reasons_text style r
@@ -102,4 +114,4 @@ closing_text style r = closing_lines style r.expression.now r.why
 
 abbrev pub explained_text : Style → Report → List ℕ
 explained_text style r =
-    package_line style r ++ (expression_line r.expression.now ++ (flat_map (node_line style) r.nodes.now ++ closing_text style r))
+    package_line style r ++ (expression_line r.expression.now r.why ++ (flat_map (node_line style) r.nodes.now ++ closing_text style r))

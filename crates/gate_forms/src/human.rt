@@ -1,20 +1,21 @@
 // The form for people.
 
 ghost use Rattle.std.specs.Prelude.{◌≡◌, ◌++◌, OnOk, OnErr, IfOk, flat_map, string_bytes, take};
-ghost use Rattle.finding_forms.specs.Forms.{bold, painted};
+ghost use Rattle.finding_forms.specs.Paint.{bold, painted};
 ghost use Rattle.gate_forms.specs.Report.{package_text};
-ghost use Rattle.gate_forms.specs.Human.{advice_line, expression_line, fault_line, head_line, human_text, leaf_line, leaf_lines, more_line, package_line, reasons_text, refused_lines};
+ghost use Rattle.gate_forms.specs.Human.{advice_line, expression_line, fault_line, head_line, human_text, leaf_line, leaf_lines, more_line, package_line, reasons_text, refused_lines, whole_line};
 
 use crate::messages::{put_advice, put_decided, put_package, put_verdict};
 use crate::paint::{begin_paint, end_paint, put_carets, put_painted};
 use crate::reports::{Advice, Leaf, Report, Why};
-use finding_forms::Style;
+use finding_forms::{Style, put_carets_under, put_excerpt_line};
 use foreign_text::{Sink, put_text};
 use std::alloc::{AllocError, Global};
 
 /// Appends a refused package as people read it: the package and the verdict, the expression, carets under each part that
 /// is missing by the columns of a terminal, and what would help. Carets stand under twenty parts at most, for each line of
-/// them is as long as the expression; of further ones the number is told. Of a package that passes nothing is said.
+/// them is as long as the expression; of further ones the number is told. An expression that is none is shown round its
+/// fault, as `finding_forms::put_excerpt_line` shows it. Of a package that passes nothing is said.
 ///
 /// # Errors
 ///
@@ -95,7 +96,7 @@ pub(crate) fn put_reasons(
     ensures { OnOk result (
         string_bytes lines.new ≡ string_bytes lines.old ++ reasons_text style report.now) }
 {
-    put_expression(lines, report.expression)?;
+    put_expression(lines, report)?;
     match report.why {
         Why::Nothing => Ok(()),
         Why::Fault { reason, start, end } => {
@@ -110,21 +111,31 @@ pub(crate) fn put_reasons(
     }
 }
 
-/// Appends the expression as a line, where there is one.
-pub(crate) fn put_expression(lines: &mut String, expression: &str) -> Result<(), AllocError>
-    ensures { OnOk result (
-        string_bytes lines.new ≡ string_bytes lines.old ++ expression_line expression.now) }
+/// Appends the expression as a line, where there is one; round its fault, where it has one.
+pub(crate) fn put_expression(lines: &mut String, report: &Report<'_>) -> Result<(), AllocError>
+    ensures { OnOk result (string_bytes lines.new ≡
+        string_bytes lines.old ++ expression_line report.now.expression.now report.now.why) }
 {
-    if expression.is_empty() {
+    if report.expression.is_empty() {
         return Ok(());
     }
+    match report.why {
+        Why::Nothing | Why::Missing { .. } => put_whole(lines, report.expression),
+        Why::Fault { start, .. } => put_excerpt_line(lines, report.expression, start),
+    }
+}
+
+fn put_whole(lines: &mut String, text: &str) -> Result<(), AllocError>
+    ensures { OnOk result (
+        string_bytes lines.new ≡ string_bytes lines.old ++ whole_line text.now) }
+{
     lines.push_str("  ")?;
-    put_text(lines, Sink::Line, expression)?;
+    put_text(lines, Sink::Line, text)?;
     lines.push('\n')?;
     Ok(())
 }
 
-/// Appends carets under the fault, and its reason.
+/// Appends carets under what is shown of the fault, and its reason.
 pub(crate) fn put_fault(
     alloc: Global,
     lines: &mut String,
@@ -137,7 +148,8 @@ pub(crate) fn put_fault(
     ensures { OnOk result (string_bytes lines.new ≡
         string_bytes lines.old ++ fault_line style expression.now reason.now start end) }
 {
-    put_carets(alloc, lines, style, expression, start, end)?;
+    put_carets_under(alloc, lines, style, expression, start, end)?;
+    lines.push(' ')?;
     put_text(lines, Sink::Line, reason)?;
     lines.push('\n')?;
     Ok(())

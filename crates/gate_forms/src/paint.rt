@@ -2,7 +2,7 @@
 
 ghost use Rattle.std.specs.Prelude.{◌≡◌, ◌<◌, ◌++◌, OnOk, IfOk, replicate, string_bytes, IsCharBoundary};
 ghost use Rattle.finding_forms.specs.Finding.{place_in};
-ghost use Rattle.finding_forms.specs.Forms.{paint_begins, paint_ends, painted};
+ghost use Rattle.finding_forms.specs.Paint.{paint_begins, paint_ends, painted};
 ghost use Rattle.gate_forms.specs.Human.{before_of, marked_of, caret_part, shown_width};
 
 use finding_forms::Style;

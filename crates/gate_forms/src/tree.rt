@@ -38,7 +38,7 @@ fn explained_lines(alloc: Global, style: Style, report: &Report<'_>) -> Result<S
 {
     let mut lines = String::new(alloc);
     put_package_line(&mut lines, style, report)?;
-    put_expression(&mut lines, report.expression)?;
+    put_expression(&mut lines, report)?;
     put_nodes(&mut lines, style, report.nodes)?;
     put_closing(alloc, &mut lines, style, report)?;
     Ok(lines)
