@@ -3,3 +3,4 @@ mod RefusalLaws
 mod JsonLaws
 mod PageLaws
 mod SarifLaw
+mod Heads

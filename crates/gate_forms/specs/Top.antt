@@ -1,7 +1,7 @@
 -- What the page begins with.
 use Rattle.std.specs.Prelude.{ℕ, List, ◌++◌, codes}
 
--- no script runs, and nothing is fetched
+-- up to the style
 abbrev pub page_head : List ℕ
 page_head =
     codes "<!doctype html>\n" ++

@@ -1,6 +1,7 @@
 // The page of HTML.
 
 ghost use Rattle.std.specs.Prelude.{◌≡◌, ◌++◌, OnOk, OnErr, IfOk, flat_map};
+ghost use Rattle.html_text.specs.Head.{BeginsPlainly};
 ghost use Rattle.html_text.specs.Text.{page_text};
 ghost use Rattle.gate_forms.specs.Page.{allowed_part, allowed_section, expression_part, head_part, in_allowed, in_refused, in_unstated, item_sign, left_out, marks, news_part, page_with, refused_part, refused_section, title_part, tree_part, unstated_part, unstated_section, why_part};
 
@@ -16,7 +17,8 @@ use std::alloc::{AllocError, Global};
 /// would help, those without a licence, and, folded, the allowed ones. Of each refusal it says whether it is new or
 /// known, where there is a baseline. It needs no script and nothing beside it. What is
 /// accepted in a tree stands behind `+`, and what is not behind `-`, besides the colour. No text of the reports adds
-/// markup: `<`, `>` and quotes stand in the page as if each text were left out.
+/// markup: `<`, `>` and quotes stand in the page as if each text were left out. Its head (`head`) loads nothing, runs
+/// nothing, and has a style that hides nothing.
 ///
 /// # Errors
 ///
@@ -33,6 +35,7 @@ pub fn put_page(
     ensures err { OnErr result (text.new.items ≡ text.old.items) }
     ensures no_markup { marks (page_with page_text policy.now totals.now reports.now)
         ≡ marks (page_with left_out policy.now totals.now reports.now) }
+    ensures head { BeginsPlainly (page_with page_text policy.now totals.now reports.now) }
 {
     let page = whole_page(alloc, policy, totals, reports)?;
     text.extend_from_slice(page.as_slice())

@@ -1,7 +1,7 @@
 -- No text has as many backquotes side by side as its fence.
-use Rattle.std.proofs.Common.{◌≡◌, ℕ, zero, suc, ◌+◌, ◌<◌, ◌≤◌, max, List, [], ◌∷◌, ◌++◌, replicate, codes, sym, ap, ◌∙◌, subst, append_assoc, arith}
+use Rattle.std.proofs.Common.{◌≡◌, ℕ, zero, suc, ◌+◌, ◌≤◌, List, [], ◌∷◌, ◌++◌, replicate, codes, sym, ap, ◌∙◌, subst, append_assoc, arith}
 use Rattle.std.specs.List.{prefix_len}
-use Rattle.notice_forms.specs.Markdown.{is_backquote, longest_run, fence, StaysFenced}
+use Rattle.notice_forms.specs.Markdown.{is_backquote, longest_run, StaysFenced}
 
 run_len : (n : ℕ) (rest : List ℕ) → n + 3 ≤ prefix_len is_backquote (replicate n 96 ++ (codes "```" ++ rest))
 run_len zero rest = omega arith

@@ -2,3 +2,4 @@ pub mod Fenced
 pub mod Numbering
 pub mod Pieces
 pub mod Seeing
+pub mod Heads

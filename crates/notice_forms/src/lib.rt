@@ -6,7 +6,9 @@ ghost use Rattle.std.specs.Prelude.{◌≡◌, ℕ, List, ◌++◌, OnOk, OnErr,
 ghost use Rattle.notice_forms.specs.Told.{told};
 ghost use Rattle.notice_forms.specs.Pages.{page_in, IsRefusal};
 ghost use Rattle.notice_forms.specs.Markdown.{StaysFenced};
+ghost use Rattle.notice_forms.specs.Html.{html_page};
 ghost use Rattle.notice_forms.specs.Seen.{IsShown};
+ghost use Rattle.html_text.specs.Head.{BeginsPlainly};
 
 mod errors;
 mod html;
@@ -31,6 +33,7 @@ use std::alloc::Global;
 /// text but for characters that are not seen, which are U+FFFD, and for ends of lines, which are newlines. The page of
 /// HTML says what the plain text does (`shown`): of its head the title is seen alone; its body, without tags and with its
 /// entities read, is the title, the contents, each requirement with its packages, and each text, once and in their order.
+/// Its head (`head`) loads nothing, runs nothing, and has a style that hides nothing.
 ///
 /// # Errors
 ///
@@ -45,6 +48,7 @@ pub fn put_page<'t>(
     ensures err { OnErr result (page.new.items ≡ page.old.items) }
     ensures refused { IfErr result (IsRefusal form (told shown.now)) }
     ensures shown { IsShown (told shown.now) }
+    ensures head { BeginsPlainly (html_page (told shown.now)) }
     ensures fenced { (text : List ℕ) → StaysFenced text }
 {
     let whole = page_of(alloc, form, shown)?;

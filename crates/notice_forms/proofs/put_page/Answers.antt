@@ -1,5 +1,6 @@
 use Rattle.notice_forms.specs.Told.{told}
 use Rattle.notice_forms.proofs.Fenced.{stays_fenced}
+use Rattle.notice_forms.proofs.Heads.{begins_plainly}
 use Rattle.notice_forms.proofs.Seeing.{is_shown}
 use Rattle.notice_forms.proofs.put_page.Goals as goal
 
@@ -20,3 +21,12 @@ returns-in_err-extend_from_slice-clause-fenced c = stays_fenced
 
 pub returns-clause-fenced : goal.returns-clause-fenced
 returns-clause-fenced c = stays_fenced
+
+pub returns-in_err-whole-clause-head : goal.returns-in_err-whole-clause-head
+returns-in_err-whole-clause-head c = begins_plainly (told c.args.shown.now)
+
+pub returns-in_err-extend_from_slice-clause-head : goal.returns-in_err-extend_from_slice-clause-head
+returns-in_err-extend_from_slice-clause-head c = begins_plainly (told c.args.shown.now)
+
+pub returns-clause-head : goal.returns-clause-head
+returns-clause-head c = begins_plainly (told c.args.shown.now)
