@@ -1,5 +1,5 @@
 -- The lines before the hunks are read as the names of the file.
-use Rattle.std.proofs.Common.{ℕ, zero, suc, List, [], ◌∷◌, ◌++◌, codes, arith}
+use Rattle.std.proofs.Common.{ℕ, zero, suc, List, codes, arith}
 use Rattle.std.specs.Str.{IsAscii, IsUtf8}
 use Rattle.std.proofs.lemmas.Str.{IsUtf8-append, IsUtf8-from_ascii}
 use Rattle.foreign_text.proofs.Headers.{reads_back}

@@ -1,4 +1,10 @@
+pub mod Applies
 pub mod Heads
 pub mod Lines
 pub mod Shown
 pub mod Sides
+pub mod Named
+pub mod Numbers
+pub mod Reading
+pub mod Rest
+pub mod Told

@@ -1,8 +1,9 @@
 -- The rows of two texts are the two texts.
 use Rattle.std.proofs.Common.{◌≡◌, ℕ, ◌+◌, ◌-◌, ◌<◌, Bool, true, false, cond, nat_eq, List, [], ◌∷◌, ◌++◌, length, get_or, take, drop, refl, sym, ap, ◌∙◌, arith}
-use Rattle.std.specs.List.{flat_map}
+use Rattle.std.specs.List.{concat, flat_map}
 use Rattle.std.specs.Prelude.{slice_index_or}
 use Rattle.std.proofs.lemmas.List.{get_or-drop, get_or-take, length-drop, length-take}
+use Rattle.std.proofs.lemmas.List.Concat.{concat_is}
 use Rattle.std.proofs.lemmas.List.Folds.{list_any_at}
 use Rattle.line_diff.specs.Diff.{Pair, pair, onto_first, whole_lines, pairs, rows_of, is_changed, is_shown, AreTheTexts}
 
@@ -56,9 +57,13 @@ not_true : (b : Bool) → (b ≡ true → false ≡ true) → b ≡ false
 not_true true n = sym (n refl)
 not_true false n = refl
 
-hidden_is_same : (rows : List Pair) (i : ℕ) → i < length rows → is_shown rows i ≡ false → is_changed (slice_index_or rows i (pair [] [])) ≡ false
+pub hidden_is_same : (rows : List Pair) (i : ℕ) → i < length rows → is_shown rows i ≡ false → is_changed (slice_index_or rows i (pair [] [])) ≡ false
 hidden_is_same rows i l h =
     not_true (is_changed (get_or rows i (pair [] []))) (λ c. sym h ∙ changed_is_shown rows i (pair [] []) l c)
+
+pub whole_lines-concat : (text : List ℕ) → concat (whole_lines text) ≡ text
+unfolding joined
+whole_lines-concat text = concat_is (whole_lines text) ∙ whole_lines-joined text
 
 pub are_the_texts : (old new : List ℕ) → AreTheTexts old new (rows_of old new)
 unfolding joined

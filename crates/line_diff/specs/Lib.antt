@@ -1,1 +1,2 @@
 pub mod Diff
+pub mod Applied

@@ -8,10 +8,11 @@
 //! put_diff(alloc, &mut diff, "f", &old, &new)?;
 //! ```
 //!
-//! It stands on nothing but std.
+//! It stands on `foreign_text` alone.
 #![tactic(auto)]
 
-ghost use Rattle.std.specs.Prelude.{◌≡◌, ◌++◌, OnOk};
+ghost use Rattle.std.specs.Prelude.{◌≡◌, ◌++◌, OnOk, Some};
+ghost use Rattle.line_diff.specs.Applied.{applied};
 ghost use Rattle.line_diff.specs.Diff.{AreTheTexts, NamesThisFile, names_text, rows_of, diff_of};
 
 mod hunks;
@@ -36,7 +37,7 @@ fn put_names(alloc: Global, text: &mut Vec<u8>, name: &str) -> Result<(), AllocE
 
 /// Appends the unified diff of two texts behind `text`, with three lines of context, under the names `a/NAME` and
 /// `b/NAME`. These are written as git writes them, so that whatever a name holds, its line is read as this name. Of equal
-/// texts it appends nothing. Linear.
+/// texts it appends nothing. The diff, applied to the old text line by line, gives the new one. Linear.
 ///
 /// # Errors
 ///
@@ -52,6 +53,7 @@ pub fn put_diff(
         ≡ text.old.items ++ diff_of name.now (rows_of old.now new.now)) }
     ensures names { NamesThisFile name.now }
     ensures texts { AreTheTexts old.now new.now (rows_of old.now new.now) }
+    ensures applies { applied (diff_of name.now (rows_of old.now new.now)) old.now ≡ Some new.now }
 {
     let rows = rows_of(alloc, old, new)?;
     if !any_changed(&rows) {

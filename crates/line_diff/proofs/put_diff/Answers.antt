@@ -1,8 +1,9 @@
-use Rattle.std.proofs.Common.{◌≡◌, ◌++◌, ℕ, Bool, true, false, cond, List, [], OnOk, length, map, sym, ap, ◌∙◌, subst, append_assoc, append-nil}
+use Rattle.std.proofs.Common.{◌≡◌, ◌++◌, ℕ, Bool, true, false, cond, List, [], OnOk, length, map, sym, ap, ◌∙◌, subst, append_assoc, append-nil, arith}
 use Rattle.std.specs.List.{flat_map, list_any, range_with_len}
 use Rattle.std.proofs.lemmas.List.{length-map}
 use Rattle.line_diff.specs.declared.rows.Row.{Row}
 use Rattle.line_diff.specs.Diff.{Pair, pair_of, is_changed, rows_of, shown_text, names_text, diff_of}
+use Rattle.line_diff.proofs.Applies.{diff_applies}
 use Rattle.line_diff.proofs.Shown.{list_any-map}
 use Rattle.line_diff.proofs.Heads.{names_this_file}
 use Rattle.line_diff.proofs.Sides.{are_the_texts}
@@ -65,3 +66,15 @@ returns-in_err-put_names-clause-texts c = are_the_texts c.args.old.now c.args.ne
 
 pub returns-clause-texts : goal.returns-clause-texts
 returns-clause-texts c = are_the_texts c.args.old.now c.args.new.now
+
+pub returns-then-not-any_changed-clause-applies : goal.returns-then-not-any_changed-clause-applies
+returns-then-not-any_changed-clause-applies c = diff_applies c.args.name.now c.args.old.now c.args.new.now (omega arith) (omega arith)
+
+pub returns-in_err-rows-clause-applies : goal.returns-in_err-rows-clause-applies
+returns-in_err-rows-clause-applies c = diff_applies c.args.name.now c.args.old.now c.args.new.now (omega arith) (omega arith)
+
+pub returns-in_err-put_names-clause-applies : goal.returns-in_err-put_names-clause-applies
+returns-in_err-put_names-clause-applies c = diff_applies c.args.name.now c.args.old.now c.args.new.now (omega arith) (omega arith)
+
+pub returns-clause-applies : goal.returns-clause-applies
+returns-clause-applies c = diff_applies c.args.name.now c.args.old.now c.args.new.now (omega arith) (omega arith)
