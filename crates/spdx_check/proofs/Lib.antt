@@ -1,3 +1,4 @@
+pub mod Blanks
 pub mod Fixes
 pub mod Findings
 pub mod Writing

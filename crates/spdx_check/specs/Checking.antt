@@ -1,7 +1,7 @@
 -- What is written of the expressions of a file.
-use Rattle.std.specs.Prelude.{◌≡◌, ℕ, ◌+◌, ◌-◌, ◌==◌, Bool, ◌&&◌, not, List, [], ◌++◌, length, map, take, slice_index, Option, None, Some, is_some, Result, if◌then◌else◌}
+use Rattle.std.specs.Prelude.{◌≡◌, ℕ, ◌+◌, ◌-◌, ◌==◌, Bool, true, false, ◌&&◌, not, List, [], ◌∷◌, ◌++◌, length, map, take, slice_index, Option, None, Some, is_some, Result, if◌then◌else◌}
 use Rattle.std.specs.Char.{is_ascii_whitespace}
-use Rattle.std.specs.List.{list_all, list_any}
+use Rattle.std.specs.List.{filter_map, list_all, list_any}
 use Rattle.std.specs.Result.{result_map_both}
 use Rattle.line_engine.specs.declared.lines.RunFault.{RunFault}
 use Rattle.line_engine.specs.declared.lines.Summary.{Summary}
@@ -90,12 +90,33 @@ rule_by finding form is_first file = record {
   closing = λ lines. [];
 }
 
+-- ---- lines of white space
+
+-- each byte is a blank, a tab, a line feed, a form feed or a carriage return
+abbrev pub is_white : List ℕ → Bool
+is_white line = list_all is_ascii_whitespace line
+
+-- what is found in lines, one behind another
+abbrev pub found_in : (List ℕ → Option Wrong) → List (List ℕ) → List Wrong
+found_in finding lines = filter_map (finding_in_line finding) lines
+
+-- A line of white space adds nothing, wherever it stands: nothing is written of it, it isn't refused, and in the other lines
+-- the same is found. Any other line has the finding of its expression.
+pub record LeavesOutWhite (finding : List ℕ → Option Wrong) (rule : Rule) : Type 0 where
+  pub text : (before : List (List ℕ)) (line : List ℕ) → is_white line ≡ true → rule.text before line ≡ []
+  pub refuses : (line : List ℕ) → is_white line ≡ true → rule.refuses line ≡ false
+  pub found : (front back : List (List ℕ)) (line : List ℕ) → is_white line ≡ true → found_in finding (front ++ line ∷ back) ≡ found_in finding (front ++ back)
+  pub others : (line : List ℕ) → is_white line ≡ false → finding_in_line finding line ≡ finding (expression_of line)
+
+-- ---- a run
+
 -- the lines and the refused ones
 abbrev pub summary_in : Result Checked RunFault → Result Summary RunFault
 summary_in result = result_map_both (λ (c : Checked). c.summary) (λ (fault : RunFault). fault) result
 
--- the run writes the finding of each line that has one, and counts the lines
+-- the run writes the finding of each line that has one, and counts the lines; one of white space has none
 pub record ChecksLines (check : Check) (is_first : Bool) (file : List ℕ) (d : Devices) (result : Result Checked RunFault) : Type 0 where
   pub finding : List ℕ → Option Wrong
   pub findings : (bytes : List ℕ) → IsTheFinding check.catalogue.now (heirs_in check) check.mode bytes (finding bytes)
   pub runs : Runs (rule_by finding check.form is_first file) d (summary_in result)
+  pub blank : LeavesOutWhite finding (rule_by finding check.form is_first file)
