@@ -64,7 +64,11 @@ all_of read (x ∷ xs) = on_ok (read x) (λ ys. on_ok (all_of read xs) (λ zs. O
 abbrev pub texts_of : List ItemRow → Result (List (List ℕ)) Fault
 texts_of items = each (λ i. text_of (i.at ++ codes "") (Some i.holds)) items
 
--- what stands at a pointer, if it is an object
-abbrev pub object_of : List ℕ → Data → Result Data Fault
-object_of at (object ms) = Ok (object ms)
-object_of at d = Err (not_object at (found_of (Some d)))
+-- the object that stands at a pointer
+abbrev pub object_at : List ℕ → Option Data → Result Data Fault
+object_at at (Some (object ms)) = Ok (object ms)
+object_at at found = Err (not_object at (found_of found))
+
+-- what an item gives, if it is an object; what its members give is not asked of other items
+abbrev pub if_object : {A : Type 0} → ItemRow → Result A Fault → Result A Fault
+if_object i gives = on_ok (object_at i.at (Some i.holds)) (λ d. gives)

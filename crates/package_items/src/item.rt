@@ -1,6 +1,6 @@
 // The items of lists and objects, each at its place.
 
-ghost use Rattle.std.specs.Prelude.{◌≡◌, ◌++◌, Ok, Err, IfOk, IfErr, OnOk, map, string_bytes};
+ghost use Rattle.std.specs.Prelude.{◌≡◌, ◌++◌, Some, Ok, Err, IfOk, IfErr, OnOk, map, string_bytes};
 ghost use Rattle.serde_json.specs.View.{items_view, members_view, view};
 ghost use Rattle.package_items.specs.Items as spec;
 ghost use Rattle.package_items.specs.Rows.{Says, item_row, not_list, not_object};
@@ -138,15 +138,55 @@ fn no_object(alloc: Global, at: &str, found: Option<&Value>) -> SourceError
 ///
 /// That it is something else, or that memory was refused.
 pub fn check_object(alloc: Global, item: &Item<'_>) -> Result<(), SourceError>
-    ensures ok { IfOk result (λ _. spec.object_of (item_row item.now).at
-        (item_row item.now).holds ≡ Ok (item_row item.now).holds) }
-    ensures err { IfErr result (Says (λ f. spec.object_of (item_row item.now).at
-        (item_row item.now).holds ≡ Err f)) }
+    ensures ok { IfOk result (λ _. spec.object_at (item_row item.now).at
+        (Some (item_row item.now).holds) ≡ Ok (item_row item.now).holds) }
+    ensures err { IfErr result (Says (λ f. spec.object_at (item_row item.now).at
+        (Some (item_row item.now).holds) ≡ Err f)) }
 {
     match item.value {
         Value::Object(_) => Ok(()),
         _ => Err(no_object(alloc, item.at.as_str(), Some(item.value))),
     }
+}
+
+/// The object that stands at a pointer.
+///
+/// # Errors
+///
+/// That no object stands there, or that memory was refused.
+pub fn object_at<'v>(
+    alloc: Global,
+    at: &str,
+    found: Option<&'v Value>,
+) -> Result<&'v Value, SourceError>
+    ensures ok { IfOk result (λ v. spec.object_at at.now (seen found.entry) ≡ Ok (view v.now)) }
+    ensures err { IfErr result (Says (λ f. spec.object_at at.now (seen found.entry) ≡ Err f)) }
+{
+    match found {
+        Some(value @ Value::Object(_)) => Ok(value),
+        _ => Err(no_object(alloc, at, found)),
+    }
+}
+
+/// The object that stands at a pointer from an item.
+///
+/// # Errors
+///
+/// That no object stands there, or that memory was refused.
+pub fn object_in<'v>(
+    alloc: Global,
+    item: &Item<'_>,
+    pointer: &str,
+    found: Option<&'v Value>,
+) -> Result<&'v Value, SourceError>
+    ensures ok { IfOk result (λ v. spec.object_at ((item_row item.now).at ++ pointer.now)
+        (seen found.entry) ≡ Ok (view v.now)) }
+    ensures err { IfErr result (Says (λ f. spec.object_at ((item_row item.now).at ++ pointer.now)
+        (seen found.entry) ≡ Err f)) }
+{
+    let start = item.at.as_str();
+    let at = format!(in alloc; "{start}{pointer}")?;
+    object_at(alloc, at.as_str(), found)
 }
 
 /// The items of the list that stands at a pointer, in their order.

@@ -17,7 +17,7 @@ pub mod texts;
 pub use crate::error::{Found, SourceError, SourceFault};
 pub use crate::item::{
     Item, check_object, list_in, list_in_if_any, list_items, list_items_if_any, member_item,
-    member_items, member_items_if_any, root_item,
+    member_items, member_items_if_any, object_at, object_in, root_item,
 };
 pub use crate::joined::license_of_all;
 pub use crate::json::{found_of, value_of};

@@ -7,7 +7,7 @@ use Rattle.serde_json.specs.Find.{get}
 use Rattle.package_items.specs.Rows.{Fault, LicenseRow, unstated, ItemRow, PackageRow}
 use Rattle.package_items.specs.Texts.{license_in, license_of_all}
 use Rattle.package_items.specs.Members.{on_ok, text_if_any}
-use Rattle.package_items.specs.Items.{list_items, member_items, texts_of, object_of, each}
+use Rattle.package_items.specs.Items.{list_items, member_items, texts_of, if_object, each}
 use Rattle.package_items.specs.Packages.{said}
 
 -- both parts of a key; there are none if the first is empty, for a scope of names begins with an at sign
@@ -74,7 +74,7 @@ with_file file n p =
 -- the package that a member is; what is guessed is evidence
 abbrev pub checked : ItemRow → Result PackageRow Fault
 checked i =
-    on_ok (object_of i.at i.holds) (λ d. on_ok (license i) (λ l.
+    if_object i (on_ok (license i) (λ l.
     on_ok (text_if_any (i.at ++ codes "/licenseFile") (get (codes "licenseFile") i.holds)) (λ file.
     Ok (with_file file (guesses i) (said i (name_of i.key) (version_of i.key) l)))))
 

@@ -5,7 +5,7 @@ use Rattle.serde_json.specs.Find.{get}
 use Rattle.package_items.specs.Rows.{Fault, LicenseRow, unstated, ItemRow, PackageRow}
 use Rattle.package_items.specs.Texts.{license_in}
 use Rattle.package_items.specs.Members.{on_ok, text_of, text_if_any}
-use Rattle.package_items.specs.Items.{list_items, list_items_if_any, member_items, texts_of, all_of}
+use Rattle.package_items.specs.Items.{list_items, list_items_if_any, member_items, texts_of, if_object, all_of}
 use Rattle.package_items.specs.Packages.{said}
 
 -- what the name of a group says: `Unknown` says nothing
@@ -30,8 +30,8 @@ each_version text i name versions = map (λ v. said i name v (license text)) ver
 -- the packages of an item, under the license that its group is named by
 abbrev pub packages_of : List ℕ → ItemRow → Result (List PackageRow) Fault
 packages_of text i =
-    on_ok (text_of (i.at ++ codes "/name") (get (codes "name") i.holds)) (λ name. on_ok (versions i) (λ vs.
-    Ok (each_version text i name vs)))
+    if_object i (on_ok (text_of (i.at ++ codes "/name") (get (codes "name") i.holds)) (λ name. on_ok (versions i) (λ vs.
+    Ok (each_version text i name vs))))
 
 abbrev pub group_packages : ItemRow → Result (List PackageRow) Fault
 group_packages g = on_ok (list_items (g.at ++ codes "") (Some g.holds)) (λ is. all_of (packages_of g.key) is)

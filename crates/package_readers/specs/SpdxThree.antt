@@ -6,7 +6,7 @@ use Rattle.serde_json.specs.Find.{get}
 use Rattle.package_items.specs.Rows.{Fault, LicenseRow, ItemRow, PackageRow}
 use Rattle.package_items.specs.Texts.{license_of_all}
 use Rattle.package_items.specs.Members.{on_ok, text_of, text_if_any}
-use Rattle.package_items.specs.Items.{list_items, root_item, texts_of, all_of}
+use Rattle.package_items.specs.Items.{list_items, root_item, texts_of, if_object, all_of}
 use Rattle.package_items.specs.Packages.{said}
 use Rattle.package_readers.specs.declared.spdx_three.Relation.{Relation}
 use Rattle.package_readers.specs.declared.spdx_three.Wording.{Wording}
@@ -41,7 +41,7 @@ abbrev pub elements : Data → Result (List ItemRow) Fault
 elements d = elements_in d (get (codes "@graph") d)
 
 abbrev pub type_of : ItemRow → Result (List ℕ) Fault
-type_of i = text_of (i.at ++ codes "/type") (get (codes "type") i.holds)
+type_of i = if_object i (text_of (i.at ++ codes "/type") (get (codes "type") i.holds))
 
 -- what an element of that type gives; others give nothing
 abbrev pub of_type : {A : Type 0} → List ℕ → ItemRow → Result (List A) Fault → Result (List A) Fault

@@ -7,8 +7,8 @@ ghost use Rattle.package_items.specs.Rows.{Says, item_row, license_of, row_of};
 ghost use Rattle.package_readers.specs.Pnpm as spec;
 
 use package_items::{
-    Item, License, Package, SourceError, license_in, list_in, list_in_if_any, member_items, said,
-    text_if_any, text_of, texts_of,
+    Item, License, Package, SourceError, check_object, license_in, list_in, list_in_if_any,
+    member_items, said, text_if_any, text_of, texts_of,
 };
 use serde_json::Value;
 use std::alloc::{AllocError, Global};
@@ -88,6 +88,7 @@ fn packages_of(alloc: Global, text: &str, item: &Item<'_>) -> Result<Vec<Package
     ensures err { IfErr result (Says (λ f.
         spec.packages_of text.now (item_row item.now) ≡ Err f)) }
 {
+    check_object(alloc, item)?;
     let name = text_of(alloc, item, "/name", item.value.get("name"))?;
     let versions = versions(alloc, item)?;
     Ok(each_version(alloc, text, item, name, versions.as_slice())?)

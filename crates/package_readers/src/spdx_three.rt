@@ -8,8 +8,8 @@ ghost use Rattle.package_readers.specs.SpdxThree as spec;
 
 use crate::license_checker::is_list;
 use package_items::{
-    Item, License, Package, SourceError, license_of_all, list_in, list_items, root_item, said,
-    text_if_any, text_of, texts_of,
+    Item, License, Package, SourceError, check_object, license_of_all, list_in, list_items,
+    root_item, said, text_if_any, text_of, texts_of,
 };
 use serde_json::Value;
 use std::alloc::{AllocError, Global};
@@ -33,6 +33,7 @@ fn type_of<'v>(alloc: Global, element: &Item<'v>) -> Result<&'v str, SourceError
     ensures ok { IfOk result (λ t. spec.type_of (item_row element.now) ≡ Ok t.now) }
     ensures err { IfErr result (Says (λ f. spec.type_of (item_row element.now) ≡ Err f)) }
 {
+    check_object(alloc, element)?;
     text_of(alloc, element, "/type", element.value.get("type"))
 }
 

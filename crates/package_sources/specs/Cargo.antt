@@ -5,7 +5,7 @@ use Rattle.serde_json.specs.Data.{Data, string}
 use Rattle.serde_json.specs.Find.{get}
 use Rattle.package_items.specs.Rows.{Fault, LicenseRow, ItemRow, PackageRow}
 use Rattle.package_items.specs.Members.{on_ok, text_of, text_if_any, license_if_any}
-use Rattle.package_items.specs.Items.{each}
+use Rattle.package_items.specs.Items.{if_object, each}
 use Rattle.package_items.specs.Packages.{said}
 use Rattle.package_sources.specs.Texts.{slashes_as_or}
 
@@ -36,11 +36,11 @@ with_file file own p =
 -- the package that an item is; the members of the workspace are one's own
 abbrev pub cargo : List ItemRow → ItemRow → Result PackageRow Fault
 cargo members i =
-    on_ok (text_of (i.at ++ codes "/name") (get (codes "name") i.holds)) (λ name.
+    if_object i (on_ok (text_of (i.at ++ codes "/name") (get (codes "name") i.holds)) (λ name.
     on_ok (text_if_any (i.at ++ codes "/version") (get (codes "version") i.holds)) (λ version.
     on_ok (cargo_license i) (λ license.
     on_ok (text_if_any (i.at ++ codes "/license_file") (get (codes "license_file") i.holds)) (λ file.
-    Ok (with_file file (is_own members i) (said i name version license))))))
+    Ok (with_file file (is_own members i) (said i name version license)))))))
 
 -- the packages that items are: each is one, in their order
 abbrev pub cargo_packages : List ItemRow → List ItemRow → Result (List PackageRow) Fault

@@ -5,7 +5,7 @@ use Rattle.serde_json.specs.Data.{Data, string}
 use Rattle.serde_json.specs.Find.{get}
 use Rattle.package_items.specs.Rows.{Fault, LicenseRow, ItemRow, PackageRow}
 use Rattle.package_items.specs.Members.{on_ok, text_of, text_if_any}
-use Rattle.package_items.specs.Items.{list_items, list_items_if_any}
+use Rattle.package_items.specs.Items.{list_items, list_items_if_any, object_at, if_object}
 use Rattle.package_items.specs.Nested.{in_list, with_parts, all_with_parts}
 use Rattle.package_items.specs.Texts.{license_of_all}
 use Rattle.package_items.specs.Packages.{said}
@@ -20,15 +20,19 @@ first_text (Err f) next = Err f
 first_text (Ok (Some text)) next = Ok text
 first_text (Ok None) next = next
 
--- the id of a license, or else its name
+-- the id of the license of an entry, or else its name
+abbrev pub id_or_name : ItemRow → Data → Result (List ℕ) Fault
+id_or_name i license =
+    first_text (text_if_any (i.at ++ codes "/license/id") (get (codes "id") license))
+    (text_of (i.at ++ codes "/license/name") (get (codes "name") license))
+
 abbrev pub license_text : ItemRow → Result (List ℕ) Fault
-license_text i =
-    first_text (text_if_any (i.at ++ codes "/license/id") (inner (codes "license") (codes "id") i.holds))
-    (text_of (i.at ++ codes "/license/name") (inner (codes "license") (codes "name") i.holds))
+license_text i = on_ok (object_at (i.at ++ codes "/license") (get (codes "license") i.holds)) (id_or_name i)
 
 -- an expression, or else what a license says
 abbrev pub entry_text : ItemRow → Result (List ℕ) Fault
-entry_text i = first_text (text_if_any (i.at ++ codes "/expression") (get (codes "expression") i.holds)) (license_text i)
+entry_text i =
+    if_object i (first_text (text_if_any (i.at ++ codes "/expression") (get (codes "expression") i.holds)) (license_text i))
 
 abbrev pub says_concluded : Option Data → Bool
 says_concluded (Some (string s)) = bytes_eq s (codes "concluded")
@@ -76,8 +80,9 @@ with_evidence n p =
 -- the package that a component or a service is
 abbrev pub cyclonedx : ItemRow → Result PackageRow Fault
 cyclonedx i =
-    on_ok (name_of i) (λ name. on_ok (text_if_any (i.at ++ codes "/version") (get (codes "version") i.holds)) (λ version.
-    on_ok (license i) (λ l. on_ok (evidence i) (λ n. Ok (with_evidence n (said i name version l))))))
+    if_object i (on_ok (name_of i) (λ name.
+    on_ok (text_if_any (i.at ++ codes "/version") (get (codes "version") i.holds)) (λ version.
+    on_ok (license i) (λ l. on_ok (evidence i) (λ n. Ok (with_evidence n (said i name version l)))))))
 
 abbrev pub is_text : List ℕ → Option Data → Bool
 is_text text (Some (string s)) = bytes_eq s text

@@ -91,8 +91,9 @@ unfoldable pub tree_parts : List ℕ → Data → Result (List ItemRow) Fault
 tree_parts stand_in d = with_parts (in_object (codes "dependencies")) 64 (root_item stand_in true d)
 
 abbrev pub tree_items : List ℕ → Data → Option Data → Result (List ItemRow) Fault
-tree_items stand_in d (Some (object ms)) = entry_items stand_in (object ms)
-tree_items stand_in d found = tree_parts stand_in d
+tree_items stand_in d None = tree_parts stand_in d
+tree_items stand_in d (Some null) = tree_parts stand_in d
+tree_items stand_in d (Some entries) = entry_items stand_in entries
 
 -- the packages of the entries of a lock file, of a tree, or of a package.json
 abbrev pub npm_items : List ℕ → Data → Result (List ItemRow) Fault

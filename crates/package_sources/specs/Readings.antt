@@ -9,7 +9,7 @@ use Rattle.package_sources.specs.declared.reading.Reading.TheVariants as reading
 use Rattle.package_sources.specs.declared.several.Entry.TheVariants as entry
 use Rattle.package_items.specs.Rows.{Fault, LicenseRow, unstated, ItemRow, PackageRow}
 use Rattle.package_items.specs.Members.{on_ok, text_of, text_if_any, license_at}
-use Rattle.package_items.specs.Items.{list_items, each}
+use Rattle.package_items.specs.Items.{list_items, if_object, each}
 use Rattle.package_items.specs.Packages.{said_of}
 use Rattle.package_sources.specs.Several.{choice_of}
 use Rattle.package_sources.specs.Npm.{is_list, name_of, npm_license}
@@ -30,7 +30,8 @@ pointed p i =
 -- ---- npm
 
 abbrev pub npm : ItemRow → Result PackageRow Fault
-npm i = said_of i (name_of i) (text_if_any (i.at ++ codes "/version") (get (codes "version") i.holds)) (npm_license i)
+npm i =
+    if_object i (said_of i (name_of i) (text_if_any (i.at ++ codes "/version") (get (codes "version") i.holds)) (npm_license i))
 
 -- ---- Composer
 
@@ -42,7 +43,8 @@ composer_license i =
     else license_at (i.at ++ codes "/license") (get (codes "license") i.holds)
 
 abbrev pub composer : ItemRow → Result PackageRow Fault
-composer i = said_of i (name_of i) (text_if_any (i.at ++ codes "/version") (get (codes "version") i.holds)) (composer_license i)
+composer i =
+    if_object i (said_of i (name_of i) (text_if_any (i.at ++ codes "/version") (get (codes "version") i.holds)) (composer_license i))
 
 -- ---- pip
 
@@ -58,8 +60,8 @@ pip_license i =
 
 abbrev pub pip : ItemRow → Result PackageRow Fault
 pip i =
-    said_of i (text_of (i.at ++ codes "/Name") (get (codes "Name") i.holds))
-    (text_if_any (i.at ++ codes "/Version") (get (codes "Version") i.holds)) (pip_license i)
+    if_object i (said_of i (text_of (i.at ++ codes "/Name") (get (codes "Name") i.holds))
+    (text_if_any (i.at ++ codes "/Version") (get (codes "Version") i.holds)) (pip_license i))
 
 -- ---- each form
 

@@ -12,7 +12,7 @@ use Rattle.package_sources.specs.declared.reading.Reading.TheVariants as reading
 use Rattle.package_items.specs.Rows.{Fault, not_json, ItemRow, PackageRow}
 use Rattle.package_items.specs.Values.{value_in}
 use Rattle.package_items.specs.Members.{on_ok}
-use Rattle.package_items.specs.Items.{list_items, list_items_if_any, root_item}
+use Rattle.package_items.specs.Items.{list_items, list_items_if_any, object_at, root_item}
 use Rattle.package_readers.specs.LicenseChecker.{checked_packages}
 use Rattle.package_readers.specs.Metadata.{metadata_packages}
 use Rattle.package_readers.specs.Pnpm.{pnpm_packages}
@@ -38,6 +38,10 @@ value_or_fault (Some d) = Ok d
 -- the one value of the file
 unfoldable pub document : List ℕ → Result Data Fault
 document bytes = value_or_fault (value_in bytes)
+
+-- the same, if it is an object
+abbrev pub object_document : List ℕ → Result Data Fault
+object_document bytes = on_ok (document bytes) (λ d. object_at (codes "") (Some d))
 
 -- the packages of the list; those that are members of the workspace are one's own
 abbrev pub cargo : Data → Result (List PackageRow) Fault
@@ -79,16 +83,16 @@ abbrev pub packages_in : Form → List ℕ → List ℕ → Result (List Package
 packages_in form.Lines folder bytes = packages_in_lines bytes
 packages_in (form.Tsv header) folder bytes = packages_in_table separator.Tab header bytes
 packages_in (form.Csv header) folder bytes = packages_in_table separator.Comma header bytes
-packages_in form.Cargo folder bytes = on_ok (document bytes) cargo
-packages_in form.Npm folder bytes = on_ok (document bytes) (npm folder)
-packages_in form.Composer folder bytes = on_ok (document bytes) (composer folder)
+packages_in form.Cargo folder bytes = on_ok (object_document bytes) cargo
+packages_in form.Npm folder bytes = on_ok (object_document bytes) (npm folder)
+packages_in form.Composer folder bytes = on_ok (object_document bytes) (composer folder)
 packages_in form.Pip folder bytes = on_ok (document bytes) pip
-packages_in form.CycloneDx folder bytes = on_ok (document bytes) cyclonedx
-packages_in form.Spdx folder bytes = on_ok (document bytes) spdx
+packages_in form.CycloneDx folder bytes = on_ok (object_document bytes) cyclonedx
+packages_in form.Spdx folder bytes = on_ok (object_document bytes) spdx
 packages_in form.LicenseChecker folder bytes = on_ok (document bytes) checked_packages
 packages_in form.Pnpm folder bytes = on_ok (document bytes) pnpm_packages
 packages_in form.Metadata folder bytes = metadata_packages bytes
-packages_in form.SpdxThree folder bytes = on_ok (document bytes) graph_packages
+packages_in form.SpdxThree folder bytes = on_ok (object_document bytes) graph_packages
 packages_in form.Verdicts folder bytes = verdict_packages bytes
 
 -- the packages that a file of the form lists, or its first fault

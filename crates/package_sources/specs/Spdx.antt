@@ -3,8 +3,8 @@ use Rattle.std.specs.Prelude.{List, ◌++◌, Option, Some, None, Result, Ok, Er
 use Rattle.serde_json.specs.Data.{Data}
 use Rattle.serde_json.specs.Find.{get}
 use Rattle.package_items.specs.Rows.{Fault, LicenseRow, unstated, stated, ItemRow, PackageRow}
-use Rattle.package_items.specs.Members.{text_of, text_if_any, license_at}
-use Rattle.package_items.specs.Items.{list_items}
+use Rattle.package_items.specs.Members.{on_ok, text_of, text_if_any, license_at}
+use Rattle.package_items.specs.Items.{list_items, object_at, if_object}
 use Rattle.package_items.specs.Packages.{said_of}
 
 -- the first, if it is stated, else the next
@@ -21,11 +21,12 @@ license i =
 
 abbrev pub spdx : ItemRow → Result PackageRow Fault
 spdx i =
-    said_of i (text_of (i.at ++ codes "/name") (get (codes "name") i.holds))
-    (text_if_any (i.at ++ codes "/versionInfo") (get (codes "versionInfo") i.holds)) (license i)
+    if_object i (said_of i (text_of (i.at ++ codes "/name") (get (codes "name") i.holds))
+    (text_if_any (i.at ++ codes "/versionInfo") (get (codes "versionInfo") i.holds)) (license i))
 
 abbrev pub items_in : Data → Option Data → Result (List ItemRow) Fault
-items_in d (Some bill) = list_items (codes "/sbom/packages") (get (codes "packages") bill)
+items_in d (Some bill) =
+    on_ok (object_at (codes "/sbom") (Some bill)) (λ b. list_items (codes "/sbom/packages") (get (codes "packages") b))
 items_in d None = list_items (codes "/packages") (get (codes "packages") d)
 
 -- the packages of a document, or of the bill that GitHub wraps

@@ -8,7 +8,8 @@ ghost use Rattle.package_sources.specs.Cargo as spec;
 
 use crate::texts::slashes_as_or;
 use package_items::{
-    Item, License, Package, SourceError, copy_of, license_in, said, text_if_any, text_of,
+    Item, License, Package, SourceError, check_object, copy_of, license_in, said, text_if_any,
+    text_of,
 };
 use serde_json::Value;
 use std::alloc::Global;
@@ -62,6 +63,7 @@ fn cargo(alloc: Global, members: &[Item<'_>], item: &Item<'_>) -> Result<Package
     ensures err { IfErr result (Says (λ f.
         spec.cargo (map item_row members.now) (item_row item.now) ≡ Err f)) }
 {
+    check_object(alloc, item)?;
     let name = text_of(alloc, item, "/name", item.value.get("name"))?;
     let version = text_if_any(alloc, item, "/version", item.value.get("version"))?;
     let license = cargo_license(alloc, item)?;

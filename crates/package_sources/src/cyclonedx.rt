@@ -9,8 +9,9 @@ ghost use Rattle.package_sources.specs.CycloneDx as spec;
 ghost use Rattle.std.specs.List.{list_any};
 
 use package_items::{
-    Item, License, Package, Parts, SourceError, all_with_parts, license_of_all, list_in_if_any,
-    list_items, list_items_if_any, said, text_if_any, text_of, with_parts,
+    Item, License, Package, Parts, SourceError, all_with_parts, check_object, license_of_all,
+    list_in_if_any, list_items, list_items_if_any, object_in, said, text_if_any, text_of,
+    with_parts,
 };
 use serde_json::Value;
 use std::alloc::{AllocError, Global};
@@ -30,17 +31,10 @@ fn license_text<'v>(alloc: Global, entry: &Item<'v>) -> Result<&'v str, SourceEr
     ensures ok { IfOk result (λ t. spec.license_text (item_row entry.now) ≡ Ok t.now) }
     ensures err { IfErr result (Says (λ f. spec.license_text (item_row entry.now) ≡ Err f)) }
 {
-    match text_if_any(
-        alloc,
-        entry,
-        "/license/id",
-        inner(entry.value, "license", "id"),
-    )? {
+    let license = object_in(alloc, entry, "/license", entry.value.get("license"))?;
+    match text_if_any(alloc, entry, "/license/id", license.get("id"))? {
         Some(text) => Ok(text),
-        None => {
-            let name = inner(entry.value, "license", "name");
-            text_of(alloc, entry, "/license/name", name)
-        }
+        None => text_of(alloc, entry, "/license/name", license.get("name")),
     }
 }
 
@@ -49,6 +43,7 @@ fn entry_text<'v>(alloc: Global, entry: &Item<'v>) -> Result<&'v str, SourceErro
     ensures ok { IfOk result (λ t. spec.entry_text (item_row entry.now) ≡ Ok t.now) }
     ensures err { IfErr result (Says (λ f. spec.entry_text (item_row entry.now) ≡ Err f)) }
 {
+    check_object(alloc, entry)?;
     match text_if_any(alloc, entry, "/expression", entry.value.get("expression"))? {
         Some(text) => Ok(text),
         None => license_text(alloc, entry),
@@ -147,6 +142,7 @@ pub(crate) fn cyclonedx(alloc: Global, item: &Item<'_>) -> Result<Package, Sourc
     ensures ok { IfOk result (λ p. spec.cyclonedx (item_row item.now) ≡ Ok (row_of p)) }
     ensures err { IfErr result (Says (λ f. spec.cyclonedx (item_row item.now) ≡ Err f)) }
 {
+    check_object(alloc, item)?;
     let name = name_of(alloc, item)?;
     let version = text_if_any(alloc, item, "/version", item.value.get("version"))?;
     let license = license(alloc, item)?;

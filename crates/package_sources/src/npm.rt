@@ -235,7 +235,7 @@ pub(crate) fn npm_items<'v>(
         return Ok(items);
     }
     match document.get("packages") {
-        Some(entries @ Value::Object(_)) => entry_items(alloc, stand_in, entries),
-        _ => tree_parts(alloc, stand_in, document),
+        None | Some(Value::Null) => tree_parts(alloc, stand_in, document),
+        Some(entries) => entry_items(alloc, stand_in, entries),
     }
 }

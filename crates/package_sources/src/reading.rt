@@ -14,7 +14,8 @@ use crate::npm::{is_list, name_of, npm_license};
 use crate::several::{Entry, choice_of};
 use crate::spdx::spdx;
 use package_items::{
-    Item, License, Package, SourceError, license_at, list_in, said, text_if_any, text_of,
+    Item, License, Package, SourceError, check_object, license_at, list_in, said, text_if_any,
+    text_of,
 };
 use serde_json::Value;
 use std::alloc::Global;
@@ -73,6 +74,7 @@ fn npm(alloc: Global, item: &Item<'_>) -> Result<Package, SourceError>
     ensures ok { IfOk result (λ p. spec.npm (item_row item.now) ≡ Ok (row_of p)) }
     ensures err { IfErr result (Says (λ f. spec.npm (item_row item.now) ≡ Err f)) }
 {
+    check_object(alloc, item)?;
     let name = name_of(alloc, item)?;
     let version = text_if_any(alloc, item, "/version", item.value.get("version"))?;
     let license = npm_license(alloc, item)?;
@@ -98,6 +100,7 @@ fn composer(alloc: Global, item: &Item<'_>) -> Result<Package, SourceError>
     ensures ok { IfOk result (λ p. spec.composer (item_row item.now) ≡ Ok (row_of p)) }
     ensures err { IfErr result (Says (λ f. spec.composer (item_row item.now) ≡ Err f)) }
 {
+    check_object(alloc, item)?;
     let name = name_of(alloc, item)?;
     let version = text_if_any(alloc, item, "/version", item.value.get("version"))?;
     let license = composer_license(alloc, item)?;
@@ -130,6 +133,7 @@ fn pip(alloc: Global, item: &Item<'_>) -> Result<Package, SourceError>
     ensures ok { IfOk result (λ p. spec.pip (item_row item.now) ≡ Ok (row_of p)) }
     ensures err { IfErr result (Says (λ f. spec.pip (item_row item.now) ≡ Err f)) }
 {
+    check_object(alloc, item)?;
     let name = text_of(alloc, item, "/Name", item.value.get("Name"))?;
     let version = text_if_any(alloc, item, "/Version", item.value.get("Version"))?;
     let license = pip_license(alloc, item)?;

@@ -13,7 +13,7 @@ use crate::pointer::checked;
 use crate::reading::{Reading, packages_of};
 use crate::spdx::spdx_items;
 use package_items::{
-    Item, Package, SourceError, list_items, list_items_if_any, root_item, value_of,
+    Item, Package, SourceError, list_items, list_items_if_any, object_at, root_item, value_of,
 };
 use package_readers::{
     Separator, checked_packages, graph_packages, metadata_packages, packages_in_lines,
@@ -39,6 +39,16 @@ pub(crate) fn document(alloc: Global, bytes: &[u8]) -> Result<Value, SourceError
     ensures err { IfErr result (Says (λ f. spec.document bytes.now ≡ Err f)) }
 {
     value_of(alloc, bytes)
+}
+
+// The one value of the file, which is an object.
+fn object_document(alloc: Global, bytes: &[u8]) -> Result<Value, SourceError>
+    ensures ok { IfOk result (λ v. spec.object_document bytes.now ≡ Ok (view v)) }
+    ensures err { IfErr result (Says (λ f. spec.object_document bytes.now ≡ Err f)) }
+{
+    let value = document(alloc, bytes)?;
+    object_at(alloc, "", Some(&value))?;
+    Ok(value)
 }
 
 fn cargo(alloc: Global, document: &Value) -> Result<Vec<Package>, SourceError>
@@ -143,16 +153,16 @@ pub fn packages(
         Form::Lines => packages_in_lines(alloc, bytes),
         Form::Tsv { header } => packages_in_table(alloc, Separator::Tab, header, bytes),
         Form::Csv { header } => packages_in_table(alloc, Separator::Comma, header, bytes),
-        Form::Cargo => cargo(alloc, &document(alloc, bytes)?),
-        Form::Npm => npm(alloc, folder, &document(alloc, bytes)?),
-        Form::Composer => composer(alloc, folder, &document(alloc, bytes)?),
+        Form::Cargo => cargo(alloc, &object_document(alloc, bytes)?),
+        Form::Npm => npm(alloc, folder, &object_document(alloc, bytes)?),
+        Form::Composer => composer(alloc, folder, &object_document(alloc, bytes)?),
         Form::Pip => pip(alloc, &document(alloc, bytes)?),
-        Form::CycloneDx => cyclonedx(alloc, &document(alloc, bytes)?),
-        Form::Spdx => spdx(alloc, &document(alloc, bytes)?),
+        Form::CycloneDx => cyclonedx(alloc, &object_document(alloc, bytes)?),
+        Form::Spdx => spdx(alloc, &object_document(alloc, bytes)?),
         Form::LicenseChecker => checked_packages(alloc, &document(alloc, bytes)?),
         Form::Pnpm => pnpm_packages(alloc, &document(alloc, bytes)?),
         Form::Metadata => metadata_packages(alloc, bytes),
-        Form::SpdxThree => graph_packages(alloc, &document(alloc, bytes)?),
+        Form::SpdxThree => graph_packages(alloc, &object_document(alloc, bytes)?),
         Form::Verdicts => verdict_packages(alloc, bytes),
     }
 }

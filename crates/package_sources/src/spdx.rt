@@ -6,7 +6,8 @@ ghost use Rattle.package_items.specs.Rows.{Says, item_row, license_of, row_of};
 ghost use Rattle.package_sources.specs.Spdx as spec;
 
 use package_items::{
-    Item, License, Package, SourceError, license_at, list_items, said, text_if_any, text_of,
+    Item, License, Package, SourceError, check_object, license_at, list_items, object_at, said,
+    text_if_any, text_of,
 };
 use serde_json::Value;
 use std::alloc::Global;
@@ -31,6 +32,7 @@ pub(crate) fn spdx(alloc: Global, item: &Item<'_>) -> Result<Package, SourceErro
     ensures ok { IfOk result (λ p. spec.spdx (item_row item.now) ≡ Ok (row_of p)) }
     ensures err { IfErr result (Says (λ f. spec.spdx (item_row item.now) ≡ Err f)) }
 {
+    check_object(alloc, item)?;
     let name = text_of(alloc, item, "/name", item.value.get("name"))?;
     let version = text_if_any(alloc, item, "/versionInfo", item.value.get("versionInfo"))?;
     let license = license(alloc, item)?;
@@ -45,8 +47,10 @@ pub(crate) fn spdx_items<'v>(
     ensures ok { IfOk result (λ v. spec.items (view document.now) ≡ Ok (map item_row v.items)) }
     ensures err { IfErr result (Says (λ f. spec.items (view document.now) ≡ Err f)) }
 {
-    match document.get("sbom") {
-        Some(bill) => list_items(alloc, "/sbom/packages", bill.get("packages")),
-        None => list_items(alloc, "/packages", document.get("packages")),
+    let found = document.get("sbom");
+    if found.is_none() {
+        return list_items(alloc, "/packages", document.get("packages"));
     }
+    let bill = object_at(alloc, "/sbom", found)?;
+    list_items(alloc, "/sbom/packages", bill.get("packages"))
 }
