@@ -2,7 +2,8 @@
 //!
 //! Files come from standard input, each behind a line `== FORM` or `== FORM FOLDER`, or `== at EACH NAME LICENSE` for JSON
 //! at pointers, in which `-` is the empty pointer and VERSION may stand last. With `== shape` the form is that which the
-//! shape of the file tells. A character U+FFFD stands for the byte FF.
+//! shape of the file tells. Behind `== shared FORM` each line is a file, and the references are shown that two have. A
+//! character U+FFFD stands for the byte FF.
 #![tactic(auto)]
 
 mod rows;

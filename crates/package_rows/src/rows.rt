@@ -1,5 +1,6 @@
 // Files, and what is read of them.
 
+use document_references::shared_references;
 use package_sources::{
     Form, License, Package, Pointers, SourceError, Spot, form_of, packages, packages_at,
 };
@@ -121,18 +122,55 @@ pub fn put_file(alloc: Global, shown: &mut String, file: &File) -> Result<(), Al
     }
     shown.push('\n')?;
     put_shape(alloc, shown, file)?;
-    match read(alloc, file) {
-        Ok(packages) => {
-            for package in &packages {
-                put_package(alloc, shown, package)?;
-            }
-            Ok(())
-        }
+    match put_read(alloc, shown, file) {
+        Ok(()) => Ok(()),
         Err(error) => {
             let line = format!(in alloc; "refused: {error}\n")?;
             shown.push_str(line.as_str())
         }
     }
+}
+
+fn put_read(alloc: Global, shown: &mut String, file: &File) -> Result<(), SourceError> {
+    if let [word, form] = file.words.as_slice()
+        && word.as_str() == "shared"
+    {
+        return put_shared(
+            alloc,
+            shown,
+            form_of_word(form.as_str()),
+            file.bytes.as_slice(),
+        );
+    }
+    for package in &read(alloc, file)? {
+        put_package(alloc, shown, package)?;
+    }
+    Ok(())
+}
+
+// Appends the references that two documents have, each of which is a file of this form on a line of its own.
+fn put_shared(
+    alloc: Global,
+    shown: &mut String,
+    form: Form,
+    bytes: &[u8],
+) -> Result<(), SourceError> {
+    let mut files = Vec::new(alloc);
+    for line in bytes.split(|byte| *byte == b'\n') {
+        if !line.is_empty() {
+            files.push(packages(alloc, form, "", line)?)?;
+        }
+    }
+    let mut documents = Vec::new(alloc);
+    for packages in &files {
+        documents.push(packages.as_slice())?;
+    }
+    let shared = shared_references(alloc, &documents)?;
+    for reference in shared {
+        shown.push_str(reference)?;
+        shown.push('\n')?;
+    }
+    Ok(())
 }
 
 fn put_package(alloc: Global, shown: &mut String, package: &Package) -> Result<(), AllocError> {
