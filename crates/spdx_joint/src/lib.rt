@@ -5,7 +5,7 @@
 //!
 //! ```rust
 //! // crates/joint_rows/src/answers.rt
-//! match joint_choices(alloc, &rows.offers)? {
+//! match joint_choices(alloc, offers)? {
 //! ```
 //!
 //! It stands on `spdx_gate` and `sufficiency`.

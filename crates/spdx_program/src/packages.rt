@@ -3,6 +3,7 @@
 use crate::console::Console;
 use crate::system::{System, bytes_of, input_bytes, paths_or_input};
 use crate::trouble::Trouble;
+use document_references::shared_references;
 use package_sources::{
     Form, License, Package, Pointers, SourceError, form_of, packages, packages_at,
 };
@@ -10,6 +11,9 @@ use spdx_gate::Package as Judged;
 use spdx_words::{Source, SourceForm};
 use std::alloc::{AllocError, Global};
 use std::io::Write;
+
+// How many references are told by name.
+const MOST_NAMED: usize = 5;
 
 /// The packages of a file.
 #[derive(Drop)]
@@ -76,8 +80,49 @@ pub(crate) fn read_all<R: System, O: Write + Drop, F: Write + Drop>(
     }
     if wanted.tells_form {
         tell_forms(alloc, &files, console)?;
+        tell_shared(alloc, wanted.source, &files, console)?;
     }
     Ok(AllListed { files, status })
+}
+
+// Tells which references several of SPDX's documents have, the first five of them by name.
+fn tell_shared<O: Write + Drop, F: Write + Drop>(
+    alloc: Global,
+    source: Source<'_>,
+    files: &[Listed],
+    console: &mut Console<O, F>,
+) -> Result<(), AllocError> {
+    let mut documents = Vec::new(alloc);
+    for file in files {
+        if is_document(source, file) {
+            documents.push(file.packages.as_slice())?;
+        }
+    }
+    let shared = shared_references(alloc, &documents)?;
+    if shared.is_empty() {
+        return Ok(());
+    }
+    let mut names = String::new(alloc);
+    for name in shared.iter().take(MOST_NAMED) {
+        if !names.is_empty() {
+            names.push_str(", ")?;
+        }
+        names.push_str(*name)?;
+    }
+    if shared.len() > MOST_NAMED {
+        let more = shared.len() - MOST_NAMED;
+        names.push_str(format!(in alloc; " and {more} more")?.as_str())?;
+    }
+    console.tell(alloc, &Trouble::Shared(names));
+    Ok(())
+}
+
+// Whether the file is one of SPDX's documents.
+fn is_document(source: Source<'_>, file: &Listed) -> bool {
+    matches!(
+        source,
+        Source::Named(SourceForm::Spdx | SourceForm::SpdxThree)
+    ) || matches!(file.guessed, Some(Form::Spdx | Form::SpdxThree))
 }
 
 // Tells each form that some file was read as without being asked, with that file, or how many they are.

@@ -58,6 +58,8 @@ pub(crate) enum Trouble {
     Lost(String, Loss),
     /// A file was read as one of this form, which its shape told.
     Guessed(String, &'static str),
+    /// These references stand in several documents.
+    Shared(String),
     /// What is to be written is no regular file.
     Special(String),
     /// The file is not in the folder in which it is looked for.
@@ -171,7 +173,7 @@ impl Trouble {
         match self {
             Trouble::Unwritable(..) | Trouble::Output | Trouble::Memory => 3,
             Trouble::NoChoice(..) => 1,
-            Trouble::Lost(..) | Trouble::Guessed(..) => 0,
+            Trouble::Lost(..) | Trouble::Guessed(..) | Trouble::Shared(_) => 0,
             _ => 2,
         }
     }
@@ -191,6 +193,7 @@ impl Trouble {
             | Trouble::NoPackage(path)
             | Trouble::Empty(path)
             | Trouble::Unwritable(path, _)
+            | Trouble::Shared(path)
             | Trouble::Special(path)
             | Trouble::Outside(path)
             | Trouble::Above(path)
@@ -281,6 +284,10 @@ impl Trouble {
                 "spdx: {name}: it doesn't run as its owner or group any more\n"
             ),
             Trouble::Guessed(_, form) => write!(text, "spdx: {name}: read as {form}\n"),
+            Trouble::Shared(_) => write!(
+                text,
+                "spdx: {name}: in several documents, each of which may mean another licence by it\n"
+            ),
             Trouble::Several(_) => Ok(()),
             Trouble::Output => write!(text, "spdx: write fault\n"),
             Trouble::Memory => write!(text, "spdx: out of memory\n"),
