@@ -7,7 +7,7 @@ use Rattle.line_engine.specs.Rule.{Rule}
 use Rattle.line_engine.specs.Lines.{Cut, cut, last_line, lines_of, HasNoNewline}
 use Rattle.line_engine.specs.Output.{text_of, summary_of, count_line}
 use Rattle.line_engine.specs.Device.{Devices}
-use Rattle.line_engine.specs.Progress.{AppendsBeginning, Progress, state, HasPut, HasPutAll, HasKept, HasEnded, HasRun, HasBegun}
+use Rattle.line_engine.specs.Progress.{AppendsBeginning, Progress, state, HasPut, HasPutAll, HasKept, HasEnded, HasRun, HasRunBehind, HasBegun}
 use Rattle.line_engine.proofs.Known.{Appends-then, Appends-Keeps, Consumes-then, AppendsBeginning-then, AppendsBeginning-more, AppendsBeginning-all}
 use Rattle.line_engine.proofs.Answering.{text_of-append, text_of-one}
 use Rattle.line_engine.proofs.Cutting.{cut-newline, cut-plain, cut-more}
@@ -189,4 +189,13 @@ module _ (rule rule' : Rule) (d : Devices) (now : Option (List ℕ)) (bytes : Li
       written = Appends-Keeps d.output.bytes middle d.output'.bytes _
           (subst (λ (xs : List ℕ). Appends d.output.bytes middle xs) ended.output (Appends-then d.output.bytes now middle _ _ written w)) k;
       counts = ended.counted;
+    }
+
+    -- and what the answerer then says of itself is known of the lines
+    pub known_behind : (IsKnown : List (List ℕ) → Type 0) → ((xs done : List ℕ) → HasKept rule' xs done kept before → IsKnown (lines_of xs))
+        → (middle : Option (List ℕ)) → Appends now middle answers → Keeps middle d.output'.bytes → HasRunBehind rule IsKnown d summary
+    unfolding whole_run
+    known_behind IsKnown known middle w k = record {
+      run = whole_run middle w k;
+      known = known bytes (text_of rule (cut bytes).whole) (subst (λ (r : Rule). HasKept r bytes (text_of rule (cut bytes).whole) kept before) (sym same) h);
     }

@@ -54,7 +54,12 @@ pub record HasRun (rule : Rule) (d : Devices) (summary : Summary) : Type 0 where
   pub written : Appends d.output.bytes d.output'.bytes (output_of rule bytes)
   pub counts : summary ≡ summary_of rule (lines_of bytes)
 
--- the same of an input that tells its bytes: these were all of them
+-- a run to the end, and this is known of the lines of its input
+pub record HasRunBehind (rule : Rule) (IsKnown : List (List ℕ) → Type 0) (d : Devices) (summary : Summary) : Type 0 where
+  pub run : HasRun rule d summary
+  pub known : IsKnown (lines_of run.bytes)
+
+-- a run to the end, of an input that tells its bytes: these were all of them
 pub record IsAnswered (rule : Rule) (d : Devices) (summary : Summary) (bytes : List ℕ) : Type 0 where
   pub ended : d.input'.bytes ≡ Some []
   pub written : Appends d.output.bytes d.output'.bytes (output_of rule bytes)

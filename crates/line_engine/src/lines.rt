@@ -5,7 +5,7 @@ ghost use Rattle.std.specs.Io.KnownBytes.{Appends};
 ghost use Rattle.line_engine.specs.Lines.{lines_of, HasNoNewline};
 ghost use Rattle.line_engine.specs.Device.{devices};
 ghost use Rattle.line_engine.specs.Output.{count_line};
-ghost use Rattle.line_engine.specs.Progress.{AppendsBeginning, state, HasPut, HasPutAll, HasKept, HasEnded};
+ghost use Rattle.line_engine.specs.Progress.{AppendsBeginning, state, HasPut, HasPutAll, HasKept, HasEnded, HasRunBehind};
 ghost use Rattle.line_engine.specs.Runs.{Runs};
 ghost use Rattle.line_engine.specs.declared.lines.RunFault.TheVariants.{Memory as MemoryFault};
 
@@ -193,6 +193,10 @@ fn put_end<V: Verdicts>(alloc: Global, verdicts: &mut V, kept: &mut Kept) -> Res
         HasEnded (V.rule verdicts.old) bytes written
         kept.new.tally.answers.items kept.new.tally.summary) }
     ensures rule { V.rule verdicts.new ≡ V.rule verdicts.old }
+    ensures closed { OnOk result ((bytes written : List ℕ) →
+        HasKept (V.rule verdicts.old) bytes written kept.old.line.items
+        (state (V.HasAnswered verdicts.old) kept.old.tally.answers.items kept.old.tally.summary) →
+        V.HasClosed verdicts.new (lines_of bytes)) }
 {
     put_last(alloc, verdicts, kept)?;
     verdicts.close(alloc, &mut kept.tally.answers)
@@ -220,7 +224,7 @@ fn put_last<V: Verdicts>(alloc: Global, verdicts: &mut V, kept: &mut Kept) -> Re
 ///
 /// `Read` comes exactly where the input has failed, and `Write` only where the output has. After a fault, also one of
 /// memory, what was written is a beginning of the answers to the lines that were read whole; after `Read` it is all of
-/// them.
+/// them. At Ok what the answerer says of itself behind its lines is known of the lines of the input.
 pub fn run_in<V: Verdicts, I: Source, O: Sink>(
     alloc: Global,
     verdicts: &mut V,
@@ -234,6 +238,8 @@ pub fn run_in<V: Verdicts, I: Source, O: Sink>(
         (devices (I.told input.old) (I.told input.new) (O.told output.old) (O.told output.new))
         result }
     ensures rule { V.rule verdicts.new ≡ V.rule verdicts.old }
+    ensures closed { IfOk result (HasRunBehind (V.rule verdicts.old) (V.HasClosed verdicts.new)
+        (devices (I.told input.old) (I.told input.new) (O.told output.old) (O.told output.new))) }
 {
     let mut kept = Kept {
         line: Vec::new(alloc),
@@ -294,6 +300,8 @@ pub fn run<V: Verdicts, I: Source, O: Sink>(
         (devices (I.told input.old) (I.told input.new) (O.told output.old) (O.told output.new))
         result }
     ensures rule { V.rule verdicts.new ≡ V.rule verdicts.old }
+    ensures closed { IfOk result (HasRunBehind (V.rule verdicts.old) (V.HasClosed verdicts.new)
+        (devices (I.told input.old) (I.told input.new) (O.told output.old) (O.told output.new))) }
 {
     let Ok(mut buffer) = room(alloc) else {
         return Err(unread(input));

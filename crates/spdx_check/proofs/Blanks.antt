@@ -1,6 +1,6 @@
 -- A line of white space is no expression, and any other is one.
-use Rattle.std.proofs.Common.{◌≡◌, ℕ, ◌+◌, ◌-◌, ◌<◌, ◌≤◌, Bool, true, false, ◌&&◌, cond, nat_eq, List, ◌∷◌, ◌++◌, length, take, drop, get_or, Option, None, refl, sym, ap, ◌∙◌, inl, inr, arith}
-use Rattle.std.specs.Prelude.{is_some}
+use Rattle.std.proofs.Common.{◌≡◌, ℕ, ◌+◌, ◌-◌, ◌<◌, ◌≤◌, Bool, true, false, ◌&&◌, cond, nat_eq, List, [], ◌∷◌, ◌++◌, length, take, drop, get_or, Option, None, refl, sym, ap, ◌∙◌, inl, inr, arith}
+use Rattle.std.specs.Prelude.{count_by, is_some}
 use Rattle.std.specs.Char.{is_ascii_whitespace}
 use Rattle.std.specs.List.{cons_option, list_all}
 use Rattle.std.proofs.Math.Bool.{and-true}
@@ -9,9 +9,16 @@ use Rattle.std.proofs.lemmas.Bool.Decides.{nat_tests}
 use Rattle.std.proofs.lemmas.List.{take-append-drop, drop_more, drop_all}
 use Rattle.std.proofs.lemmas.List.Elements.{filter_map-append}
 use Rattle.std.proofs.lemmas.List.Folds.{list_all-append}
+use Rattle.std.proofs.lemmas.List.Sums.{sum_by-cons}
+use Rattle.line_engine.specs.declared.lines.Summary.{Summary}
+use Rattle.line_engine.specs.Device.{Devices}
+use Rattle.line_engine.specs.Lines.{lines_of}
+use Rattle.line_engine.specs.Output.{capped}
+use Rattle.line_engine.specs.Progress.{HasRunBehind}
+use Rattle.line_engine.specs.Rule.{Rule}
 use Rattle.finding_forms.specs.declared.forms.Form.{Form}
 use Rattle.spdx_check.specs.Finding.{Wrong}
-use Rattle.spdx_check.specs.Checking.{expression_of, is_blank, is_white, finding_in_line, found_text, found_in, spot_behind, rule_by, LeavesOutWhite}
+use Rattle.spdx_check.specs.Checking.{blank_count, expression_of, is_blank, is_white, finding_in_line, found_text, found_in, spot_behind, rule_by, LeavesOutWhite}
 
 -- a carriage return at the end is white, so a line is white exactly if its expression is
 ending_white : (line : List ℕ) (last : ℕ) → nat_eq (get_or line last 0) 13 ≡ true → length line ≤ last + 1 → list_all is_ascii_whitespace (drop last line) ≡ true
@@ -55,3 +62,17 @@ module _ (finding : List ℕ → Option Wrong) where
     found = found-white;
     others = λ line e. finding-by line false e;
   }
+
+-- ---- how many there are
+
+blank_count-is : (lines : List (List ℕ)) → blank_count lines ≡ count_by is_white lines
+blank_count-is [] = refl
+blank_count-is (line ∷ lines) =
+    sum_by-cons (λ (x : List ℕ). cond (is_blank (expression_of x)) 1 0) line lines
+    ∙ ap (λ (t : Bool). cond t 1 0 + blank_count lines) (is_blank-expression line)
+    ∙ ap (λ (n : ℕ). cond (is_white line) 1 0 + n) (blank_count-is lines)
+    ∙ sym (sum_by-cons (λ (x : List ℕ). cond (is_white x) 1 0) line lines)
+
+pub counts_white : (rule : Rule) (d : Devices) (summary : Summary) (blanks : ℕ) → HasRunBehind rule (λ lines. blanks ≡ capped (blank_count lines)) d summary
+    → HasRunBehind rule (λ lines. blanks ≡ capped (count_by is_white lines)) d summary
+counts_white rule d summary blanks h = record { run = h.run; known = h.known ∙ ap capped (blank_count-is (lines_of h.run.bytes)) }

@@ -1,5 +1,5 @@
 -- What is written of the expressions of a file.
-use Rattle.std.specs.Prelude.{◌≡◌, ℕ, ◌+◌, ◌-◌, ◌==◌, Bool, true, false, ◌&&◌, not, List, [], ◌∷◌, ◌++◌, length, map, take, slice_index, Option, None, Some, is_some, Result, if◌then◌else◌}
+use Rattle.std.specs.Prelude.{◌≡◌, ℕ, ◌+◌, ◌-◌, ◌==◌, Bool, true, false, ◌&&◌, not, List, [], ◌∷◌, ◌++◌, length, map, take, slice_index, Option, None, Some, is_some, Result, IfOk, count_by, if◌then◌else◌}
 use Rattle.std.specs.Char.{is_ascii_whitespace}
 use Rattle.std.specs.List.{filter_map, list_all, list_any}
 use Rattle.std.specs.Result.{result_map_both}
@@ -7,6 +7,7 @@ use Rattle.line_engine.specs.declared.lines.RunFault.{RunFault}
 use Rattle.line_engine.specs.declared.lines.Summary.{Summary}
 use Rattle.line_engine.specs.Device.{Devices}
 use Rattle.line_engine.specs.Output.{capped}
+use Rattle.line_engine.specs.Progress.{HasRunBehind}
 use Rattle.line_engine.specs.Rule.{Rule}
 use Rattle.line_engine.specs.Runs.{Runs}
 use Rattle.spdx_list.specs.Files.{InsteadRow}
@@ -96,6 +97,10 @@ rule_by finding form is_first file = record {
 abbrev pub is_white : List ℕ → Bool
 is_white line = list_all is_ascii_whitespace line
 
+-- how many lines are blank
+abbrev pub blank_count : List (List ℕ) → ℕ
+blank_count lines = count_by (λ line. is_blank (expression_of line)) lines
+
 -- what is found in lines, one behind another
 abbrev pub found_in : (List ℕ → Option Wrong) → List (List ℕ) → List Wrong
 found_in finding lines = filter_map (finding_in_line finding) lines
@@ -114,9 +119,11 @@ pub record LeavesOutWhite (finding : List ℕ → Option Wrong) (rule : Rule) : 
 abbrev pub summary_in : Result Checked RunFault → Result Summary RunFault
 summary_in result = result_map_both (λ (c : Checked). c.summary) (λ (fault : RunFault). fault) result
 
--- the run writes the finding of each line that has one, and counts the lines; one of white space has none
+-- the run writes the finding of each line that has one, and counts the lines; one of white space has none, and those are
+-- counted apart
 pub record ChecksLines (check : Check) (is_first : Bool) (file : List ℕ) (d : Devices) (result : Result Checked RunFault) : Type 0 where
   pub finding : List ℕ → Option Wrong
   pub findings : (bytes : List ℕ) → IsTheFinding check.catalogue.now (heirs_in check) check.mode bytes (finding bytes)
   pub runs : Runs (rule_by finding check.form is_first file) d (summary_in result)
   pub blank : LeavesOutWhite finding (rule_by finding check.form is_first file)
+  pub counts : IfOk result (λ (c : Checked). HasRunBehind (rule_by finding check.form is_first file) (λ lines. c.blanks ≡ capped (count_by is_white lines)) d c.summary)

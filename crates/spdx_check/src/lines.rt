@@ -3,7 +3,7 @@
 ghost use Rattle.std.specs.Prelude.{◌≡◌, ◌++◌, IfOk, OnOk, is_some, length};
 ghost use Rattle.line_engine.specs.Device.{devices};
 ghost use Rattle.line_engine.specs.Output.{capped};
-ghost use Rattle.spdx_check.specs.Checking.{ChecksLines, expression_of, found_text, have_finding, heirs_in, is_blank};
+ghost use Rattle.spdx_check.specs.Checking.{ChecksLines, blank_count, expression_of, found_text, have_finding, heirs_in, is_blank};
 ghost use Rattle.spdx_check.specs.Found.{finding_of, rule_of};
 ghost use Rattle.spdx_check.specs.Known.{AreHeld, spot_in};
 
@@ -39,7 +39,7 @@ fn is_blank(expression: &[u8]) -> bool
 pub struct Checked {
     /// The lines, and those that were refused.
     pub summary: Summary,
-    /// How many of the lines are blank. No clause speaks of it. A count at `u64::MAX` stays there.
+    /// How many of the lines are nothing but ASCII white space, and so no expressions. A count at `u64::MAX` stays there.
     pub blanks: u64,
 }
 
@@ -99,9 +99,12 @@ impl Verdicts for File<'_, '_> {
     ghost rule = { λ file. rule_of file.check.now file.is_first file.name.now };
 
     ghost HasAnswered = { λ file lines. (file.lines ≡ capped (length lines))
+        × (file.blanks ≡ capped (blank_count lines))
         × (file.has_finding ≡
         have_finding (finding_of file.check.now.catalogue.now (heirs_in file.check.now)
         file.check.now.mode) lines) };
+
+    ghost HasClosed = { λ file lines. file.blanks ≡ capped (blank_count lines) };
 
     fn answer(
         &mut self,

@@ -2,7 +2,7 @@ use Rattle.std.proofs.Common.{◌≡◌, ◌<◌, ◌∙◌, refl, length, take,
 use Rattle.line_engine.specs.Device.{devices}
 use Rattle.line_engine.specs.Progress.{state}
 use Rattle.line_engine.proofs.Known.{Appends-Keeps, AppendsBeginning-all, OnErr-always}
-use Rattle.line_engine.proofs.Steps.{piece_fault, piece_begun, piece_step, read_end, end_begun, whole_run}
+use Rattle.line_engine.proofs.Steps.{piece_fault, piece_begun, piece_step, read_end, end_begun, whole_run, known_behind}
 use Rattle.line_engine.proofs.lines.run_in.Goals as goal
 
 pub returns-in_err-take_piece-in-Ok-clause-runs : goal.returns-in_err-take_piece-in-Ok-clause-runs
@@ -95,6 +95,19 @@ returns-in-Ok-flush-clause-runs g c =
       read = search rules;
       write = search rules;
     }
+
+pub returns-in-Ok-flush-clause-closed : goal.returns-in-Ok-flush-clause-closed
+returns-in-Ok-flush-clause-closed g c =
+    let (bytes, consumed, written, kept) = c.loop-kept.invariant.bytes in
+    let before = state (g.V.Verdicts.HasAnswered c.loop-kept.verdicts) c.loop-kept.kept.tally.answers.items c.loop-kept.kept.tally.summary in
+    let d = devices (g.I.Source.told c.args.input.now) (g.I.Source.told c.read.new.self) (g.O.Sink.told c.args.output.now) (g.O.Sink.told c.flush.new.self) in
+    let none : c.in-Ok-eq0.field-0 ≡ 0 = omega arith in
+    let room : 0 < length c.read.new.buffer = omega arith in
+    let read = read_end _ _ _ bytes c.in-Ok-eq0.field-0 c.read.new.buffer none consumed c.in-Ok-eq0.ensures.bytes.0 in
+    let end = c.in-Ok-eq0.ensures.bytes.1 none room in
+    known_behind (g.V.Verdicts.rule c.args.verdicts.now) (g.V.Verdicts.rule c.loop-kept.verdicts) d _ bytes written c.loop-kept.kept.line.items before kept c.loop-kept.invariant.rule
+    read end c.put_end.new.kept.tally.answers.items c.put_end.new.kept.tally.summary c.in_ok-put_end.ensures.ok
+    (g.V.Verdicts.HasClosed c.put_end.new.verdicts) c.in_ok-put_end.ensures.closed _ c.in_ok-write_out.ensures.all c.flush.ensures.bytes
 
 pub returns-clause-runs : goal.returns-clause-runs
 returns-clause-runs g c =
