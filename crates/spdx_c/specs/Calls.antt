@@ -6,7 +6,7 @@ use Rattle.spdx_lexer.specs.Words.{Fault}
 use Rattle.spdx_calls.specs.declared.buffer.Put.{Put}
 use Rattle.spdx_calls.specs.declared.fault.CallFault.{CallFault}
 use Rattle.spdx_calls.specs.Buffer.{IsPut}
-use Rattle.spdx_calls.specs.Reasons.{number_of}
+use Rattle.spdx_calls.specs.Reasons.{IsReasonNumber, number_of}
 use Rattle.spdx_calls.specs.Faults.{IsTextFault, IsCanonicalFault, IsFixFault, IsLinesFault}
 use Rattle.spdx_calls.specs.Questions.{IsQuestionFault, IsChoiceFault}
 use Rattle.spdx_calls.specs.Answers.{Reads, PutsCanonical, PutsFix, PutsNormal, PutsChoice, PutsLines, PutsRequirements, IsTruth}
@@ -29,10 +29,10 @@ pub record IsMade {A M : Type 0} (list : Option Rows) (mode : Option M) (told : 
 abbrev pub IsCall : {A M : Type 0} → Option Rows → Option M → (Result A CallFault → Report) → (Rows → M → A → Type 0) → (Rows → M → CallFault → Type 0) → Report → Type 0
 IsCall list mode told P E report = IsMade list mode told P E report ⊎ IsUnmade list mode report
 
--- what the fault of this number says is put, or no fault has it
+-- a fault has this number, and what it says is put; or no fault has it
 abbrev pub IsReasonCall : ℕ → List ℕ → List ℕ → Report → Type 0
 IsReasonCall number old new report =
-    ((text : List ℕ) × ((put : Put) × (((fault : Fault) → number_of fault ≡ number → text ≡ description_text fault) × (IsPut text old new put × (report ≡ with_length put)))))
+    (IsReasonNumber number × ((text : List ℕ) × ((put : Put) × (((fault : Fault) → number_of fault ≡ number → text ≡ description_text fault) × (IsPut text old new put × (report ≡ with_length put))))))
     ⊎ (((fault : Fault) → number_of fault ≡ number → ⊥) × (report ≡ plain 9))
 
 abbrev pub IsCheck : Option Rows → ℕ → List ℕ → Report → Type 0

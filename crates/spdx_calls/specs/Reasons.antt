@@ -1,5 +1,5 @@
 -- The numbers of reasons.
-use Rattle.std.specs.Prelude.{ℕ}
+use Rattle.std.specs.Prelude.{ℕ, ◌≡◌}
 use Rattle.spdx_lexer.specs.declared.error.ParseError.{ParseError}
 use Rattle.spdx_lexer.specs.Faults.{fault_of}
 use Rattle.spdx_lexer.specs.Words.{Fault, UnknownLicense, UnknownException, InvalidCharacters, UnclosedParens, UnopenedParens, Empty, Unexpected, SeparatedPlus, UnknownTerm, GnuNoPlus, GnuPlusWithSuffix, DeprecatedLicenseId}
@@ -18,6 +18,10 @@ number_of UnknownTerm = 9
 number_of GnuNoPlus = 10
 number_of GnuPlusWithSuffix = 11
 number_of DeprecatedLicenseId = 12
+
+-- whether a fault has the number
+abbrev pub IsReasonNumber : ℕ → Type 0
+IsReasonNumber number = (fault : Fault) × (number_of fault ≡ number)
 
 -- the place of an error, and the number of its reason
 abbrev pub refusal_of : ParseError → Refusal

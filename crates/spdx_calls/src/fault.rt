@@ -1,9 +1,9 @@
 //! Why a call gives nothing.
 
-ghost use Rattle.std.specs.Prelude.{◌≡◌, IfSome, IsNone};
+ghost use Rattle.std.specs.Prelude.{◌≡◌, IfSome, IsNone, IsSome};
 ghost use Rattle.spdx_lexer.specs.Faults.{fault_of, description_text};
 ghost use Rattle.spdx_lexer.specs.Words.{Fault};
-ghost use Rattle.spdx_calls.specs.Reasons.{number_of, refusal_of};
+ghost use Rattle.spdx_calls.specs.Reasons.{IsReasonNumber, number_of, refusal_of};
 
 use spdx_lexer::error::{ParseError, Reason};
 use std::alloc::{AllocError, AllocFailed};
@@ -82,6 +82,7 @@ fn reason_number(reason: &Reason) -> u32
 
 /// What the reason of this number says, apart from the words that were expected. `None` where no fault has the number.
 pub fn reason_text(number: u32) -> Option<&'static str>
+    ensures known { IsSome result → IsReasonNumber number }
     ensures some { IfSome result (λ text. (fault : Fault) → number_of fault ≡ number →
         text.now ≡ description_text fault) }
     ensures none { IsNone result → (fault : Fault) → number_of fault ≡ number → ⊥ }
