@@ -11,9 +11,9 @@ use foreign_text::{Sink, put_text, text_for};
 use std::alloc::{AllocError, Global};
 use unicode_width::UnicodeWidthStr;
 
-/// Appends a text as a line, two columns in. A text of at most 200 bytes is shown whole; of a longer one whole characters
-/// among the 60 bytes before `start` and the 120 from it on, and `..` for what is left out in front and behind. A start
-/// that is within a character or past the end of the text stands for its end.
+/// Appends a text as a line, two columns in. A text of at most 200 bytes is shown whole; of a longer one whole
+/// characters among the 60 bytes before `start` and the 120 from it on, and `..` for what is left out in front and
+/// behind. A start that is within a character or past the end of the text stands for its end.
 ///
 /// # Errors
 ///
@@ -29,9 +29,9 @@ pub fn put_excerpt_line(lines: &mut String, text: &str, start: usize) -> Result<
     put_shown(lines, text, start)
 }
 
-/// Appends carets under what `put_excerpt_line` shows of the fault that begins at `start` and ends at `end`, in bytes of
-/// the text, counted by the columns of a terminal. There is one caret at least. An end that is within a character or past
-/// the end of the text stands for its end, and a fault that ends before it begins is empty.
+/// Appends carets under what `put_excerpt_line` shows of the fault that begins at `start` and ends at `end`, in bytes
+/// of the text, counted by the columns of a terminal. There is one caret at least. An end that is within a character
+/// or past the end of the text stands for its end, and a fault that ends before it begins is empty.
 ///
 /// # Errors
 ///

@@ -5,8 +5,8 @@
 //! put_text(page, text)?;
 //! ```
 //!
-//! `specs/Head.antt` says what a page begins with that loads nothing, runs nothing and hides nothing of its body; the crates
-//! that write pages prove it of theirs. It stands on `foreign_text` and the kit's tables of Unicode.
+//! `specs/Head.antt` says what a page begins with that loads nothing, runs nothing and hides nothing of its body; the
+//! crates that write pages prove it of theirs. It stands on `foreign_text` and the kit's tables of Unicode.
 #![tactic(auto)]
 
 ghost use Rattle.std.specs.Prelude.{◌≡◌, ◌++◌, Some, OnOk, OnErr, encode_utf8, length, take};
