@@ -1,1 +1,4 @@
+pub mod Json
 pub mod Names
+pub mod Sites
+pub mod Toml

@@ -4,13 +4,21 @@ use crate::packages_command::{gate, notice};
 use clap::{Arg, ArgAction, Command};
 use std::alloc::{AllocError, Global};
 
-const CHECK_EXAMPLE: &str = "Example:
+const CHECK_EXAMPLE: &str = "Examples:
+  spdx check .
+  spdx check Cargo.toml
   printf 'MIT\\nGPL-2.0+ OR Apache2\\n' | spdx check
+
+A folder is walked for manifests (Cargo.toml, package.json, ..) and SPDX-License-Identifier tags. A file that is a manifest
+by its name is read as one; any other file, and standard input, has an expression a line. .gitignore isn't read.
 
 Status: 0 nothing refused, 1 something refused, 2 wrong words, list or file, 3 a write or memory failed.";
 
-const FIX_EXAMPLE: &str = "Example:
-  spdx fix --write licenses.txt
+const FIX_EXAMPLE: &str = "Examples:
+  spdx fix .
+  spdx fix --write Cargo.toml
+
+What is read is what check reads.
 
 Status: 0 nothing is left to mend, 1 some expression has no mended text, 2 wrong words, list or file, 3 a write
 or memory failed.";
@@ -34,13 +42,22 @@ const LIST_EXAMPLE: &str = "Examples:
 A newer list: put SPDX's own licenses.json and exceptions.json (github.com/spdx/license-list-data, folder json) into a
 folder, and name the folder by --list, or by the environment's SPDX_LIST for every command.";
 
+// The names of forms of manifests, as `manifests::form_named` knows them.
+const FORMS: [&str; 31] = [
+    "cargo", "npm", "bower", "jsr", "vcpkg", "elm", "composer", "pyproject", "reuse", "metadata",
+    "setup-cfg", "setup-py", "cabal", "opam", "rpm", "alpine", "arch", "gem", "mix", "rockspec",
+    "meson", "snap", "conda", "galaxy", "citation", "docker", "dep5", "appstream", "nuget", "msbuild",
+    "ros",
+];
+
 const NEWER_HELP: &str =
     "The newer list; without it, OLD is the newer one, and the list in use the older";
 
 const EXAMPLES: &str = "Examples:
+  spdx check .                       what is wrong in the manifests and license tags of a tree
   spdx check licenses.txt            what is wrong in a list with an expression a line
   spdx check --headers src           the SPDX-License-Identifier tags of a source tree
-  spdx fix licenses.txt              a diff of what can be mended; --write mends the file
+  spdx fix .                         a diff of what can be mended; --write mends the files
   spdx gate --policy policy.toml --from cargo metadata.json
                                      which packages a policy refuses, and why
   spdx notice --accept MIT,Apache-2.0 --texts texts --from cargo metadata.json
@@ -82,7 +99,9 @@ fn check<'a>(alloc: Global) -> Result<Command<'a>, AllocError> {
             "lax",
         )?)?
         .arg(lax(alloc))?
-        .arg(headers(alloc))?
+        .arg(headers(alloc)?)?
+        .arg(manifests(alloc)?)?
+        .arg(form_name(alloc)?)?
         .arg(list_file(alloc))?
         .arg(flag(alloc, "quiet", "Writes nothing; the status tells").short('q'))?
         .arg(flag(
@@ -103,7 +122,9 @@ fn fix<'a>(alloc: Global) -> Result<Command<'a>, AllocError> {
             "break-links",
             "With --write: mends a file that has other names too, which keep what it was",
         ))?
-        .arg(headers(alloc))?
+        .arg(headers(alloc)?)?
+        .arg(manifests(alloc)?)?
+        .arg(form_name(alloc)?)?
         .arg(list_file(alloc))?
         .arg(paths(alloc))
 }
@@ -180,12 +201,31 @@ pub(crate) fn flag<'a>(alloc: Global, name: &'a str, help: &'a str) -> Arg<'a> {
         .help(help)
 }
 
-fn headers<'a>(alloc: Global) -> Arg<'a> {
+fn headers<'a>(alloc: Global) -> Result<Arg<'a>, AllocError> {
     flag(
         alloc,
         "headers",
-        "Takes the SPDX-License-Identifier tags of the files and folders",
+        "Takes the SPDX-License-Identifier tags of the files and folders alone",
     )
+    .conflicts_with("manifests")?
+    .conflicts_with("as")
+}
+
+fn manifests<'a>(alloc: Global) -> Result<Arg<'a>, AllocError> {
+    flag(
+        alloc,
+        "manifests",
+        "Takes the manifests among the files and folders alone, by their names",
+    )
+    .conflicts_with("as")
+}
+
+fn form_name<'a>(alloc: Global) -> Result<Arg<'a>, AllocError> {
+    Ok(Arg::new(alloc, "as")
+        .long("as")
+        .value_name("FORM")
+        .value_parser(FORMS.as_slice())
+        .help("Takes the files as manifests of this form, whatever their names are"))
 }
 
 pub(crate) fn list_file<'a>(alloc: Global) -> Arg<'a> {

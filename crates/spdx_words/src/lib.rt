@@ -20,6 +20,6 @@ pub use crate::packages_request::{
 };
 pub use crate::request::{
     CheckRequest, CompareRequest, DiffRequest, FixRequest, Form, MakeRequest, Request, ShowRequest,
-    SimplifyRequest,
+    SimplifyRequest, Wanted,
 };
 pub use crate::words::read;

@@ -35,6 +35,19 @@ pub enum Form {
     Sarif,
 }
 
+/// Which of a file's expressions are taken.
+#[derive(Clone, Copy, PartialEq, Eq, Debug)]
+pub enum Wanted<'w> {
+    /// Those of a file that is a manifest by its name; both kinds of a folder's files; else one a line.
+    ByName,
+    /// Those of license tags.
+    Headers,
+    /// Those of manifests.
+    Manifests,
+    /// Those of a manifest of the form of that name, whatever the file is called.
+    Form(&'w str),
+}
+
 /// Which expressions are checked, and how it is told. No paths are standard input, as is the path `-`.
 #[derive(Drop)]
 pub struct CheckRequest<'w> {
@@ -42,8 +55,7 @@ pub struct CheckRequest<'w> {
     pub list: Option<&'w str>,
     pub form: Form,
     pub is_lax: bool,
-    /// Whether the paths are source trees, whose license tags are checked.
-    pub headers: bool,
+    pub wanted: Wanted<'w>,
     /// Whether nothing is written, and the status alone tells.
     pub quiet: bool,
     /// Whether the last line has the totals.
@@ -59,7 +71,7 @@ pub struct FixRequest<'w> {
     pub write: bool,
     /// Whether a file that has other names is written, which keep the old bytes then.
     pub break_links: bool,
-    pub headers: bool,
+    pub wanted: Wanted<'w>,
     pub paths: Vec<&'w str>,
 }
 

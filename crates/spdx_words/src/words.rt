@@ -4,7 +4,7 @@ use crate::command::command;
 use crate::packages_words::{gate_request, notice_request};
 use crate::request::{
     CheckRequest, CompareRequest, DiffRequest, FixRequest, Form, MakeRequest, Request, ShowRequest,
-    SimplifyRequest,
+    SimplifyRequest, Wanted,
 };
 use clap::error::ErrorKind;
 use clap::{ArgMatches, Command, Error};
@@ -63,11 +63,24 @@ fn check_request<'w>(
         list: matches.get_str("list"),
         form: form_of(matches.get_str("format")),
         is_lax: matches.get_flag("lax"),
-        headers: matches.get_flag("headers"),
+        wanted: wanted_of(matches),
         quiet: matches.get_flag("quiet"),
         summary: !matches.get_flag("no-summary"),
         paths: texts(alloc, matches, "PATH")?,
     })
+}
+
+// The three words exclude one another.
+fn wanted_of<'w>(matches: &ArgMatches<'w>) -> Wanted<'w> {
+    if let Some(form) = matches.get_str("as") {
+        Wanted::Form(form)
+    } else if matches.get_flag("headers") {
+        Wanted::Headers
+    } else if matches.get_flag("manifests") {
+        Wanted::Manifests
+    } else {
+        Wanted::ByName
+    }
 }
 
 fn form_of(name: Option<&str>) -> Form {
@@ -85,7 +98,7 @@ fn fix_request<'w>(alloc: Global, matches: &ArgMatches<'w>) -> Result<FixRequest
         list: matches.get_str("list"),
         write: matches.get_flag("write"),
         break_links: matches.get_flag("break-links"),
-        headers: matches.get_flag("headers"),
+        wanted: wanted_of(matches),
         paths: texts(alloc, matches, "PATH")?,
     })
 }

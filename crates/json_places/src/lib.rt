@@ -1,0 +1,19 @@
+//! Where the texts of a JSON document stand in its bytes, and the document with another text at such a place.
+//!
+//! It has no grammar of its own: a simple scan finds the literals, and the reader `serde_json` says which of them each path means.
+//!
+//! ```rust
+//! // crates/manifests/src/json_texts.rt
+//! let spans = places(alloc, bytes, &document, paths.as_slice())?;
+//! ```
+//!
+//! It stands on `text_places` and `serde_json`.
+#![tactic(auto)]
+
+mod finding;
+mod literals;
+mod marks;
+mod path;
+
+pub use crate::finding::places;
+pub use crate::path::{Path, Step, text_at};

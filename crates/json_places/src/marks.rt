@@ -1,0 +1,63 @@
+// A text with marks in place of its literals.
+
+ghost use Rattle.std.specs.Prelude.{◌≡◌, ◌≤◌, ◌++◌, IfOk, OnOk, IfSome, length, slice_range, string_bytes};
+ghost use Rattle.std.specs.Fmt.{decimal};
+ghost use Rattle.json_places.specs.Places.{AreInOrder, mark, marked};
+
+use std::alloc::{AllocError, Global};
+use text_places::Span;
+
+// The literal of a number as a text.
+fn mark(alloc: Global, number: usize) -> Result<String, AllocError>
+    ensures { IfOk result (λ text. string_bytes text ≡ mark number) }
+{
+    format!(in alloc; "\"{number}\"")
+}
+
+// Puts the bytes before a span behind a text, and the mark of its number.
+fn put(
+    text: &mut Vec<u8>,
+    bytes: &[u8],
+    offset: usize,
+    start: usize,
+    mark: &str,
+) -> Result<(), AllocError>
+    requires ordered { offset ≤ start }
+    requires within { start ≤ length bytes.now }
+    ensures { OnOk result (text.new.items
+        ≡ text.old.items ++ (slice_range bytes.now offset start ++ mark.now)) }
+{
+    text.extend_from_slice(&bytes[offset..start])?;
+    text.extend_from_slice(mark.as_bytes())
+}
+
+/// The text with each span replaced by the literal of its own number. Linear.
+pub(crate) fn marked(alloc: Global, bytes: &[u8], spans: &[Span]) -> Result<Vec<u8>, AllocError>
+    requires { AreInOrder 0 spans.now (length bytes.now) }
+    ensures { IfOk result (λ text. text.items ≡ marked bytes.now spans.now) }
+{
+    let mut text = Vec::with_capacity(alloc, bytes.len())?;
+    let mut offset = 0;
+    for (number, span) in spans.iter().enumerate() {
+        let mark = mark(alloc, number)?;
+        put(&mut text, bytes, offset, span.start, mark.as_str())?;
+        offset = span.end;
+    }
+    text.extend_from_slice(&bytes[offset..])?;
+    Ok(text)
+}
+
+/// The number that a text is.
+pub(crate) fn number_of(alloc: Global, text: &str) -> Result<Option<usize>, AllocError>
+    ensures { IfOk result (λ found. IfSome found (λ number. text.now ≡ decimal number)) }
+{
+    let Ok(number) = text.parse::<usize>() else {
+        return Ok(None);
+    };
+    let printed = number.to_string(alloc)?;
+    if printed.as_str() == text {
+        Ok(Some(number))
+    } else {
+        Ok(None)
+    }
+}

@@ -1,0 +1,17 @@
+use Rattle.std.proofs.Common.{arith, ◌≡◌, Some}
+use Rattle.std.proofs.lemmas.Grind.{common_steps}
+use Rattle.toml.specs.View.{table_view}
+use Rattle.toml_places.specs.Paths.{text_at}
+use Rattle.toml_places.proofs.Placed.{ArePlaces-at}
+use Rattle.manifests.proofs.toml_sites.site_at.Goals as goal
+
+pub returns-clause-place : goal.returns-clause-place
+returns-clause-place c =
+    let says : text_at c.in-Some.path.now.steps.items (table_view c.args.placed.now.document.now) ≡ Some c.args.text.now =
+    c.says.ensures c.if-not-says.false in
+    let bytes : c.extend_from_slice.new.self.items ≡ c.args.text.now = grind (arith, common_steps) in
+    record {
+      steps = c.in-Some.path.now.steps.items;
+      text = rw bytes says;
+      stands = ArePlaces-at _ _ _ _ c.args.number c.in-Some.path.now c.in-Some.span c.requires c.in-Some.ensures.path c.in-Some.ensures.span;
+    }

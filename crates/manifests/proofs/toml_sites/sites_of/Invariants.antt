@@ -1,0 +1,16 @@
+use Rattle.std.proofs.Common.{◌≡◌, ◌++◌, map, drop, List, ℕ, Bor}
+use Rattle.std.specs.Prelude.{All}
+use Rattle.toml.specs.View.{table_view}
+use Rattle.manifests.specs.declared.site.Site.{Site}
+use Rattle.manifests.specs.Sites.{IsInToml}
+use Rattle.manifests.proofs.toml_sites.sites_of.Given as goal
+
+abbrev pub invariant-loop-number : goal.invariant-loop-number
+invariant-loop-number l =
+    let shown : Bor (List ℕ) → List ℕ = λ x. x.now in
+    let text : Site → List ℕ = λ s. s.text.items in
+    record {
+      texts : map shown l.texts
+          ≡ map text l.sites.items ++ map shown (drop l.number l.texts);
+      places : All (IsInToml l.placed.text.now (table_view l.placed.document.now)) l.sites.items;
+    }

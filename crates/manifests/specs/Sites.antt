@@ -1,0 +1,89 @@
+-- The expressions of a manifest, each at its place.
+use Rattle.std.specs.Prelude.{◌≡◌, nat_eq, ℕ, Bool, true, false, not, ◌||◌, bytes_eq, List, codes, Option, Some, None, map, All, filter, ⊤}
+use Rattle.std.specs.Str.{IsUtf8}
+use Rattle.std.specs.List.{starts_with}
+use Rattle.serde_json.specs.Data.{Data}
+use Rattle.serde_json.specs.Read.{read}
+use Rattle.toml.specs.Data.{Members}
+use Rattle.toml.specs.Parse.{parse_document}
+use Rattle.json_places.specs.declared.path.Step as json
+use Rattle.json_places.specs.Paths as json_paths
+use Rattle.json_places.specs.Places as json_places
+use Rattle.toml_places.specs.declared.path.Step as toml
+use Rattle.toml_places.specs.Paths as toml_paths
+use Rattle.toml_places.specs.Places as toml_places
+use Rattle.manifests.specs.declared.form.Form.{Form}
+use Rattle.manifests.specs.declared.form.Form.TheVariants.{Npm, Composer, Cargo, Pyproject, Reuse}
+use Rattle.manifests.specs.declared.site.ManifestError.{ManifestError}
+use Rattle.manifests.specs.declared.site.ManifestError.TheVariants.{Refused, NoMemory}
+use Rattle.manifests.specs.declared.site.Reason.{Reason}
+use Rattle.manifests.specs.declared.site.Reason.TheVariants.{NotUtf8, NotJson, NotToml, NoPlace}
+use Rattle.manifests.specs.declared.site.Site.{Site}
+use Rattle.manifests.specs.Json.{license_texts}
+use Rattle.manifests.specs.Toml.{cargo_texts, pyproject_texts, reuse_texts}
+
+-- npm's words for a license that is told elsewhere, or that nobody is given
+abbrev pub is_word_of_npm : List ℕ → Bool
+is_word_of_npm text = starts_with nat_eq text (codes "SEE LICENSE IN ") || bytes_eq text (codes "UNLICENSED")
+
+-- the text is an expression, and no word of the form's own
+abbrev pub is_expression : Form → List ℕ → Bool
+is_expression Npm text = not (is_word_of_npm text)
+is_expression Composer text = not (bytes_eq text (codes "proprietary"))
+is_expression form text = true
+
+-- the site is the literal of the text that the document has at some path
+pub record IsInJson (bytes : List ℕ) (document : Data) (site : Site) : Type 0 where
+  pub steps : List json.Step
+  pub text : json_paths.text_at steps document ≡ Some site.text.items
+  pub stands : json_places.Stands bytes document steps site.span
+
+-- the sites are the expressions that the document declares, in the order of its members, each at its place
+pub record AreSitesOfJson (form : Form) (bytes : List ℕ) (sites : List Site) : Type 0 where
+  pub document : Data
+  pub reads : read bytes ≡ Some document
+  pub texts : map (λ (s : Site). s.text.items) sites ≡ filter (is_expression form) (license_texts document)
+  pub places : All (IsInJson bytes document) sites
+
+-- what the document of a form declares
+abbrev pub texts_of_toml : Form → Members → List (List ℕ)
+texts_of_toml Cargo document = cargo_texts document
+texts_of_toml Pyproject document = pyproject_texts document
+texts_of_toml form document = reuse_texts document
+
+-- the site is the literal of the text that the document has at some path
+pub record IsInToml (bytes : List ℕ) (document : Members) (site : Site) : Type 0 where
+  pub steps : List toml.Step
+  pub text : toml_paths.text_at steps document ≡ Some site.text.items
+  pub stands : toml_places.Stands bytes document steps site.span
+
+-- the sites are the expressions that the document declares, each at its place
+pub record AreSitesOfToml (form : Form) (bytes : List ℕ) (sites : List Site) : Type 0 where
+  pub document : Members
+  pub reads : parse_document bytes ≡ Some document
+  pub texts : map (λ (s : Site). s.text.items) sites ≡ texts_of_toml form document
+  pub places : All (IsInToml bytes document) sites
+
+-- a `/` means OR
+abbrev pub reads_slash : Form → Bool
+reads_slash Cargo = true
+reads_slash form = false
+
+-- the sites are the expressions that a manifest of the form declares, each at its place
+abbrev pub AreSites : Form → List ℕ → List Site → Type 0
+AreSites Cargo bytes sites = AreSitesOfToml Cargo bytes sites
+AreSites Pyproject bytes sites = AreSitesOfToml Pyproject bytes sites
+AreSites Reuse bytes sites = AreSitesOfToml Reuse bytes sites
+AreSites form bytes sites = AreSitesOfJson form bytes sites
+
+-- the bytes are not what the reason says that they aren't; a place that isn't known says nothing of the bytes
+abbrev pub IsReason : List ℕ → Reason → Type 0
+IsReason bytes NotUtf8 = IsUtf8 bytes → ⊥
+IsReason bytes NotJson = IsUtf8 bytes → read bytes ≡ None
+IsReason bytes NotToml = parse_document bytes ≡ None
+IsReason bytes NoPlace = ⊤
+
+-- why the expressions of a manifest aren't told
+abbrev pub IsError : List ℕ → ManifestError → Type 0
+IsError bytes (Refused fault) = IsReason bytes fault.reason
+IsError bytes NoMemory = ⊤

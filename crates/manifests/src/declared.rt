@@ -1,0 +1,37 @@
+// The expressions of a manifest of any form.
+
+ghost use Rattle.std.specs.Prelude.{◌≡◌, IfErr, IfOk};
+ghost use Rattle.manifests.specs.Sites.{AreSites, IsError, reads_slash};
+
+use crate::form::Form;
+use crate::json_sites::json_sites;
+use crate::site::{ManifestError, Site};
+use crate::toml_sites::toml_sites;
+use std::alloc::Global;
+
+/// Whether `/` means OR in the expressions of the form, as Cargo reads it in a `Cargo.toml`.
+pub fn reads_slash(form: Form) -> bool
+    ensures { result ≡ reads_slash form }
+{
+    form == Form::Cargo
+}
+
+/// The expressions that the bytes declare as a manifest of the form, in the order of the document's members, each at its
+/// place: where its literal stands, with its quotes. Words that a form has for what is no expression are left out: npm's
+/// `UNLICENSED` and `SEE LICENSE IN ..`, and Composer's `proprietary`.
+///
+/// The bytes are read twice by the form's reader. Linear in them.
+///
+/// # Errors
+///
+/// The bytes aren't what the form is written in, or it isn't known where one of the expressions stands, for the scan of
+/// literals and the reader disagree; or memory was refused.
+pub fn sites(alloc: Global, form: Form, bytes: &[u8]) -> Result<Vec<Site>, ManifestError>
+    ensures ok { IfOk result (λ sites. AreSites form bytes.now sites.items) }
+    ensures err { IfErr result (IsError bytes.now) }
+{
+    match form {
+        Form::Cargo | Form::Pyproject | Form::Reuse => toml_sites(alloc, form, bytes),
+        _ => json_sites(alloc, form, bytes),
+    }
+}

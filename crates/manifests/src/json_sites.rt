@@ -1,0 +1,167 @@
+// The expressions of a manifest of JSON, each at its place.
+
+ghost use Rattle.std.specs.Prelude.{◌≡◌, All, IfErr, IfOk, IfSome, Some, true, filter, map, slice_get};
+ghost use Rattle.serde_json.specs.Read.{read};
+ghost use Rattle.serde_json.specs.View.{view};
+ghost use Rattle.json_places.specs.Places.{ArePlaces};
+ghost use Rattle.json_places.specs.Paths.{text_at as json_text_at};
+ghost use Rattle.manifests.specs.Sites.{AreSitesOfJson, IsInJson, is_expression};
+ghost use Rattle.manifests.specs.Sites as spec;
+ghost use Rattle.manifests.specs.declared.site.Site.{Site};
+
+use crate::form::Form;
+use crate::json_texts::{JsonTexts, license_texts};
+use crate::site::{Fault, ManifestError, Reason, Site, no_place};
+use json_places::{Path, places, text_at};
+use serde_json::Value;
+use std::alloc::{AllocError, Global};
+use text_places::Span;
+
+fn is_word_of_npm(text: &str) -> bool
+    ensures { result ≡ spec.is_word_of_npm text.now }
+{
+    text.as_bytes().starts_with(b"SEE LICENSE IN ") || text == "UNLICENSED"
+}
+
+// Whether a text is an expression, and no word of the form's own.
+fn is_expression(form: Form, text: &str) -> bool
+    ensures { result ≡ spec.is_expression form text.now }
+{
+    match form {
+        Form::Npm => !is_word_of_npm(text),
+        Form::Composer => text != "proprietary",
+        _ => true,
+    }
+}
+
+// The one value that the bytes hold.
+fn document_in(alloc: Global, bytes: &[u8]) -> Result<Value, ManifestError>
+    ensures ok { IfOk result (λ document. read bytes.now ≡ Some (view document)) }
+    ensures err { IfErr result (spec.IsError bytes.now) }
+{
+    match Value::from_slice(alloc, bytes) {
+        Ok(document) => Ok(document),
+        Err(error) if error.is_memory() => Err(ManifestError::NoMemory),
+        Err(error) => Err(ManifestError::Refused(Fault {
+            reason: Reason::NotJson,
+            offset: offset_of(bytes, error.line(), error.column()),
+        })),
+    }
+}
+
+// Where the column of a line begins, both counted from 1; the end where there is no such place.
+fn offset_of(bytes: &[u8], line: usize, column: usize) -> usize {
+    let lines = bytes.split(|byte| *byte == b'\n');
+    let before = lines.take(line.saturating_sub(1));
+    let mut offset = column.saturating_sub(1);
+    for line in before {
+        offset = offset.saturating_add(line.len()).saturating_add(1);
+    }
+    offset.min(bytes.len())
+}
+
+// A document, with the bytes that it was read of, what it declares, and where that stands.
+#[derive(Clone, Copy)]
+struct Placed<'p> {
+    bytes: &'p [u8],
+    document: &'p Value,
+    paths: &'p [Path<'static>],
+    spans: &'p [Option<Span>],
+}
+
+// The path of that number, and the place that was found for it.
+fn place_at<'p>(placed: &Placed<'p>, number: usize) -> Option<(&'p Path<'static>, Span)>
+    ensures path { IfSome result (λ r. slice_get placed.now.paths.now number ≡ Some r.0.now) }
+    ensures span { IfSome result (λ r. slice_get placed.now.spans.now number ≡ Some (Some r.1)) }
+{
+    match (placed.paths.get(number), placed.spans.get(number)) {
+        (Some(path), Some(Some(span))) => Some((path, *span)),
+        _ => None,
+    }
+}
+
+// The site of the text of that number, where its place was found.
+fn site_at(
+    alloc: Global,
+    placed: &Placed<'_>,
+    number: usize,
+    text: &str,
+) -> Result<Option<Site>, AllocError>
+    requires { ArePlaces placed.now.bytes.now (view placed.now.document.now)
+        placed.now.paths.now placed.now.spans.now }
+    ensures text { IfOk result (λ found. IfSome found (λ site. site.text.items ≡ text.now)) }
+    ensures place { IfOk result (λ found. IfSome found
+        (IsInJson placed.now.bytes.now (view placed.now.document.now))) }
+{
+    let Some((path, span)) = place_at(placed, number) else {
+        return Ok(None);
+    };
+    if !says(placed.document, path, text) {
+        return Ok(None);
+    }
+    let mut bytes = Vec::new(alloc);
+    bytes.extend_from_slice(text.as_bytes())?;
+    Ok(Some(Site {
+        span,
+        quotes: 1,
+        text: bytes,
+    }))
+}
+
+// Whether the document has this text at the path.
+fn says(document: &Value, path: &Path<'_>, text: &str) -> bool
+    ensures { result ≡ true → json_text_at path.now.steps.items (view document.now) ≡ Some text.now }
+{
+    match text_at(document, path) {
+        Some(other) => other == text,
+        None => false,
+    }
+}
+
+// The sites of the texts that are expressions.
+fn sites_of(
+    alloc: Global,
+    form: Form,
+    placed: &Placed<'_>,
+    texts: &[&str],
+) -> Result<Vec<Site>, ManifestError>
+    requires { ArePlaces placed.now.bytes.now (view placed.now.document.now)
+        placed.now.paths.now placed.now.spans.now }
+    ensures texts { IfOk result (λ sites. map (λ (s : Site). s.text.items) sites.items
+        ≡ filter (is_expression form) (map (λ t. t.now) texts.now)) }
+    ensures err { IfErr result (spec.IsError placed.now.bytes.now) }
+    ensures places { IfOk result (λ sites.
+        All (IsInJson placed.now.bytes.now (view placed.now.document.now)) sites.items) }
+{
+    let mut sites = Vec::new(alloc);
+    for (number, text) in texts.iter().enumerate() {
+        if is_expression(form, *text) {
+            let Some(site) = site_at(alloc, placed, number, *text)? else {
+                return Err(no_place());
+            };
+            sites.push(site)?;
+        }
+    }
+    Ok(sites)
+}
+
+/// The expressions that a manifest of JSON declares, each at its place.
+pub(crate) fn json_sites(
+    alloc: Global,
+    form: Form,
+    bytes: &[u8],
+) -> Result<Vec<Site>, ManifestError>
+    ensures ok { IfOk result (λ sites. AreSitesOfJson form bytes.now sites.items) }
+    ensures err { IfErr result (spec.IsError bytes.now) }
+{
+    let document = document_in(alloc, bytes)?;
+    let found = license_texts(alloc, &document)?;
+    let spans = places(alloc, bytes, &document, found.paths.as_slice())?;
+    let placed = Placed {
+        bytes,
+        document: &document,
+        paths: found.paths.as_slice(),
+        spans: spans.as_slice(),
+    };
+    sites_of(alloc, form, &placed, found.texts.as_slice())
+}

@@ -1,0 +1,175 @@
+// The expressions of a manifest of TOML, each at its place.
+
+ghost use Rattle.std.specs.Prelude.{◌≡◌, All, IfErr, IfOk, IfSome, Some, true, map, slice_get};
+ghost use Rattle.toml.specs.Parse.{parse_document};
+ghost use Rattle.toml.specs.View.{table_view};
+ghost use Rattle.toml_places.specs.Places.{ArePlaces};
+ghost use Rattle.toml_places.specs.Paths.{text_at as toml_text_at};
+ghost use Rattle.manifests.specs.Sites.{AreSitesOfToml, IsInToml, texts_of_toml};
+ghost use Rattle.manifests.specs.Sites as spec;
+ghost use Rattle.manifests.specs.declared.site.Site.{Site};
+
+use crate::form::Form;
+use crate::site::{Fault, ManifestError, Reason, Site, no_place};
+use crate::toml_texts::{TomlTexts, cargo_texts, pyproject_texts, reuse_texts};
+use std::alloc::{AllocError, Global};
+use std::ops::Range;
+use text_places::Span;
+use toml::Table;
+use toml_places::{Path, places, text_at};
+
+// The text that the bytes are.
+fn text_in(bytes: &[u8]) -> Result<&str, ManifestError>
+    ensures ok { IfOk result (λ text. text.now ≡ bytes.now) }
+    ensures err { IfErr result (spec.IsError bytes.now) }
+{
+    match str::from_utf8(bytes) {
+        Ok(text) => Ok(text),
+        Err(error) => Err(ManifestError::Refused(Fault {
+            reason: Reason::NotUtf8,
+            offset: error.valid_up_to(),
+        })),
+    }
+}
+
+// The document that the text is.
+fn document_in(alloc: Global, text: &str) -> Result<Table, ManifestError>
+    ensures ok { IfOk result (λ document. parse_document text.now ≡ Some (table_view document)) }
+    ensures err { IfErr result (spec.IsError text.now) }
+{
+    match toml::table_from_str(alloc, text) {
+        Ok(document) => Ok(document),
+        Err(error) if error.is_memory() => Err(ManifestError::NoMemory),
+        Err(error) => Err(ManifestError::Refused(Fault {
+            reason: Reason::NotToml,
+            offset: start_of(error.span()),
+        })),
+    }
+}
+
+fn start_of(span: Option<Range<usize>>) -> usize {
+    match span {
+        Some(span) => span.start,
+        None => 0,
+    }
+}
+
+// How many bytes of quotes stand before a text.
+fn quotes_at(bytes: &[u8], start: usize) -> usize {
+    match bytes.get(start..) {
+        Some([b'"', b'"', b'"', ..] | [b'\'', b'\'', b'\'', ..]) => 3,
+        _ => 1,
+    }
+}
+
+// A document, with the bytes that it was read of, what it declares, and where that stands.
+#[derive(Clone, Copy)]
+struct Placed<'p> {
+    text: &'p str,
+    document: &'p Table,
+    paths: &'p [Path<'static>],
+    spans: &'p [Option<Span>],
+}
+
+// The path of that number, and the place that was found for it.
+fn place_at<'p>(placed: &Placed<'p>, number: usize) -> Option<(&'p Path<'static>, Span)>
+    ensures path { IfSome result (λ r. slice_get placed.now.paths.now number ≡ Some r.0.now) }
+    ensures span { IfSome result (λ r. slice_get placed.now.spans.now number ≡ Some (Some r.1)) }
+{
+    match (placed.paths.get(number), placed.spans.get(number)) {
+        (Some(path), Some(Some(span))) => Some((path, *span)),
+        _ => None,
+    }
+}
+
+// The site of the text of that number, where its place was found.
+fn site_at(
+    alloc: Global,
+    placed: &Placed<'_>,
+    number: usize,
+    text: &str,
+) -> Result<Option<Site>, AllocError>
+    requires { ArePlaces placed.now.text.now (table_view placed.now.document.now)
+        placed.now.paths.now placed.now.spans.now }
+    ensures text { IfOk result (λ found. IfSome found (λ site. site.text.items ≡ text.now)) }
+    ensures place { IfOk result (λ found. IfSome found
+        (IsInToml placed.now.text.now (table_view placed.now.document.now))) }
+{
+    let Some((path, span)) = place_at(placed, number) else {
+        return Ok(None);
+    };
+    if !says(placed.document, path, text) {
+        return Ok(None);
+    }
+    let mut bytes = Vec::new(alloc);
+    bytes.extend_from_slice(text.as_bytes())?;
+    Ok(Some(Site {
+        span,
+        quotes: quotes_at(placed.text.as_bytes(), span.start),
+        text: bytes,
+    }))
+}
+
+// Whether the document has this text at the path.
+fn says(document: &Table, path: &Path<'_>, text: &str) -> bool
+    ensures { result ≡ true → toml_text_at path.now.steps.items (table_view document.now) ≡ Some text.now }
+{
+    match text_at(document, path) {
+        Some(other) => other == text,
+        None => false,
+    }
+}
+
+// The sites of the texts.
+fn sites_of(alloc: Global, placed: &Placed<'_>, texts: &[&str]) -> Result<Vec<Site>, ManifestError>
+    requires { ArePlaces placed.now.text.now (table_view placed.now.document.now)
+        placed.now.paths.now placed.now.spans.now }
+    ensures texts { IfOk result (λ sites. map (λ (s : Site). s.text.items) sites.items
+        ≡ map (λ t. t.now) texts.now) }
+    ensures err { IfErr result (spec.IsError placed.now.text.now) }
+    ensures places { IfOk result (λ sites.
+        All (IsInToml placed.now.text.now (table_view placed.now.document.now)) sites.items) }
+{
+    let mut sites = Vec::new(alloc);
+    for (number, text) in texts.iter().enumerate() {
+        let Some(site) = site_at(alloc, placed, number, *text)? else {
+            return Err(no_place());
+        };
+        sites.push(site)?;
+    }
+    Ok(sites)
+}
+
+// What a document of this form declares.
+fn texts_of<'d>(alloc: Global, form: Form, document: &'d Table) -> Result<TomlTexts<'d>, AllocError>
+    ensures { IfOk result (λ found.
+        map (λ t. t.now) found.texts.items ≡ texts_of_toml form (table_view document.now)) }
+{
+    match form {
+        Form::Cargo => cargo_texts(alloc, document),
+        Form::Pyproject => pyproject_texts(alloc, document),
+        _ => reuse_texts(alloc, document),
+    }
+}
+
+/// The expressions that a manifest of TOML declares, each at its place.
+pub(crate) fn toml_sites(
+    alloc: Global,
+    form: Form,
+    bytes: &[u8],
+) -> Result<Vec<Site>, ManifestError>
+    ensures ok { IfOk result (λ sites. AreSitesOfToml form bytes.now sites.items) }
+    ensures err { IfErr result (spec.IsError bytes.now) }
+{
+    let text = text_in(bytes)?;
+    let document = document_in(alloc, text)?;
+    let found = texts_of(alloc, form, &document)?;
+    let spans = places(alloc, text, &document, found.paths.as_slice())?;
+    let placed = Placed {
+        text,
+        document: &document,
+        paths: found.paths.as_slice(),
+        spans: spans.as_slice(),
+    };
+    sites_of(alloc, &placed, found.texts.as_slice())
+}

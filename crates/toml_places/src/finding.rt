@@ -1,0 +1,127 @@
+// The places of texts, certified by the reader.
+
+ghost use Rattle.std.specs.Prelude.{◌≡◌, ◌≤◌, Some, true, IfOk, IfSome, length, slice_get, slice_range};
+ghost use Rattle.toml.specs.Data.{string};
+ghost use Rattle.toml.specs.Parse.{parse_document, parse_value};
+ghost use Rattle.toml.specs.View.{view, table_view};
+ghost use Rattle.toml_places.specs.Places.{AreInOrder, marked, Stands, ArePlaces};
+
+use crate::literals::literals;
+use crate::marks::{marked, number_of};
+use crate::path::{Path, text_at};
+use std::alloc::{AllocError, Global};
+use text_places::Span;
+use toml::{Table, Value};
+
+fn span_at(spans: &[Span], number: usize) -> Option<Span>
+    ensures { result ≡ slice_get spans.now number }
+{
+    spans.get(number).copied()
+}
+
+// The literal of the text stands there.
+fn is_literal(alloc: Global, bytes: &[u8], span: Span, text: &str) -> Result<bool, AllocError>
+    requires ordered { span.start ≤ span.end }
+    requires within { span.end ≤ length bytes.now }
+    ensures { IfOk result (λ found. found ≡ true
+        → parse_value (slice_range bytes.now span.start span.end) ≡ Some (string text.now)) }
+{
+    let Ok(literal) = std::str::from_utf8(&bytes[span.start..span.end]) else {
+        return Ok(false);
+    };
+    match Value::from_str(alloc, literal) {
+        Ok(value) => Ok(value.as_str() == Some(text)),
+        Err(error) if error.is_memory() => Err(AllocError),
+        Err(_) => Ok(false),
+    }
+}
+
+// The document that the text with marks is, if it is one.
+fn marked_document(alloc: Global, text: &str, spans: &[Span]) -> Result<Option<Table>, AllocError>
+    requires { AreInOrder 0 spans.now (length text.now) }
+    ensures { IfOk result (λ found. IfSome found (λ marks.
+        parse_document (marked text.now spans.now) ≡ Some (table_view marks))) }
+{
+    let bytes = marked(alloc, text.as_bytes(), spans)?;
+    match toml::table_from_slice(alloc, bytes.as_slice()) {
+        Ok(document) => Ok(Some(document)),
+        Err(error) if error.is_memory() => Err(AllocError),
+        Err(_) => Ok(None),
+    }
+}
+
+// The literal that a path means, whose number stands at the path of the marked document.
+fn place(
+    alloc: Global,
+    text: &str,
+    document: &Table,
+    spans: &[Span],
+    marks: &Option<Table>,
+    path: &Path<'_>,
+) -> Result<Option<Span>, AllocError>
+    requires in_order { AreInOrder 0 spans.now (length text.now) }
+    requires marks { IfSome marks.now (λ marks.
+        parse_document (marked text.now spans.now) ≡ Some (table_view marks)) }
+    ensures { IfOk result (λ found.
+        IfSome found (Stands text.now (table_view document.now) path.now.steps.items)) }
+{
+    let Some(marks) = marks else {
+        return Ok(None);
+    };
+    let (Some(value), Some(mark)) = (text_at(document, path), text_at(marks, path)) else {
+        return Ok(None);
+    };
+    let Some(number) = number_of(alloc, mark)? else {
+        return Ok(None);
+    };
+    let Some(span) = span_at(spans, number) else {
+        return Ok(None);
+    };
+    let is_same = is_literal(alloc, text.as_bytes(), span, value)?;
+    Ok(if is_same { Some(span) } else { None })
+}
+
+// The places at the paths, one after the other.
+fn places_among(
+    alloc: Global,
+    text: &str,
+    document: &Table,
+    spans: &[Span],
+    marks: &Option<Table>,
+    paths: &[Path<'_>],
+) -> Result<Vec<Option<Span>>, AllocError>
+    requires in_order { AreInOrder 0 spans.now (length text.now) }
+    requires marks { IfSome marks.now (λ marks.
+        parse_document (marked text.now spans.now) ≡ Some (table_view marks)) }
+    ensures { IfOk result (λ found.
+        ArePlaces text.now (table_view document.now) paths.now found.items) }
+{
+    let mut found = Vec::with_capacity(alloc, paths.len())?;
+    for path in paths {
+        found.push(place(alloc, text, document, spans, marks, path)?)?;
+    }
+    Ok(found)
+}
+
+/// Where the texts at these paths stand, one answer a path, in order: the bytes of the literal, with its quotes. `None`
+/// where the document has no text at the path, or where its literal was not made out. `document` is what `text` is read as.
+///
+/// It reads the text once more, with a mark in place of each literal, and is linear in the text and the paths.
+///
+/// # Errors
+///
+/// Memory was refused.
+pub fn places(
+    alloc: Global,
+    text: &str,
+    document: &Table,
+    paths: &[Path<'_>],
+) -> Result<Vec<Option<Span>>, AllocError>
+    ensures { IfOk result (λ found.
+        ArePlaces text.now (table_view document.now) paths.now found.items) }
+{
+    let spans = literals(alloc, text.as_bytes())?;
+    let spans = spans.as_slice();
+    let marks = marked_document(alloc, text, spans)?;
+    places_among(alloc, text, document, spans, &marks, paths)
+}
