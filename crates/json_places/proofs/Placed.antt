@@ -1,5 +1,5 @@
 -- Places found one after the other.
-use Rattle.std.proofs.Common.{◌≡◌, ℕ, zero, suc, List, [], ◌∷◌, ◌++◌, Option, Some, length, subst}
+use Rattle.std.proofs.Common.{◌≡◌, ℕ, zero, suc, List, [], ◌∷◌, ◌++◌, Option, Some, subst}
 use Rattle.std.specs.Prelude.{IfSome, slice_get}
 use Rattle.text_places.specs.declared.Span.{Span}
 use Rattle.serde_json.specs.Data.{Data}

@@ -1,2 +1,3 @@
+pub mod Mended
 pub mod Paths
 pub mod Places

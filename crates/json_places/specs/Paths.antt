@@ -1,7 +1,5 @@
 -- The text that a path leads to, and the document with another text there.
-use Rattle.std.specs.Prelude.{ℕ, zero, suc, Bool, List, [], ◌∷◌, Option, Some, option_and_then, if◌then◌else◌}
-use Rattle.std.specs.Ordering.{nat_cmp, is_eq}
-use Rattle.std.specs.Cmp.Lexicographic.{slice_cmp}
+use Rattle.std.specs.Prelude.{ℕ, ◌+◌, ◌==◌, List, [], ◌∷◌, Option, Some, option_and_then, bytes_eq, if◌then◌else◌}
 use Rattle.serde_json.specs.Data.{Data, string, array, object, Items, no_items, item, Members, no_members, member}
 use Rattle.serde_json.specs.Find.{get, at, as_str}
 use Rattle.json_places.specs.declared.path.Step.{Step}
@@ -21,25 +19,20 @@ value_at (step ∷ steps) d = option_and_then (value_at steps) (value_behind ste
 abbrev pub text_at : List Step → Data → Option (List ℕ)
 text_at steps document = option_and_then as_str (value_at steps document)
 
--- the two keys have the same bytes
-abbrev pub same_key : List ℕ → List ℕ → Bool
-same_key k l = is_eq (slice_cmp nat_cmp k l)
-
--- the members, with the one of the key changed
+-- the members, with what stands at the key changed
 abbrev pub change_member : (Data → Data) → List ℕ → Members → Members
 change_member change key no_members = no_members
-change_member change key (member k d ms) = if same_key key k then member k (change d) ms else member k d (change_member change key ms)
+change_member change key (member k d ms) = member k (if bytes_eq key k then change d else d) (change_member change key ms)
 
--- the items, with the one at the index changed
-abbrev pub change_item : (Data → Data) → ℕ → Items → Items
-change_item change index no_items = no_items
-change_item change zero (item d ds) = item (change d) ds
-change_item change (suc index) (item d ds) = item d (change_item change index ds)
+-- the items, the first of which has this number, with the one at the index changed
+abbrev pub change_item : (Data → Data) → ℕ → ℕ → Items → Items
+change_item change index number no_items = no_items
+change_item change index number (item d ds) = item (if number == index then change d else d) (change_item change index (number + 1) ds)
 
 -- what the step leads to is changed, and nothing where it leads to nothing
 abbrev pub change_behind : (Data → Data) → Step → Data → Data
 change_behind change (Key key) (object ms) = object (change_member change key.now ms)
-change_behind change (Item index) (array ds) = array (change_item change index ds)
+change_behind change (Item index) (array ds) = array (change_item change index 0 ds)
 change_behind change step d = d
 
 -- another text in place of a text, and nothing changed where no text is

@@ -1,6 +1,6 @@
 // The places of texts, certified by the reader.
 
-ghost use Rattle.std.specs.Prelude.{◌≡◌, ◌≤◌, Some, true, IfOk, IfSome, length, slice_get, slice_range};
+ghost use Rattle.std.specs.Prelude.{◌≡◌, ◌≢◌, ◌≤◌, Some, true, false, IfOk, IfSome, length, slice_get, slice_range};
 ghost use Rattle.serde_json.specs.Data.{string};
 ghost use Rattle.serde_json.specs.Read.{read};
 ghost use Rattle.serde_json.specs.View.{view};
@@ -13,14 +13,25 @@ use serde_json::Value;
 use std::alloc::{AllocError, Global};
 use text_places::Span;
 
+fn is_same_text(one: &str, other: &str) -> bool
+    ensures { result ≡ false → one.now ≢ other.now }
+{
+    one == other
+}
+
 fn span_at(spans: &[Span], number: usize) -> Option<Span>
     ensures { result ≡ slice_get spans.now number }
 {
     spans.get(number).copied()
 }
 
-// The literal of the text stands there.
-fn is_literal(alloc: Global, bytes: &[u8], span: Span, text: &str) -> Result<bool, AllocError>
+/// Whether the literal of a text stands there.
+pub(crate) fn is_literal(
+    alloc: Global,
+    bytes: &[u8],
+    span: Span,
+    text: &str,
+) -> Result<bool, AllocError>
     requires ordered { span.start ≤ span.end }
     requires within { span.end ≤ length bytes.now }
     ensures { IfOk result (λ found. found ≡ true
@@ -68,6 +79,9 @@ fn place(
     let (Some(value), Some(mark)) = (text_at(document, path), text_at(marks, path)) else {
         return Ok(None);
     };
+    if is_same_text(value, mark) {
+        return Ok(None);
+    }
     let Some(number) = number_of(alloc, mark)? else {
         return Ok(None);
     };

@@ -3,17 +3,21 @@
 //! It has no grammar of its own: a simple scan finds the literals, and the reader `serde_json` says which of them each path means.
 //!
 //! ```rust
-//! // crates/manifests/src/json_texts.rt
+//! // crates/manifests/src/json_sites.rt
 //! let spans = places(alloc, bytes, &document, paths.as_slice())?;
 //! ```
 //!
 //! It stands on `text_places` and `serde_json`.
 #![tactic(auto)]
 
+mod changes;
 mod finding;
 mod literals;
 mod marks;
+mod mended;
 mod path;
+mod same;
 
 pub use crate::finding::places;
+pub use crate::mended::with_text;
 pub use crate::path::{Path, Step, text_at};

@@ -12,6 +12,9 @@ use Rattle.json_places.specs.Places as json_places
 use Rattle.toml_places.specs.declared.path.Step as toml
 use Rattle.toml_places.specs.Paths as toml_paths
 use Rattle.toml_places.specs.Places as toml_places
+use Rattle.json_places.specs.Mended as json_mended
+use Rattle.toml_places.specs.Mended as toml_mended
+use Rattle.text_places.specs.declared.Span.{Span}
 use Rattle.manifests.specs.declared.form.Form.{Form}
 use Rattle.manifests.specs.declared.form.Form.TheVariants.{Npm, Composer, Cargo, Pyproject, Reuse}
 use Rattle.manifests.specs.declared.site.ManifestError.{ManifestError}
@@ -87,3 +90,37 @@ IsReason bytes NoPlace = ⊤
 abbrev pub IsError : List ℕ → ManifestError → Type 0
 IsError bytes (Refused fault) = IsReason bytes fault.reason
 IsError bytes NoMemory = ⊤
+
+-- a literal of the document is replaced by the new text in quotes, every other byte stays, and what is read is the document
+-- with the new text where the literal stood, and every other value as before
+pub record ChangesJson (bytes : List ℕ) (document : Data) (new mended : List ℕ) : Type 0 where
+  pub steps : List json.Step
+  pub span : Span
+  pub stands : json_places.Stands bytes document steps span
+  pub mends : json_mended.IsMended bytes document steps span new mended
+
+-- the same of the document that the bytes are read as
+pub record MendsJson (bytes new mended : List ℕ) : Type 0 where
+  pub document : Data
+  pub reads : read bytes ≡ Some document
+  pub changes : ChangesJson bytes document new mended
+
+-- the same of TOML
+pub record ChangesToml (bytes : List ℕ) (document : Members) (new mended : List ℕ) : Type 0 where
+  pub steps : List toml.Step
+  pub span : Span
+  pub stands : toml_places.Stands bytes document steps span
+  pub mends : toml_mended.IsMended bytes document steps span new mended
+
+-- the same of the document that the bytes are read as
+pub record MendsToml (bytes new mended : List ℕ) : Type 0 where
+  pub document : Members
+  pub reads : parse_document bytes ≡ Some document
+  pub changes : ChangesToml bytes document new mended
+
+-- the manifest, with one of its literals replaced
+abbrev pub Mends : Form → List ℕ → List ℕ → List ℕ → Type 0
+Mends Cargo bytes new mended = MendsToml bytes new mended
+Mends Pyproject bytes new mended = MendsToml bytes new mended
+Mends Reuse bytes new mended = MendsToml bytes new mended
+Mends form bytes new mended = MendsJson bytes new mended

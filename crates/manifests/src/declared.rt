@@ -1,12 +1,12 @@
 // The expressions of a manifest of any form.
 
-ghost use Rattle.std.specs.Prelude.{◌≡◌, IfErr, IfOk};
-ghost use Rattle.manifests.specs.Sites.{AreSites, IsError, reads_slash};
+ghost use Rattle.std.specs.Prelude.{◌≡◌, IfErr, IfOk, IfSome};
+ghost use Rattle.manifests.specs.Sites.{AreSites, IsError, Mends, reads_slash};
 
 use crate::form::Form;
-use crate::json_sites::json_sites;
+use crate::json_sites::{json_sites, json_with};
 use crate::site::{ManifestError, Site};
-use crate::toml_sites::toml_sites;
+use crate::toml_sites::{toml_sites, toml_with};
 use std::alloc::Global;
 
 /// Whether `/` means OR in the expressions of the form, as Cargo reads it in a `Cargo.toml`.
@@ -33,5 +33,33 @@ pub fn sites(alloc: Global, form: Form, bytes: &[u8]) -> Result<Vec<Site>, Manif
     match form {
         Form::Cargo | Form::Pyproject | Form::Reuse => toml_sites(alloc, form, bytes),
         _ => json_sites(alloc, form, bytes),
+    }
+}
+
+/// The bytes with another text in place of the expression whose site has this number, in quotes of the kind that it had.
+/// Every other byte stays. What is written is read again: it is the same document, with the new text there. `None` where no
+/// text has the number, or the new text can't be written there without an escape.
+///
+/// The bytes are read three times by the form's reader. Linear in them.
+///
+/// # Errors
+///
+/// As `sites`.
+pub fn with_expression(
+    alloc: Global,
+    form: Form,
+    bytes: &[u8],
+    number: usize,
+    new: &str,
+) -> Result<Option<Vec<u8>>, ManifestError>
+    ensures ok { IfOk result (λ answer. IfSome answer (λ mended.
+        Mends form bytes.now new.now mended.items)) }
+    ensures err { IfErr result (IsError bytes.now) }
+{
+    match form {
+        Form::Cargo | Form::Pyproject | Form::Reuse => {
+            toml_with(alloc, form, bytes, number, new)
+        }
+        _ => json_with(alloc, bytes, number, new),
     }
 }

@@ -12,7 +12,7 @@ ghost use Rattle.manifests.specs.declared.site.Site.{Site};
 use crate::form::Form;
 use crate::json_texts::{JsonTexts, license_texts};
 use crate::site::{Fault, ManifestError, Reason, Site, no_place};
-use json_places::{Path, places, text_at};
+use json_places::{Path, places, text_at, with_text};
 use serde_json::Value;
 use std::alloc::{AllocError, Global};
 use text_places::Span;
@@ -104,6 +104,7 @@ fn site_at(
     Ok(Some(Site {
         span,
         quotes: 1,
+        number,
         text: bytes,
     }))
 }
@@ -164,4 +165,52 @@ pub(crate) fn json_sites(
         spans: spans.as_slice(),
     };
     sites_of(alloc, form, &placed, found.texts.as_slice())
+}
+
+/// The bytes with another text in place of the declared one of that number, in its literal's place.
+pub(crate) fn json_with(
+    alloc: Global,
+    bytes: &[u8],
+    number: usize,
+    new: &str,
+) -> Result<Option<Vec<u8>>, ManifestError>
+    ensures ok { IfOk result (λ answer. IfSome answer (λ mended.
+        spec.MendsJson bytes.now new.now mended.items)) }
+    ensures err { IfErr result (spec.IsError bytes.now) }
+{
+    let document = document_in(alloc, bytes)?;
+    let found = license_texts(alloc, &document)?;
+    let spans = places(alloc, bytes, &document, found.paths.as_slice())?;
+    let placed = Placed {
+        bytes,
+        document: &document,
+        paths: found.paths.as_slice(),
+        spans: spans.as_slice(),
+    };
+    match changed_at(alloc, &placed, number, new)? {
+        Some(mended) => Ok(Some(mended)),
+        None => Ok(None),
+    }
+}
+
+// The bytes with another text in place of the one of that number.
+fn changed_at(
+    alloc: Global,
+    placed: &Placed<'_>,
+    number: usize,
+    new: &str,
+) -> Result<Option<Vec<u8>>, AllocError>
+    requires { ArePlaces placed.now.bytes.now (view placed.now.document.now)
+        placed.now.paths.now placed.now.spans.now }
+    ensures { IfOk result (λ answer. IfSome answer (λ mended.
+        spec.ChangesJson placed.now.bytes.now (view placed.now.document.now) new.now
+        mended.items)) }
+{
+    let Some((path, span)) = place_at(placed, number) else {
+        return Ok(None);
+    };
+    match with_text(alloc, placed.bytes, placed.document, path, span, new)? {
+        Some(mended) => Ok(Some(mended)),
+        None => Ok(None),
+    }
 }

@@ -9,6 +9,6 @@ mod site;
 mod toml_sites;
 mod toml_texts;
 
-pub use crate::declared::{reads_slash, sites};
+pub use crate::declared::{reads_slash, sites, with_expression};
 pub use crate::form::{Form, form_named, form_of};
 pub use crate::site::{Fault, ManifestError, Reason, Site};

@@ -14,6 +14,8 @@ pub struct Site {
     pub span: Span,
     /// How many bytes of quotes stand before it, and as many behind it.
     pub quotes: usize,
+    /// Its number among the texts that the manifest has where licenses are declared, from 0.
+    pub number: usize,
     /// The expression, without the escapes of the form.
     pub text: Vec<u8>,
 }

@@ -16,7 +16,7 @@ use std::alloc::{AllocError, Global};
 use std::ops::Range;
 use text_places::Span;
 use toml::Table;
-use toml_places::{Path, places, text_at};
+use toml_places::{Path, places, text_at, with_text};
 
 // The text that the bytes are.
 fn text_in(bytes: &[u8]) -> Result<&str, ManifestError>
@@ -106,6 +106,7 @@ fn site_at(
     Ok(Some(Site {
         span,
         quotes: quotes_at(placed.text.as_bytes(), span.start),
+        number,
         text: bytes,
     }))
 }
@@ -172,4 +173,54 @@ pub(crate) fn toml_sites(
         spans: spans.as_slice(),
     };
     sites_of(alloc, &placed, found.texts.as_slice())
+}
+
+/// The bytes with another text in place of the declared one of that number, in its literal's place.
+pub(crate) fn toml_with(
+    alloc: Global,
+    form: Form,
+    bytes: &[u8],
+    number: usize,
+    new: &str,
+) -> Result<Option<Vec<u8>>, ManifestError>
+    ensures ok { IfOk result (λ answer. IfSome answer (λ mended.
+        spec.MendsToml bytes.now new.now mended.items)) }
+    ensures err { IfErr result (spec.IsError bytes.now) }
+{
+    let text = text_in(bytes)?;
+    let document = document_in(alloc, text)?;
+    let found = texts_of(alloc, form, &document)?;
+    let spans = places(alloc, text, &document, found.paths.as_slice())?;
+    let placed = Placed {
+        text,
+        document: &document,
+        paths: found.paths.as_slice(),
+        spans: spans.as_slice(),
+    };
+    match changed_at(alloc, &placed, number, new)? {
+        Some(mended) => Ok(Some(mended)),
+        None => Ok(None),
+    }
+}
+
+// The bytes with another text in place of the one of that number.
+fn changed_at(
+    alloc: Global,
+    placed: &Placed<'_>,
+    number: usize,
+    new: &str,
+) -> Result<Option<Vec<u8>>, AllocError>
+    requires { ArePlaces placed.now.text.now (table_view placed.now.document.now)
+        placed.now.paths.now placed.now.spans.now }
+    ensures { IfOk result (λ answer. IfSome answer (λ mended.
+        spec.ChangesToml placed.now.text.now (table_view placed.now.document.now) new.now
+        mended.items)) }
+{
+    let Some((path, span)) = place_at(placed, number) else {
+        return Ok(None);
+    };
+    match with_text(alloc, placed.text, placed.document, path, span, new)? {
+        Some(mended) => Ok(Some(mended.into_bytes())),
+        None => Ok(None),
+    }
 }

@@ -1,7 +1,6 @@
 -- Spans in order.
 use Rattle.std.proofs.lemmas.List.{drop_more}
-use Rattle.std.proofs.Common.{◌≡◌, ℕ, zero, suc, ◌+◌, ◌<◌, ◌≤◌, List, [], ◌∷◌, ◌++◌, Some, arith, subst, length, drop, get_or}
-use Rattle.std.specs.Prelude.{slice_get}
+use Rattle.std.proofs.Common.{ℕ, ◌+◌, ◌<◌, ◌≤◌, List, [], ◌∷◌, ◌++◌, arith, length, drop, get_or}
 use Rattle.text_places.specs.declared.Span.{Span}
 use Rattle.toml_places.specs.Places.{AreInOrder}
 
@@ -20,15 +19,6 @@ AreInOrder-push low (s ∷ spans) high span h after ordered = (h.0, h.1, AreInOr
 pub AreInOrder-ends : (low : ℕ) (spans : List Span) (high : ℕ) → AreInOrder low spans high → low ≤ high
 AreInOrder-ends low [] high h = h
 AreInOrder-ends low (s ∷ spans) high h = let rest = AreInOrder-ends s.end spans high h.2 in omega arith
-
--- each of them lies there
-pub AreInOrder-at : (low : ℕ) (spans : List Span) (high number : ℕ) (span : Span) → AreInOrder low spans high → slice_get spans number ≡ Some span
-    → (span.start ≤ span.end) × (span.end ≤ high)
-AreInOrder-at low [] high number span h found = absurd (cc)
-AreInOrder-at low (s ∷ spans) high zero span h found =
-    let same : s ≡ span = cc in
-    subst (λ (x : Span). (x.start ≤ x.end) × (x.end ≤ high)) same (h.1, AreInOrder-ends s.end spans high h.2)
-AreInOrder-at low (s ∷ spans) high (suc number) span h found = AreInOrder-at s.end spans high number span h.2 found
 
 -- the next of them and those behind it
 pub AreInOrder-next : (low : ℕ) (spans : List Span) (i high : ℕ) (d : Span) → AreInOrder low (drop i spans) high → i < length spans

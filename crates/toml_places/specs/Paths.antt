@@ -1,6 +1,6 @@
 -- The text that a path leads to, and the document with another text there.
-use Rattle.std.specs.Prelude.{ℕ, ◌+◌, ◌==◌, List, [], ◌∷◌, Option, Some, option_and_then, if◌then◌else◌}
-use Rattle.toml.specs.Data.{Data, string, array, table, Items, no_items, item, Members, no_members, member, same_key, get, at, as_str}
+use Rattle.std.specs.Prelude.{ℕ, ◌+◌, ◌==◌, List, [], ◌∷◌, Option, Some, option_and_then, bytes_eq, if◌then◌else◌}
+use Rattle.toml.specs.Data.{Data, string, array, table, Items, no_items, item, Members, no_members, member, get, at, as_str}
 use Rattle.toml_places.specs.declared.path.Step.{Step}
 use Rattle.toml_places.specs.declared.path.Step.TheVariants.{Key, Item}
 
@@ -21,7 +21,7 @@ text_at steps document = option_and_then as_str (value_at steps (table document)
 -- the members, with what stands at the key changed
 abbrev pub change_member : (Data → Data) → List ℕ → Members → Members
 change_member change key no_members = no_members
-change_member change key (member k d ms) = member k (if same_key key k then change d else d) (change_member change key ms)
+change_member change key (member k d ms) = member k (if bytes_eq key k then change d else d) (change_member change key ms)
 
 -- the items, the first of which has this number, with the one at the index changed
 abbrev pub change_item : (Data → Data) → ℕ → ℕ → Items → Items

@@ -1,5 +1,5 @@
 -- Where a text of a document stands.
-use Rattle.std.specs.Prelude.{◌≡◌, ℕ, ◌+◌, ◌≤◌, List, [], ◌∷◌, ◌++◌, Option, Some, length, drop, codes, slice_range, slice_get, IsSomeAnd, IfSome}
+use Rattle.std.specs.Prelude.{◌≡◌, ◌≢◌, ℕ, ◌+◌, ◌≤◌, List, [], ◌∷◌, ◌++◌, Option, Some, length, drop, codes, slice_range, slice_get, IsSomeAnd, IfSome, IsUtf8}
 use Rattle.std.specs.Fmt.{decimal}
 use Rattle.text_places.specs.declared.Span.{Span}
 use Rattle.toml.specs.Data.{Members, string}
@@ -13,9 +13,13 @@ abbrev pub AreInOrder : ℕ → List Span → ℕ → Type 0
 AreInOrder low [] high = low ≤ high
 AreInOrder low (span ∷ spans) high = (low ≤ span.start) × (span.start ≤ span.end) × AreInOrder span.end spans high
 
--- the literal of a number as a text
+-- the text that marks a literal by its number, as `#7`
+abbrev pub mark_text : ℕ → List ℕ
+mark_text number = codes "#" ++ decimal number
+
+-- the literal of that text
 abbrev pub mark : ℕ → List ℕ
-mark number = codes "\"" ++ (decimal number ++ codes "\"")
+mark number = codes "\"" ++ (mark_text number ++ codes "\"")
 
 -- the text from an offset on, with marks in place of the spans, the first of which has this number
 abbrev pub marked_from : ℕ → ℕ → List ℕ → List Span → List ℕ
@@ -23,24 +27,30 @@ marked_from number offset text [] = drop offset text
 marked_from number offset text (span ∷ spans) =
     slice_range text offset span.start ++ (mark number ++ marked_from (number + 1) span.end text spans)
 
--- the text with each span replaced by the literal of its own number
+-- the text with each span replaced by the mark of its own number
 abbrev pub marked : List ℕ → List Span → List ℕ
 marked text spans = marked_from 0 0 text spans
 
--- once each of these literals is replaced by its own number, the document has at the path the number of the span
-pub record IsMeant (text : List ℕ) (steps : List Step) (span : Span) (spans : List Span) (number : ℕ) : Type 0 where
+-- with each of these spans marked, the document has at the path the mark of this one, which it had not before
+pub record IsMeant (text : List ℕ) (document : Members) (steps : List Step) (span : Span) (spans : List Span) (number : ℕ) : Type 0 where
   pub in_order : AreInOrder 0 spans (length text)
   pub numbered : slice_get spans number ≡ Some span
-  pub meant : IsSomeAnd (parse_document (marked text spans)) (λ ms. text_at steps ms ≡ Some (decimal number))
+  pub after : IsSomeAnd (parse_document (marked text spans)) (λ ms. text_at steps ms ≡ Some (mark_text number))
+  pub before : text_at steps document ≢ Some (mark_text number)
 
--- the span is the literal of the text that the document has at the path
-pub record Stands (text : List ℕ) (document : Members) (steps : List Step) (span : Span) : Type 0 where
+-- the span cuts no character, and its bytes, read alone, are the text that the document has at the path
+pub record IsLiteral (text : List ℕ) (document : Members) (steps : List Step) (span : Span) : Type 0 where
   pub ordered : span.start ≤ span.end
   pub within : span.end ≤ length text
-  pub literal : IsSomeAnd (text_at steps document) (λ value. parse_value (slice_range text span.start span.end) ≡ Some (string value))
+  pub whole : IsUtf8 (slice_range text span.start span.end)
+  pub value : IsSomeAnd (text_at steps document) (λ value. parse_value (slice_range text span.start span.end) ≡ Some (string value))
+
+-- the span is a literal of the text at the path, and the one that the path means
+pub record Stands (text : List ℕ) (document : Members) (steps : List Step) (span : Span) : Type 0 where
+  pub literal : IsLiteral text document steps span
   pub spans : List Span
   pub number : ℕ
-  pub meant : IsMeant text steps span spans number
+  pub meant : IsMeant text document steps span spans number
 
 -- each place that was found for a path
 abbrev pub ArePlaces : List ℕ → Members → List Path → List (Option Span) → Type 0

@@ -1,10 +1,10 @@
 // The places of texts, certified by the reader.
 
-ghost use Rattle.std.specs.Prelude.{◌≡◌, ◌≤◌, Some, true, IfOk, IfSome, length, slice_get, slice_range};
+ghost use Rattle.std.specs.Prelude.{◌≡◌, ◌≢◌, ◌↔◌, Some, false, IsTrue, IsUtf8, IfOk, IfSome, length, slice_get};
 ghost use Rattle.toml.specs.Data.{string};
 ghost use Rattle.toml.specs.Parse.{parse_document, parse_value};
 ghost use Rattle.toml.specs.View.{view, table_view};
-ghost use Rattle.toml_places.specs.Places.{AreInOrder, marked, Stands, ArePlaces};
+ghost use Rattle.toml_places.specs.Places.{AreInOrder, marked, IsLiteral, Stands, ArePlaces};
 
 use crate::literals::literals;
 use crate::marks::{marked, number_of};
@@ -13,20 +13,24 @@ use std::alloc::{AllocError, Global};
 use text_places::Span;
 use toml::{Table, Value};
 
+fn is_same_text(one: &str, other: &str) -> bool
+    ensures { result ≡ false → one.now ≢ other.now }
+{
+    one == other
+}
+
 fn span_at(spans: &[Span], number: usize) -> Option<Span>
     ensures { result ≡ slice_get spans.now number }
 {
     spans.get(number).copied()
 }
 
-// The literal of the text stands there.
-fn is_literal(alloc: Global, bytes: &[u8], span: Span, text: &str) -> Result<bool, AllocError>
-    requires ordered { span.start ≤ span.end }
-    requires within { span.end ≤ length bytes.now }
-    ensures { IfOk result (λ found. found ≡ true
-        → parse_value (slice_range bytes.now span.start span.end) ≡ Some (string text.now)) }
+// The bytes are a literal of the text.
+fn is_literal(alloc: Global, bytes: &[u8], text: &str) -> Result<bool, AllocError>
+    ensures { IfOk result (λ found. IsTrue found
+        ↔ (IsUtf8 bytes.now × (parse_value bytes.now ≡ Some (string text.now)))) }
 {
-    let Ok(literal) = std::str::from_utf8(&bytes[span.start..span.end]) else {
+    let Ok(literal) = std::str::from_utf8(bytes) else {
         return Ok(false);
     };
     match Value::from_str(alloc, literal) {
@@ -34,6 +38,26 @@ fn is_literal(alloc: Global, bytes: &[u8], span: Span, text: &str) -> Result<boo
         Err(error) if error.is_memory() => Err(AllocError),
         Err(_) => Ok(false),
     }
+}
+
+/// Whether the span is a literal of the text at the path.
+pub(crate) fn is_literal_at(
+    alloc: Global,
+    text: &str,
+    span: Span,
+    document: &Table,
+    path: &Path<'_>,
+) -> Result<bool, AllocError>
+    ensures { IfOk result (λ found. IsTrue found
+        ↔ IsLiteral text.now (table_view document.now) path.now.steps.items span) }
+{
+    let Some(value) = text_at(document, path) else {
+        return Ok(false);
+    };
+    if span.start > span.end || span.end > text.len() {
+        return Ok(false);
+    }
+    is_literal(alloc, &text.as_bytes()[span.start..span.end], value)
 }
 
 // The document that the text with marks is, if it is one.
@@ -71,14 +95,17 @@ fn place(
     let (Some(value), Some(mark)) = (text_at(document, path), text_at(marks, path)) else {
         return Ok(None);
     };
+    if is_same_text(value, mark) {
+        return Ok(None);
+    }
     let Some(number) = number_of(alloc, mark)? else {
         return Ok(None);
     };
     let Some(span) = span_at(spans, number) else {
         return Ok(None);
     };
-    let is_same = is_literal(alloc, text.as_bytes(), span, value)?;
-    Ok(if is_same { Some(span) } else { None })
+    let is_there = is_literal_at(alloc, text, span, document, path)?;
+    Ok(if is_there { Some(span) } else { None })
 }
 
 // The places at the paths, one after the other.
@@ -104,9 +131,8 @@ fn places_among(
 }
 
 /// Where the texts at these paths stand, one answer a path, in order: the bytes of the literal, with its quotes. `None`
-/// where the document has no text at the path, or where its literal was not made out. `document` is what `text` is read as.
-///
-/// It reads the text once more, with a mark in place of each literal, and is linear in the text and the paths.
+/// where the document has no text at the path, or where its literal was not made out. `document` is what `text` is read
+/// as. It reads the text once more, with a mark in place of each literal, and is linear in the text and the paths.
 ///
 /// # Errors
 ///

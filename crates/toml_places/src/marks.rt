@@ -1,17 +1,16 @@
 // A text with marks in place of its literals.
 
 ghost use Rattle.std.specs.Prelude.{◌≡◌, ◌≤◌, ◌++◌, IfOk, OnOk, IfSome, length, slice_range, string_bytes};
-ghost use Rattle.std.specs.Fmt.{decimal};
-ghost use Rattle.toml_places.specs.Places.{AreInOrder, mark, marked};
+ghost use Rattle.toml_places.specs.Places.{AreInOrder, mark, mark_text, marked};
 
 use std::alloc::{AllocError, Global};
 use text_places::Span;
 
-// The literal of a number as a text.
+// The literal that marks a number.
 fn mark(alloc: Global, number: usize) -> Result<String, AllocError>
     ensures { IfOk result (λ text. string_bytes text ≡ mark number) }
 {
-    format!(in alloc; "\"{number}\"")
+    format!(in alloc; "\"#{number}\"")
 }
 
 // Puts the bytes before a span behind a text, and the mark of its number.
@@ -31,7 +30,7 @@ fn put(
     text.extend_from_slice(mark.as_bytes())
 }
 
-/// The text with each span replaced by the literal of its own number. Linear.
+/// The text with each span replaced by the mark of its own number. Linear.
 pub(crate) fn marked(alloc: Global, bytes: &[u8], spans: &[Span]) -> Result<Vec<u8>, AllocError>
     requires { AreInOrder 0 spans.now (length bytes.now) }
     ensures { IfOk result (λ text. text.items ≡ marked bytes.now spans.now) }
@@ -47,17 +46,17 @@ pub(crate) fn marked(alloc: Global, bytes: &[u8], spans: &[Span]) -> Result<Vec<
     Ok(text)
 }
 
-/// The number that a text is.
+/// The number that a text marks.
 pub(crate) fn number_of(alloc: Global, text: &str) -> Result<Option<usize>, AllocError>
-    ensures { IfOk result (λ found. IfSome found (λ number. text.now ≡ decimal number)) }
+    ensures { IfOk result (λ found. IfSome found (λ number. text.now ≡ mark_text number)) }
 {
-    let Ok(number) = text.parse::<usize>() else {
+    let Some(Ok(number)) = text.strip_prefix("#").map(|digits| digits.parse::<usize>()) else {
         return Ok(None);
     };
-    let printed = number.to_string(alloc)?;
-    if printed.as_str() == text {
-        Ok(Some(number))
+    let mark = format!(in alloc; "#{number}")?;
+    Ok(if mark.as_str() == text {
+        Some(number)
     } else {
-        Ok(None)
-    }
+        None
+    })
 }

@@ -1,5 +1,5 @@
 use Rattle.std.proofs.lemmas.List.{take_more}
-use Rattle.std.proofs.Common.{◌≡◌, ◌∷◌, ◌++◌, [], take, ◌+◌}
+use Rattle.std.proofs.Common.{take}
 use Rattle.toml_places.proofs.Placed.{ArePlaces-push}
 use Rattle.toml_places.proofs.finding.places_among.Goals as goal
 

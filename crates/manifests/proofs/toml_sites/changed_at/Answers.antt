@@ -1,0 +1,11 @@
+use Rattle.std.proofs.Common.{rules}
+use Rattle.toml_places.proofs.Placed.{ArePlaces-at}
+use Rattle.manifests.proofs.toml_sites.changed_at.Goals as goal
+
+pub returns-in-Some-2 : goal.returns-in-Some-2
+returns-in-Some-2 c = record {
+  steps = c.in-Some.path.now.steps.items;
+  span = c.in-Some.span;
+  stands = ArePlaces-at _ _ _ _ c.args.number c.in-Some.path.now c.in-Some.span c.requires c.in-Some.ensures.path c.in-Some.ensures.span;
+  mends = search rules;
+}
