@@ -4,7 +4,7 @@
 //!
 //! ```rust
 //! // crates/manifests/src/json_sites.rt
-//! let spans = places(alloc, bytes, &document, paths.as_slice())?;
+//! let spans = places(alloc, bytes, &document, found.paths.as_slice())?;
 //! ```
 //!
 //! It stands on `text_places` and `serde_json`.

@@ -1,5 +1,5 @@
 -- The expressions of a manifest, each at its place.
-use Rattle.std.specs.Prelude.{◌≡◌, nat_eq, ℕ, Bool, true, false, not, ◌||◌, bytes_eq, List, codes, Option, Some, None, map, All, filter, ⊤}
+use Rattle.std.specs.Prelude.{◌≡◌, nat_eq, ℕ, Bool, true, false, not, ◌||◌, bytes_eq, List, codes, Option, Some, None, map, All, filter, slice_get, ⊤}
 use Rattle.std.specs.Str.{IsUtf8}
 use Rattle.std.specs.List.{starts_with}
 use Rattle.serde_json.specs.Data.{Data}
@@ -91,36 +91,42 @@ abbrev pub IsError : List ℕ → ManifestError → Type 0
 IsError bytes (Refused fault) = IsReason bytes fault.reason
 IsError bytes NoMemory = ⊤
 
--- a literal of the document is replaced by the new text in quotes, every other byte stays, and what is read is the document
--- with the new text where the literal stood, and every other value as before
-pub record ChangesJson (bytes : List ℕ) (document : Data) (new mended : List ℕ) : Type 0 where
+-- the literal of a text that the document has is replaced by the new text in quotes, every other byte stays, and what is read is
+-- the document with the new text where the old one stood, and every other value as before
+pub record ChangesJson (bytes : List ℕ) (document : Data) (old new mended : List ℕ) : Type 0 where
   pub steps : List json.Step
   pub span : Span
+  pub text : json_paths.text_at steps document ≡ Some old
   pub stands : json_places.Stands bytes document steps span
   pub mends : json_mended.IsMended bytes document steps span new mended
 
--- the same of the document that the bytes are read as
-pub record MendsJson (bytes new mended : List ℕ) : Type 0 where
+-- so the declared text of that number is replaced, in the document that the bytes are read as
+pub record MendsJson (bytes : List ℕ) (number : ℕ) (new mended : List ℕ) : Type 0 where
   pub document : Data
   pub reads : read bytes ≡ Some document
-  pub changes : ChangesJson bytes document new mended
+  pub old : List ℕ
+  pub declared : slice_get (license_texts document) number ≡ Some old
+  pub changes : ChangesJson bytes document old new mended
 
 -- the same of TOML
-pub record ChangesToml (bytes : List ℕ) (document : Members) (new mended : List ℕ) : Type 0 where
+pub record ChangesToml (bytes : List ℕ) (document : Members) (old new mended : List ℕ) : Type 0 where
   pub steps : List toml.Step
   pub span : Span
+  pub text : toml_paths.text_at steps document ≡ Some old
   pub stands : toml_places.Stands bytes document steps span
   pub mends : toml_mended.IsMended bytes document steps span new mended
 
--- the same of the document that the bytes are read as
-pub record MendsToml (bytes new mended : List ℕ) : Type 0 where
+-- the same of what a form of TOML declares
+pub record MendsToml (form : Form) (bytes : List ℕ) (number : ℕ) (new mended : List ℕ) : Type 0 where
   pub document : Members
   pub reads : parse_document bytes ≡ Some document
-  pub changes : ChangesToml bytes document new mended
+  pub old : List ℕ
+  pub declared : slice_get (texts_of_toml form document) number ≡ Some old
+  pub changes : ChangesToml bytes document old new mended
 
 -- the manifest, with one of its literals replaced
-abbrev pub Mends : Form → List ℕ → List ℕ → List ℕ → Type 0
-Mends Cargo bytes new mended = MendsToml bytes new mended
-Mends Pyproject bytes new mended = MendsToml bytes new mended
-Mends Reuse bytes new mended = MendsToml bytes new mended
-Mends form bytes new mended = MendsJson bytes new mended
+abbrev pub Mends : Form → List ℕ → ℕ → List ℕ → List ℕ → Type 0
+Mends Cargo bytes number new mended = MendsToml Cargo bytes number new mended
+Mends Pyproject bytes number new mended = MendsToml Pyproject bytes number new mended
+Mends Reuse bytes number new mended = MendsToml Reuse bytes number new mended
+Mends form bytes number new mended = MendsJson bytes number new mended

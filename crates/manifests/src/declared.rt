@@ -53,7 +53,7 @@ pub fn with_expression(
     new: &str,
 ) -> Result<Option<Vec<u8>>, ManifestError>
     ensures ok { IfOk result (λ answer. IfSome answer (λ mended.
-        Mends form bytes.now new.now mended.items)) }
+        Mends form bytes.now number new.now mended.items)) }
     ensures err { IfErr result (IsError bytes.now) }
 {
     match form {

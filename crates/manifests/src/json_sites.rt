@@ -11,7 +11,7 @@ ghost use Rattle.manifests.specs.declared.site.Site.{Site};
 
 use crate::form::Form;
 use crate::json_texts::{JsonTexts, license_texts};
-use crate::site::{Fault, ManifestError, Reason, Site, no_place};
+use crate::site::{Fault, ManifestError, Reason, Site, no_place, text_of};
 use json_places::{Path, places, text_at, with_text};
 use serde_json::Value;
 use std::alloc::{AllocError, Global};
@@ -175,7 +175,7 @@ pub(crate) fn json_with(
     new: &str,
 ) -> Result<Option<Vec<u8>>, ManifestError>
     ensures ok { IfOk result (λ answer. IfSome answer (λ mended.
-        spec.MendsJson bytes.now new.now mended.items)) }
+        spec.MendsJson bytes.now number new.now mended.items)) }
     ensures err { IfErr result (spec.IsError bytes.now) }
 {
     let document = document_in(alloc, bytes)?;
@@ -187,7 +187,10 @@ pub(crate) fn json_with(
         paths: found.paths.as_slice(),
         spans: spans.as_slice(),
     };
-    match changed_at(alloc, &placed, number, new)? {
+    let Some(old) = text_of(found.texts.as_slice(), number) else {
+        return Ok(None);
+    };
+    match changed_at(alloc, &placed, number, old, new)? {
         Some(mended) => Ok(Some(mended)),
         None => Ok(None),
     }
@@ -198,17 +201,21 @@ fn changed_at(
     alloc: Global,
     placed: &Placed<'_>,
     number: usize,
+    old: &str,
     new: &str,
 ) -> Result<Option<Vec<u8>>, AllocError>
     requires { ArePlaces placed.now.bytes.now (view placed.now.document.now)
         placed.now.paths.now placed.now.spans.now }
     ensures { IfOk result (λ answer. IfSome answer (λ mended.
-        spec.ChangesJson placed.now.bytes.now (view placed.now.document.now) new.now
-        mended.items)) }
+        spec.ChangesJson placed.now.bytes.now (view placed.now.document.now) old.now
+        new.now mended.items)) }
 {
     let Some((path, span)) = place_at(placed, number) else {
         return Ok(None);
     };
+    if !says(placed.document, path, old) {
+        return Ok(None);
+    }
     match with_text(alloc, placed.bytes, placed.document, path, span, new)? {
         Some(mended) => Ok(Some(mended)),
         None => Ok(None),

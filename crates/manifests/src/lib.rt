@@ -1,4 +1,13 @@
 //! Which files are manifests, and where the license expressions stand that they declare.
+//!
+//! It reads no expression: it gives their places, and writes another text there.
+//!
+//! ```rust
+//! // crates/spdx_program/src/manifest.rt
+//! match sites(alloc, manifest.form, manifest.bytes) {
+//! ```
+//!
+//! It stands on `json_places`, `toml_places` and `text_places`.
 #![tactic(auto)]
 
 mod declared;

@@ -1,6 +1,7 @@
 // What a manifest declares, and why it can't be told.
 
-ghost use Rattle.std.specs.Prelude.{◌≡◌};
+ghost use Rattle.std.specs.Prelude.{◌≡◌, map, slice_get};
+ghost use Rattle.std.specs.Option.{option_copied};
 ghost use Rattle.manifests.specs.declared.site.ManifestError.TheVariants.{Refused};
 ghost use Rattle.manifests.specs.declared.site.Reason.TheVariants.{NoPlace};
 
@@ -79,4 +80,14 @@ pub(crate) fn no_place() -> ManifestError
         reason: Reason::NoPlace,
         offset: 0,
     })
+}
+
+/// The text of that number.
+pub(crate) fn text_of<'d>(texts: &[&'d str], number: usize) -> Option<&'d str>
+    ensures { option_copied result ≡ slice_get (map (λ t. t.now) texts.now) number }
+{
+    match texts.get(number) {
+        Some(text) => Some(*text),
+        None => None,
+    }
 }

@@ -10,7 +10,7 @@ ghost use Rattle.manifests.specs.Sites as spec;
 ghost use Rattle.manifests.specs.declared.site.Site.{Site};
 
 use crate::form::Form;
-use crate::site::{Fault, ManifestError, Reason, Site, no_place};
+use crate::site::{Fault, ManifestError, Reason, Site, no_place, text_of};
 use crate::toml_texts::{TomlTexts, cargo_texts, pyproject_texts, reuse_texts};
 use std::alloc::{AllocError, Global};
 use std::ops::Range;
@@ -142,7 +142,11 @@ fn sites_of(alloc: Global, placed: &Placed<'_>, texts: &[&str]) -> Result<Vec<Si
 }
 
 // What a document of this form declares.
-fn texts_of<'d>(alloc: Global, form: Form, document: &'d Table) -> Result<TomlTexts<'d>, AllocError>
+fn declared_by<'d>(
+    alloc: Global,
+    form: Form,
+    document: &'d Table,
+) -> Result<TomlTexts<'d>, AllocError>
     ensures { IfOk result (λ found.
         map (λ t. t.now) found.texts.items ≡ texts_of_toml form (table_view document.now)) }
 {
@@ -164,7 +168,7 @@ pub(crate) fn toml_sites(
 {
     let text = text_in(bytes)?;
     let document = document_in(alloc, text)?;
-    let found = texts_of(alloc, form, &document)?;
+    let found = declared_by(alloc, form, &document)?;
     let spans = places(alloc, text, &document, found.paths.as_slice())?;
     let placed = Placed {
         text,
@@ -184,12 +188,12 @@ pub(crate) fn toml_with(
     new: &str,
 ) -> Result<Option<Vec<u8>>, ManifestError>
     ensures ok { IfOk result (λ answer. IfSome answer (λ mended.
-        spec.MendsToml bytes.now new.now mended.items)) }
+        spec.MendsToml form bytes.now number new.now mended.items)) }
     ensures err { IfErr result (spec.IsError bytes.now) }
 {
     let text = text_in(bytes)?;
     let document = document_in(alloc, text)?;
-    let found = texts_of(alloc, form, &document)?;
+    let found = declared_by(alloc, form, &document)?;
     let spans = places(alloc, text, &document, found.paths.as_slice())?;
     let placed = Placed {
         text,
@@ -197,7 +201,10 @@ pub(crate) fn toml_with(
         paths: found.paths.as_slice(),
         spans: spans.as_slice(),
     };
-    match changed_at(alloc, &placed, number, new)? {
+    let Some(old) = text_of(found.texts.as_slice(), number) else {
+        return Ok(None);
+    };
+    match changed_at(alloc, &placed, number, old, new)? {
         Some(mended) => Ok(Some(mended)),
         None => Ok(None),
     }
@@ -208,17 +215,21 @@ fn changed_at(
     alloc: Global,
     placed: &Placed<'_>,
     number: usize,
+    old: &str,
     new: &str,
 ) -> Result<Option<Vec<u8>>, AllocError>
     requires { ArePlaces placed.now.text.now (table_view placed.now.document.now)
         placed.now.paths.now placed.now.spans.now }
     ensures { IfOk result (λ answer. IfSome answer (λ mended.
-        spec.ChangesToml placed.now.text.now (table_view placed.now.document.now) new.now
-        mended.items)) }
+        spec.ChangesToml placed.now.text.now (table_view placed.now.document.now) old.now
+        new.now mended.items)) }
 {
     let Some((path, span)) = place_at(placed, number) else {
         return Ok(None);
     };
+    if !says(placed.document, path, old) {
+        return Ok(None);
+    }
     match with_text(alloc, placed.text, placed.document, path, span, new)? {
         Some(mended) => Ok(Some(mended.into_bytes())),
         None => Ok(None),

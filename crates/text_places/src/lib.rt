@@ -2,7 +2,7 @@
 //!
 //! ```rust
 //! // crates/spdx_program/src/manifest.rt
-//! let column = column_of(bytes, site.start());
+//! column: column_of(manifest.bytes, start),
 //! ```
 //!
 //! It stands on nothing.

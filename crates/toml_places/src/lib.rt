@@ -4,7 +4,7 @@
 //!
 //! ```rust
 //! // crates/manifests/src/toml_sites.rt
-//! let spans = places(alloc, text, &document, paths.as_slice())?;
+//! let spans = places(alloc, text, &document, found.paths.as_slice())?;
 //! ```
 //!
 //! It stands on `text_places` and `toml`.

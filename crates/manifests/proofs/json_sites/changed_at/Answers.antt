@@ -7,5 +7,6 @@ returns-in-Some-2 c = record {
   steps = c.in-Some.path.now.steps.items;
   span = c.in-Some.span;
   stands = ArePlaces-at _ _ _ _ c.args.number c.in-Some.path.now c.in-Some.span c.requires c.in-Some.ensures.path c.in-Some.ensures.span;
+  text = c.says.ensures c.if-not-says.false;
   mends = search rules;
 }

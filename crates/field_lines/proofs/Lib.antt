@@ -1,0 +1,5 @@
+pub mod Listing
+pub mod FirstLine
+pub mod Lengths
+pub mod Following
+pub mod Steps
