@@ -2,19 +2,27 @@
 
 use crate::console::Console;
 use crate::list;
+use crate::manifest::{Manifest, check_manifest};
 use crate::meant::mode_of;
-use crate::system::{System, bytes_of, input_bytes, is_binary, is_folder, paths_or_input};
+use crate::system::{System, bytes_of, input_bytes, is_binary, paths_or_input};
 use crate::trouble::Trouble;
 use crate::walk::Walk;
+use crate::wanted::{Reading, Taken, form_below, reading_of};
 use finding_forms::{Form, Place, Style, put_beginning, put_ending, put_totals};
+use foreign_text::{Sink, text_for};
 use license_tags::{Tag, tags};
 use line_engine::lines::{Summary, write_all};
 use line_engine::stream::Input as Lines;
+use manifests::Form as ManifestForm;
 use spdx_check::{Check, Totals, check_lines, check_one};
-use spdx_words::{CheckRequest, Form as AskedForm};
+use spdx_words::{CheckRequest, Form as AskedForm, Wanted};
 use std::alloc::{AllocError, Global};
 use std::fs;
 use std::io::Write;
+use text_places::column_of;
+
+// So many folders that are left out are named.
+const NAMED: usize = 3;
 
 /// The version that logs tell.
 pub(crate) const VERSION: &str = "0.1.0";
@@ -23,7 +31,7 @@ pub(crate) const VERSION: &str = "0.1.0";
 #[derive(Clone, Copy)]
 struct Job<'r> {
     check: Check<'r>,
-    is_tree: bool,
+    wanted: Wanted<'r>,
 }
 
 /// Checks what the request names, and answers the status.
@@ -42,21 +50,56 @@ pub(crate) fn check<R: System, O: Write + Drop, F: Write + Drop>(
     };
     let job = Job {
         check,
-        is_tree: request.headers,
+        wanted: request.wanted,
     };
-    let totals = check_all(rt, &job, &request.paths, console)?;
+    let sums = check_all(rt, &job, &request.paths, console)?;
     if request.summary && matches!(job.check.form, Form::Human(_) | Form::Short) {
-        let mut text = Vec::new(rt.alloc());
-        put_totals(
-            rt.alloc(),
-            &mut text,
-            totals.expressions,
-            totals.files,
-            totals.refused,
-        )?;
+        let text = summary_of(rt.alloc(), &sums)?;
         write_all(&mut console.output, &text)?;
     }
-    Ok(totals.status())
+    Ok(sums.totals.status())
+}
+
+// What is counted, and the folders that were left out.
+#[derive(Drop)]
+struct Sums {
+    totals: Totals,
+    left_out: Vec<String>,
+}
+
+// The last lines.
+fn summary_of(alloc: Global, sums: &Sums) -> Result<Vec<u8>, AllocError> {
+    let mut text = Vec::new(alloc);
+    put_totals(
+        alloc,
+        &mut text,
+        sums.totals.expressions,
+        sums.totals.files,
+        sums.totals.refused,
+    )?;
+    if !sums.left_out.is_empty() {
+        put_left_out(alloc, &mut text, &sums.left_out)?;
+    }
+    Ok(text)
+}
+
+// Appends which folders were left out, the first of them by name.
+fn put_left_out(alloc: Global, text: &mut Vec<u8>, left_out: &[String]) -> Result<(), AllocError> {
+    text.extend_from_slice(b"left out: ")?;
+    for (index, path) in left_out.iter().take(NAMED).enumerate() {
+        if index > 0 {
+            text.extend_from_slice(b", ")?;
+        }
+        let name = text_for(alloc, Sink::Line, path.as_str())?;
+        text.extend_from_slice(name.as_bytes())?;
+    }
+    if left_out.len() > NAMED {
+        let others = left_out.len().saturating_sub(NAMED);
+        let rest = format!(in alloc; " and {others} more")?;
+        text.extend_from_slice(rest.as_bytes())?;
+    }
+    text.push(b'\n')?;
+    Ok(())
 }
 
 fn form_of(form: AskedForm, colours: bool) -> Form {
@@ -77,35 +120,38 @@ fn check_all<R: System, O: Write + Drop, F: Write + Drop>(
     job: &Job<'_>,
     paths: &[&str],
     console: &mut Console<O, F>,
-) -> Result<Totals, Trouble> {
+) -> Result<Sums, Trouble> {
     let alloc = rt.alloc();
     let mut text = Vec::new(alloc);
     put_beginning(alloc, &mut text, job.check.form, VERSION)?;
     write_all(&mut console.output, &text)?;
-    let mut totals = Totals::default();
+    let mut sums = Sums {
+        totals: Totals::default(),
+        left_out: Vec::new(alloc),
+    };
     for path in paths_or_input(paths) {
-        if let Err(trouble) = check_path(rt, job, *path, &mut totals, console) {
-            pass_over(alloc, trouble, &mut totals, console)?;
+        if let Err(trouble) = check_path(rt, job, *path, &mut sums, console) {
+            pass_over(alloc, trouble, &mut sums, console)?;
         }
     }
     text.clear();
     put_ending(&mut text, job.check.form)?;
     write_all(&mut console.output, &text)?;
-    Ok(totals)
+    Ok(sums)
 }
 
 // Tells of a path that is left out; another trouble ends the program.
 fn pass_over<O: Write + Drop, F: Write + Drop>(
     alloc: Global,
     trouble: Trouble,
-    totals: &mut Totals,
+    sums: &mut Sums,
     console: &mut Console<O, F>,
 ) -> Result<(), Trouble> {
     if !trouble.is_passed_over() {
         return Err(trouble);
     }
     console.tell(alloc, &trouble);
-    totals.is_short = true;
+    sums.totals.is_short = true;
     Ok(())
 }
 
@@ -113,17 +159,76 @@ fn check_path<R: System, O: Write + Drop, F: Write + Drop>(
     rt: &R,
     job: &Job<'_>,
     path: &str,
-    totals: &mut Totals,
+    sums: &mut Sums,
     console: &mut Console<O, F>,
 ) -> Result<(), Trouble> {
-    if !job.is_tree {
-        check_list(rt, job, path, totals, console)
-    } else if path == "-" {
-        let bytes = input_bytes(rt)?;
-        check_source(rt.alloc(), job, "<stdin>", &bytes, totals, console)
-    } else {
-        check_tree(rt, job, path, totals, console)
+    match reading_of(rt, job.wanted, path)? {
+        Reading::Lines => check_list(rt, job, path, sums, console),
+        Reading::Tags => check_tagged(rt, job, path, sums, console),
+        Reading::Manifest(form) => check_named(rt, job, form, path, sums, console),
+        Reading::Tree(taken) => check_tree(rt, job, taken, path, sums, console),
     }
+}
+
+// A path, or what standard input is called.
+fn name_of(path: &str) -> &str {
+    if path == "-" { "<stdin>" } else { path }
+}
+
+fn bytes_at<R: System>(rt: &R, path: &str) -> Result<Vec<u8>, Trouble> {
+    if path == "-" {
+        input_bytes(rt)
+    } else {
+        bytes_of(rt, path)
+    }
+}
+
+// Checks the tags of a file.
+fn check_tagged<R: System, O: Write + Drop, F: Write + Drop>(
+    rt: &R,
+    job: &Job<'_>,
+    path: &str,
+    sums: &mut Sums,
+    console: &mut Console<O, F>,
+) -> Result<(), Trouble> {
+    let bytes = bytes_at(rt, path)?;
+    check_source(rt.alloc(), job, name_of(path), &bytes, sums, console)
+}
+
+// Checks a file that is a manifest of this form.
+fn check_named<R: System, O: Write + Drop, F: Write + Drop>(
+    rt: &R,
+    job: &Job<'_>,
+    form: ManifestForm,
+    path: &str,
+    sums: &mut Sums,
+    console: &mut Console<O, F>,
+) -> Result<(), Trouble> {
+    let bytes = bytes_at(rt, path)?;
+    let manifest = Manifest {
+        path: name_of(path),
+        form,
+        bytes: &bytes,
+    };
+    check_declared(rt.alloc(), job, &manifest, sums, console)
+}
+
+// Checks the expressions that a manifest declares. One that declares none counts for no file.
+fn check_declared<O: Write + Drop, F: Write + Drop>(
+    alloc: Global,
+    job: &Job<'_>,
+    manifest: &Manifest<'_>,
+    sums: &mut Sums,
+    console: &mut Console<O, F>,
+) -> Result<(), Trouble> {
+    let mut text = Vec::new(alloc);
+    let is_first = sums.totals.refused == 0;
+    let summary = check_manifest(alloc, &job.check, is_first, manifest, &mut text)?;
+    if summary.lines > 0 {
+        sums.totals.add(summary.lines, summary.refused);
+        write_all(&mut console.output, &text)?;
+    }
+    Ok(())
 }
 
 // Checks the lines of a file, or of standard input.
@@ -131,12 +236,12 @@ fn check_list<R: System, O: Write + Drop, F: Write + Drop>(
     rt: &R,
     job: &Job<'_>,
     path: &str,
-    totals: &mut Totals,
+    sums: &mut Sums,
     console: &mut Console<O, F>,
 ) -> Result<(), Trouble> {
     let alloc = rt.alloc();
     let output = &mut console.output;
-    let is_first = totals.refused == 0;
+    let is_first = sums.totals.refused == 0;
     let run = if path == "-" {
         let mut input = Lines::new(rt.reader());
         check_lines(alloc, &job.check, is_first, "<stdin>", &mut input, output)
@@ -147,7 +252,7 @@ fn check_list<R: System, O: Write + Drop, F: Write + Drop>(
     match run {
         Ok(checked) => {
             let summary = checked.summary;
-            totals.add(
+            sums.totals.add(
                 summary.lines.saturating_sub(checked.blanks),
                 summary.refused,
             );
@@ -158,21 +263,19 @@ fn check_list<R: System, O: Write + Drop, F: Write + Drop>(
 }
 
 fn open<R: System>(rt: &R, path: &str) -> Result<R::File, Trouble> {
-    if is_folder(rt, path)? {
-        return Err(Trouble::Folder(String::from_str(rt.alloc(), path)?));
-    }
     match fs::open(rt, path) {
         Ok(file) => Ok(file),
         Err(error) => Err(Trouble::unreadable(rt.alloc(), path, error)),
     }
 }
 
-// Checks the tags of a file, or of the files below a folder.
+// Checks what is taken of the files below a folder.
 fn check_tree<R: System, O: Write + Drop, F: Write + Drop>(
     rt: &R,
     job: &Job<'_>,
+    taken: Taken,
     path: &str,
-    totals: &mut Totals,
+    sums: &mut Sums,
     console: &mut Console<O, F>,
 ) -> Result<(), Trouble> {
     let alloc = rt.alloc();
@@ -180,27 +283,45 @@ fn check_tree<R: System, O: Write + Drop, F: Write + Drop>(
     for count in 0..u64::MAX {
         console.show_progress(alloc, count)?;
         let checked = match walk.next_file(rt) {
-            Ok(Some(file)) => check_file(rt, job, file.as_str(), totals, console),
+            Ok(Some(file)) => check_file(rt, job, taken, file.as_str(), sums, console),
             Ok(None) => break,
             Err(trouble) => Err(trouble),
         };
         if let Err(trouble) = checked {
-            pass_over(alloc, trouble, totals, console)?;
+            pass_over(alloc, trouble, sums, console)?;
         }
     }
     console.end_progress();
+    sums.left_out.append(&mut walk.left_out)?;
     Ok(())
 }
 
+// Checks a file below a folder: what it declares, if it is a manifest, and then its tags.
 fn check_file<R: System, O: Write + Drop, F: Write + Drop>(
     rt: &R,
     job: &Job<'_>,
+    taken: Taken,
     path: &str,
-    totals: &mut Totals,
+    sums: &mut Sums,
     console: &mut Console<O, F>,
 ) -> Result<(), Trouble> {
+    let form = form_below(taken, path);
+    if form.is_none() && !taken.tags {
+        return Ok(());
+    }
     let bytes = bytes_of(rt, path)?;
-    check_source(rt.alloc(), job, path, &bytes, totals, console)
+    if let Some(form) = form {
+        let manifest = Manifest {
+            path,
+            form,
+            bytes: &bytes,
+        };
+        check_declared(rt.alloc(), job, &manifest, sums, console)?;
+    }
+    if taken.tags {
+        check_source(rt.alloc(), job, path, &bytes, sums, console)?;
+    }
+    Ok(())
 }
 
 // Checks the tags of a file's bytes. Those with a byte 0 near their beginning are no text, and have none.
@@ -209,7 +330,7 @@ fn check_source<O: Write + Drop, F: Write + Drop>(
     job: &Job<'_>,
     path: &str,
     bytes: &[u8],
-    totals: &mut Totals,
+    sums: &mut Sums,
     console: &mut Console<O, F>,
 ) -> Result<(), Trouble> {
     if is_binary(bytes) {
@@ -218,9 +339,9 @@ fn check_source<O: Write + Drop, F: Write + Drop>(
     let tags = tags(alloc, bytes)?;
     if !tags.is_empty() {
         let mut text = Vec::new(alloc);
-        let is_first = totals.refused == 0;
+        let is_first = sums.totals.refused == 0;
         let summary = check_tags(alloc, &job.check, is_first, path, bytes, &tags, &mut text)?;
-        totals.add(summary.lines, summary.refused);
+        sums.totals.add(summary.lines, summary.refused);
         write_all(&mut console.output, &text)?;
     }
     Ok(())
@@ -254,16 +375,4 @@ fn check_tags(
         summary.lines = summary.lines.saturating_add(1);
     }
     Ok(summary)
-}
-
-// The column of a place in bytes: how many characters stand before it in its line, and one. A byte that is no text is a
-// character.
-fn column_of(bytes: &[u8], start: usize) -> u64 {
-    let before = bytes.get(..start).unwrap_or(bytes);
-    let line = match before.rsplit(|byte| *byte == b'\n').next() {
-        Some(line) => line,
-        None => before,
-    };
-    let continues = line.iter().filter(|byte| **byte & 0xc0 == 0x80).count();
-    (line.len().saturating_sub(continues) as u64).saturating_add(1)
 }

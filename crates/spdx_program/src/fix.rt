@@ -2,16 +2,19 @@
 
 use crate::console::Console;
 use crate::list;
+use crate::manifest::{Manifest, mended};
 use crate::replace::{Held, Loss, hold, replace};
 use crate::system::{System, bytes_of, input_bytes, is_binary, is_special, paths_or_input};
 use crate::trouble::Trouble;
 use crate::walk::Walk;
+use crate::wanted::{Reading, Taken, form_below, reading_of};
 use license_tags::tags;
 use line_diff::put_diff;
 use line_engine::lines::write_all;
+use manifests::Form;
 use spdx::{Catalogue, Expression, Failure};
 use spdx_mend::{Mended, Span, fix_all};
-use spdx_words::FixRequest;
+use spdx_words::{FixRequest, Wanted};
 use std::alloc::{AllocError, Global};
 use std::io::Write;
 
@@ -19,7 +22,7 @@ use std::io::Write;
 #[derive(Clone, Copy)]
 struct Job<'r> {
     catalogue: &'r Catalogue,
-    is_tree: bool,
+    wanted: Wanted<'r>,
     is_written: bool,
     breaks_links: bool,
 }
@@ -33,18 +36,13 @@ pub(crate) fn fix<R: System, O: Write + Drop, F: Write + Drop>(
     let catalogue = list::catalogue(rt, request.list)?;
     let job = Job {
         catalogue: &catalogue,
-        is_tree: request.headers,
+        wanted: request.wanted,
         is_written: request.write,
         breaks_links: request.break_links,
     };
     let mut status = 0;
     for path in paths_or_input(&request.paths) {
-        let found = if job.is_tree && *path != "-" {
-            fix_tree(rt, &job, *path, console)
-        } else {
-            fix_file(rt, &job, *path, console)
-        };
-        match found {
+        match fix_path(rt, &job, *path, console) {
             Ok(other) => status = status.max(other),
             Err(trouble) if trouble.is_passed_over() => status = console.tell(rt.alloc(), &trouble),
             Err(trouble) => return Err(trouble),
@@ -53,10 +51,26 @@ pub(crate) fn fix<R: System, O: Write + Drop, F: Write + Drop>(
     Ok(status)
 }
 
-// Mends the tags of a file, or of the files below a folder.
+fn fix_path<R: System, O: Write + Drop, F: Write + Drop>(
+    rt: &R,
+    job: &Job<'_>,
+    path: &str,
+    console: &mut Console<O, F>,
+) -> Result<u8, Trouble> {
+    let parts = match reading_of(rt, job.wanted, path)? {
+        Reading::Lines => Parts::Lines,
+        Reading::Tags => Parts::TAGS,
+        Reading::Manifest(form) => Parts::declared(form),
+        Reading::Tree(taken) => return fix_tree(rt, job, taken, path, console),
+    };
+    fix_file(rt, job, parts, path, console)
+}
+
+// Mends what is taken of the files below a folder.
 fn fix_tree<R: System, O: Write + Drop, F: Write + Drop>(
     rt: &R,
     job: &Job<'_>,
+    taken: Taken,
     path: &str,
     console: &mut Console<O, F>,
 ) -> Result<u8, Trouble> {
@@ -66,7 +80,7 @@ fn fix_tree<R: System, O: Write + Drop, F: Write + Drop>(
     for count in 0..u64::MAX {
         console.show_progress(alloc, count)?;
         let found = match walk.next_file(rt) {
-            Ok(Some(file)) => fix_file(rt, job, file.as_str(), console),
+            Ok(Some(file)) => fix_below(rt, job, taken, file.as_str(), console),
             Ok(None) => break,
             Err(trouble) => Err(trouble),
         };
@@ -80,27 +94,91 @@ fn fix_tree<R: System, O: Write + Drop, F: Write + Drop>(
     Ok(status)
 }
 
+// Mends a file below a folder.
+fn fix_below<R: System, O: Write + Drop, F: Write + Drop>(
+    rt: &R,
+    job: &Job<'_>,
+    taken: Taken,
+    path: &str,
+    console: &mut Console<O, F>,
+) -> Result<u8, Trouble> {
+    let form = form_below(taken, path);
+    if form.is_none() && !taken.tags {
+        return Ok(0);
+    }
+    let parts = Parts::Source {
+        form,
+        tags: taken.tags,
+    };
+    fix_file(rt, job, parts, path, console)
+}
+
 // Mends a file, or standard input.
 fn fix_file<R: System, O: Write + Drop, F: Write + Drop>(
     rt: &R,
     job: &Job<'_>,
+    parts: Parts,
     path: &str,
     console: &mut Console<O, F>,
 ) -> Result<u8, Trouble> {
     if path == "-" {
         let bytes = input_bytes(rt)?;
-        return fix_input(rt.alloc(), job, &bytes, console);
+        return fix_input(rt.alloc(), job, parts, &bytes, console);
     }
     if !job.is_written {
         let bytes = bytes_of(rt, path)?;
-        return show_fix(rt.alloc(), job, path, &bytes, console);
+        return show_fix(rt.alloc(), job, parts, path, &bytes, console);
     }
     if is_special(rt, path)? {
         return Err(Trouble::Special(String::from_str(rt.alloc(), path)?));
     }
     match hold(rt, path) {
-        Ok(held) => write_fix(rt, job, path, &held, console),
+        Ok(held) => write_fix(rt, job, parts, path, &held, console),
         Err(error) => Err(Trouble::unreadable(rt.alloc(), path, error)),
+    }
+}
+
+// Which expressions of a file are mended.
+#[derive(Clone, Copy)]
+enum Parts {
+    Lines,
+    /// What it declares as a manifest of the form, and what stands behind tags.
+    Source { form: Option<Form>, tags: bool },
+}
+
+impl Parts {
+    const TAGS: Parts = Parts::Source {
+        form: None,
+        tags: true,
+    };
+
+    fn declared(form: Form) -> Parts {
+        Parts::Source {
+            form: Some(form),
+            tags: false,
+        }
+    }
+}
+
+// What becomes of the bytes of a file.
+#[derive(Drop)]
+struct Outcome {
+    // the mended bytes, where something is mended
+    bytes: Option<Vec<u8>>,
+    // whether some expression is still refused
+    is_left: bool,
+}
+
+impl Outcome {
+    fn bytes_or<'b>(&'b self, other: &'b [u8]) -> &'b [u8] {
+        match &self.bytes {
+            Some(bytes) => bytes.as_slice(),
+            None => other,
+        }
+    }
+
+    fn status(&self) -> u8 {
+        u8::from(self.is_left)
     }
 }
 
@@ -108,51 +186,48 @@ fn fix_file<R: System, O: Write + Drop, F: Write + Drop>(
 fn fix_input<O: Write + Drop, F: Write + Drop>(
     alloc: Global,
     job: &Job<'_>,
+    parts: Parts,
     bytes: &[u8],
     console: &mut Console<O, F>,
 ) -> Result<u8, Trouble> {
     if !job.is_written {
-        return show_fix(alloc, job, "-", bytes, console);
+        return show_fix(alloc, job, parts, "-", bytes, console);
     }
-    let Some(mended) = mended_of(alloc, job, bytes)? else {
-        return Ok(0);
-    };
-    write_all(&mut console.output, &mended.bytes)?;
-    status_of(alloc, job, &mended)
+    let outcome = mended_of(alloc, job, parts, "<stdin>", bytes)?;
+    write_all(&mut console.output, outcome.bytes_or(bytes))?;
+    Ok(outcome.status())
 }
 
 // Writes what would mend the bytes of a file.
 fn show_fix<O: Write + Drop, F: Write + Drop>(
     alloc: Global,
     job: &Job<'_>,
+    parts: Parts,
     path: &str,
     bytes: &[u8],
     console: &mut Console<O, F>,
 ) -> Result<u8, Trouble> {
-    let Some(mended) = mended_of(alloc, job, bytes)? else {
-        return Ok(0);
-    };
-    if mended.count > 0 {
-        let text = diff_of(alloc, path, bytes, &mended.bytes)?;
+    let outcome = mended_of(alloc, job, parts, path, bytes)?;
+    if let Some(new) = &outcome.bytes {
+        let text = diff_of(alloc, path, bytes, new)?;
         write_all(&mut console.output, &text)?;
     }
-    status_of(alloc, job, &mended)
+    Ok(outcome.status())
 }
 
 // Mends a file that holds this.
 fn write_fix<R: System, O: Write + Drop, F: Write + Drop>(
     rt: &R,
     job: &Job<'_>,
+    parts: Parts,
     path: &str,
     held: &Held,
     console: &mut Console<O, F>,
 ) -> Result<u8, Trouble> {
     let alloc = rt.alloc();
-    let Some(mended) = mended_of(alloc, job, &held.bytes)? else {
-        return Ok(0);
-    };
-    if mended.count > 0 {
-        match replace(rt, path, held.stamp, job.breaks_links, &mended.bytes) {
+    let outcome = mended_of(alloc, job, parts, path, &held.bytes)?;
+    if let Some(new) = &outcome.bytes {
+        match replace(rt, path, held.stamp, job.breaks_links, new) {
             Ok(Loss::Nothing) => {}
             Ok(loss) => {
                 let lost = Trouble::Lost(String::from_str(alloc, path)?, loss);
@@ -161,24 +236,83 @@ fn write_fix<R: System, O: Write + Drop, F: Write + Drop>(
             Err(obstacle) => return Err(Trouble::kept(alloc, path, obstacle)),
         }
     }
-    status_of(alloc, job, &mended)
+    Ok(outcome.status())
 }
 
-// The bytes with what can be mended; none where they are no text, or no expression is refused.
-fn mended_of(alloc: Global, job: &Job<'_>, bytes: &[u8]) -> Result<Option<Mended>, Trouble> {
-    if job.is_tree && is_binary(bytes) {
-        return Ok(None);
+// The bytes with what can be mended, and whether some expression is left that is refused.
+fn mended_of(
+    alloc: Global,
+    job: &Job<'_>,
+    parts: Parts,
+    path: &str,
+    bytes: &[u8],
+) -> Result<Outcome, Trouble> {
+    match parts {
+        Parts::Lines => {
+            let mended = lines_mended(alloc, job, bytes)?;
+            outcome_of(alloc, job, mended)
+        }
+        Parts::Source { form, tags } => {
+            let declared = declared_of(alloc, job, form, path, bytes)?;
+            if !tags || is_binary(bytes) {
+                return Ok(declared);
+            }
+            let mended = tags_mended(alloc, job, declared.bytes_or(bytes))?;
+            let tagged = outcome_of(alloc, job, mended)?;
+            Ok(Outcome {
+                is_left: declared.is_left || tagged.is_left,
+                bytes: tagged.bytes.or(declared.bytes),
+            })
+        }
     }
-    let spans = if job.is_tree {
-        tag_spans(alloc, bytes)?
-    } else {
-        line_spans(alloc, bytes)?
+}
+
+// What mends the expressions that a manifest declares, if the file is one.
+fn declared_of(
+    alloc: Global,
+    job: &Job<'_>,
+    form: Option<Form>,
+    path: &str,
+    bytes: &[u8],
+) -> Result<Outcome, Trouble> {
+    let Some(form) = form else {
+        return Ok(Outcome {
+            bytes: None,
+            is_left: false,
+        });
     };
+    let manifest = Manifest { path, form, bytes };
+    let (bytes, is_left) = mended(alloc, job.catalogue, &manifest)?;
+    Ok(Outcome { bytes, is_left })
+}
+
+// The text with the expressions of its lines mended.
+fn lines_mended(alloc: Global, job: &Job<'_>, bytes: &[u8]) -> Result<Option<Mended>, Trouble> {
+    let spans = line_spans(alloc, bytes)?;
     Ok(fix_all(alloc, job.catalogue, bytes, &spans)?)
 }
 
-fn status_of(alloc: Global, job: &Job<'_>, mended: &Mended) -> Result<u8, Trouble> {
-    Ok(u8::from(is_refused(alloc, job.catalogue, mended)?))
+// The text with the expressions of its tags mended.
+fn tags_mended(alloc: Global, job: &Job<'_>, bytes: &[u8]) -> Result<Option<Mended>, Trouble> {
+    let spans = tag_spans(alloc, bytes)?;
+    Ok(fix_all(alloc, job.catalogue, bytes, &spans)?)
+}
+
+// What becomes of a text that is mended so; the places of its expressions are in order, so there is one.
+fn outcome_of(alloc: Global, job: &Job<'_>, mended: Option<Mended>) -> Result<Outcome, Trouble> {
+    let Some(mended) = mended else {
+        return Ok(Outcome {
+            bytes: None,
+            is_left: false,
+        });
+    };
+    let is_left = is_refused(alloc, job.catalogue, &mended)?;
+    let bytes = if mended.count > 0 {
+        Some(mended.bytes)
+    } else {
+        None
+    };
+    Ok(Outcome { bytes, is_left })
 }
 
 fn diff_of(alloc: Global, path: &str, old: &[u8], new: &[u8]) -> Result<Vec<u8>, Trouble> {

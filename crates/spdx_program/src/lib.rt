@@ -24,6 +24,7 @@ mod fix;
 mod gate;
 mod list;
 mod make;
+mod manifest;
 mod meant;
 mod needs;
 mod notice;
@@ -41,6 +42,7 @@ mod trouble;
 mod unread;
 mod verdicts;
 mod walk;
+mod wanted;
 
 pub use crate::console::Screen;
 pub use crate::list::known_version;

@@ -30,6 +30,10 @@ pub(crate) enum Trouble {
     Made(String, ListFault),
     /// A file isn't what it was called.
     Source(String, SourceFault),
+    /// A manifest isn't what it is called: why, and on which line.
+    Manifest(String, &'static str, u64),
+    /// A manifest was asked for, and no form has files of that name.
+    NoManifest(String),
     /// A file lists no package.
     Empty(String),
     /// A file holds no policy.
@@ -159,6 +163,8 @@ impl Trouble {
                 | Trouble::Linked(_)
                 | Trouble::Owner(..)
                 | Trouble::Source(..)
+                | Trouble::Manifest(..)
+                | Trouble::NoManifest(_)
                 | Trouble::Empty(_)
         )
     }
@@ -189,6 +195,8 @@ impl Trouble {
             | Trouble::List(path, _)
             | Trouble::Made(path, _)
             | Trouble::Source(path, _)
+            | Trouble::Manifest(path, _, _)
+            | Trouble::NoManifest(path)
             | Trouble::Policy(path, _)
             | Trouble::NoPackage(path)
             | Trouble::Empty(path)
@@ -236,16 +244,18 @@ impl Trouble {
                 text,
                 "spdx: {name}: left out: {count} with a name that is no UTF-8\n"
             ),
-            Trouble::Folder(_) => {
-                write!(
-                    text,
-                    "spdx: {name}: a folder; --headers reads source trees\n"
-                )
-            }
+            Trouble::Folder(_) => write!(text, "spdx: {name}: a folder, where a file is wanted\n"),
             Trouble::Broken(_) => write!(text, "spdx: {name}: read fault\n"),
             Trouble::List(_, fault) => write!(text, "spdx: {name}: no list: {fault}\n"),
             Trouble::Made(_, fault) => write!(text, "spdx: {name}: no list: {fault}\n"),
             Trouble::Source(_, fault) => write!(text, "spdx: {name}: {fault}\n"),
+            Trouble::Manifest(_, why, line) => {
+                write!(text, "spdx: {name}: line {line}: {why}; left as it is\n")
+            }
+            Trouble::NoManifest(_) => write!(
+                text,
+                "spdx: {name}: no manifest by its name; --as FORM reads it as one\n"
+            ),
             Trouble::Empty(_) => write!(text, "spdx: no packages in {name}\n"),
             Trouble::Policy(_, fault) => write!(text, "spdx: {name}: {fault}\n"),
             Trouble::Accepted(..) => write!(text, "spdx: --accept: {name}: {why}\n"),

@@ -4,19 +4,13 @@ use crate::system::System;
 use crate::trouble::Trouble;
 use std::fs;
 use std::io::{self, ErrorKind};
+use std::path::Path;
 
-// Folders that hold what others wrote or what a build made.
-const LEFT_OUT: [&str; 9] = [
-    ".git",
-    ".hg",
-    ".svn",
-    ".jj",
-    "node_modules",
-    "target",
-    "__pycache__",
-    ".venv",
-    ".tox",
-];
+// Folders of version control, which nobody misses.
+const HISTORY: [&str; 4] = [".git", ".hg", ".svn", ".jj"];
+
+// Folders that hold what others wrote or what a program made.
+const MADE: [&str; 4] = ["node_modules", "__pycache__", ".venv", ".tox"];
 
 // What is yet to be visited.
 #[derive(Drop)]
@@ -32,6 +26,8 @@ struct Entry {
 pub struct Walk {
     // The next one is the last.
     entries: Vec<Entry>,
+    /// The folders that were left out so far, but for those of version control.
+    pub(crate) left_out: Vec<String>,
 }
 
 impl Walk {
@@ -49,7 +45,10 @@ impl Walk {
         let path = String::from_str(alloc, path)?;
         let mut entries = Vec::new(alloc);
         entries.push(Entry { path, is_folder })?;
-        Ok(Walk { entries })
+        Ok(Walk {
+            entries,
+            left_out: Vec::new(alloc),
+        })
     }
 
     /// The next file's path.
@@ -82,7 +81,7 @@ impl Walk {
             .entries
             .sort_by(|one, other| other.path.cmp(&one.path))?;
         for entry in inside.entries {
-            self.entries.push(entry)?;
+            self.visit(entry, inside.has_cargo)?;
         }
         if inside.unnamed > 0 {
             let path = String::from_str(alloc, path)?;
@@ -92,9 +91,24 @@ impl Walk {
     }
 }
 
+impl Walk {
+    // Puts an entry before all else, or leaves it out; beside a `Cargo.toml` a folder `target` is what Cargo made.
+    fn visit(&mut self, entry: Entry, has_cargo: bool) -> Result<(), Trouble> {
+        let is_made = entry.is_folder && is_made(entry.path.as_str(), has_cargo);
+        if is_made {
+            self.left_out.push(entry.path)?;
+        } else {
+            self.entries.push(entry)?;
+        }
+        Ok(())
+    }
+}
+
 // What is in a folder.
 #[derive(Drop)]
 struct Inside {
+    // whether a `Cargo.toml` is
+    has_cargo: bool,
     // the files and folders that are visited
     entries: Vec<Entry>,
     // how many have a name that is no UTF-8
@@ -103,6 +117,7 @@ struct Inside {
 
 fn inside_of<R: System>(rt: &R, path: &str) -> io::Result<Inside> {
     let mut inside = Inside {
+        has_cargo: false,
         entries: Vec::new(rt.alloc()),
         unnamed: 0,
     };
@@ -111,8 +126,9 @@ fn inside_of<R: System>(rt: &R, path: &str) -> io::Result<Inside> {
             Ok(entry) => {
                 let kind = entry.file_type()?;
                 let is_folder = kind.is_dir();
-                if kind.is_file() || (is_folder && !is_left_out(entry.file_name())) {
-                    let path = String::from_str(rt.alloc(), entry.path().as_str())?;
+                inside.has_cargo = inside.has_cargo || entry.file_name() == "Cargo.toml";
+                if kind.is_file() || (is_folder && !is_history(entry.file_name())) {
+                    let path = String::from_str(rt.alloc(), below(path, entry.path().as_str()))?;
                     inside.entries.push(Entry { path, is_folder })?;
                 }
             }
@@ -125,6 +141,21 @@ fn inside_of<R: System>(rt: &R, path: &str) -> io::Result<Inside> {
     Ok(inside)
 }
 
-fn is_left_out(name: &str) -> bool {
-    LEFT_OUT.iter().any(|other| *other == name)
+// The path of what is in a folder: below `.` its name alone.
+fn below<'p>(folder: &str, path: &'p str) -> &'p str {
+    if folder == "." {
+        path.strip_prefix("./").unwrap_or(path)
+    } else {
+        path
+    }
+}
+
+fn is_history(name: &str) -> bool {
+    HISTORY.iter().any(|other| *other == name)
+}
+
+// Whether a program made what the folder holds, or others wrote it.
+fn is_made(path: &str, has_cargo: bool) -> bool {
+    let name = Path::new(path).file_name().unwrap_or("");
+    (has_cargo && name == "target") || MADE.iter().any(|other| *other == name)
 }

@@ -43,11 +43,16 @@ A newer list: put SPDX's own licenses.json and exceptions.json (github.com/spdx/
 folder, and name the folder by --list, or by the environment's SPDX_LIST for every command.";
 
 // The names of forms of manifests, as `manifests::form_named` knows them.
-const FORMS: [&str; 31] = [
-    "cargo", "npm", "bower", "jsr", "vcpkg", "elm", "composer", "pyproject", "reuse", "metadata",
-    "setup-cfg", "setup-py", "cabal", "opam", "rpm", "alpine", "arch", "gem", "mix", "rockspec",
-    "meson", "snap", "conda", "galaxy", "citation", "docker", "dep5", "appstream", "nuget", "msbuild",
-    "ros",
+const FORMS: [&str; 9] = [
+    "cargo",
+    "npm",
+    "bower",
+    "jsr",
+    "vcpkg",
+    "elm",
+    "composer",
+    "pyproject",
+    "reuse",
 ];
 
 const NEWER_HELP: &str =
@@ -221,11 +226,13 @@ fn manifests<'a>(alloc: Global) -> Result<Arg<'a>, AllocError> {
 }
 
 fn form_name<'a>(alloc: Global) -> Result<Arg<'a>, AllocError> {
-    Ok(Arg::new(alloc, "as")
-        .long("as")
-        .value_name("FORM")
-        .value_parser(FORMS.as_slice())
-        .help("Takes the files as manifests of this form, whatever their names are"))
+    Ok(
+        Arg::new(alloc, "as")
+            .long("as")
+            .value_name("FORM")
+            .value_parser(FORMS.as_slice())
+            .help("Takes the files as manifests of this form, whatever their names are"),
+    )
 }
 
 pub(crate) fn list_file<'a>(alloc: Global) -> Arg<'a> {
