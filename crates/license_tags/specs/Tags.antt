@@ -4,6 +4,8 @@ use Rattle.std.specs.List.{starts_with, prefix_len, suffix_len}
 use Rattle.std.specs.Option.{option_to_list}
 use Rattle.std.specs.Char.{is_ascii_whitespace}
 use Rattle.line_engine.specs.Lines.{lines_of}
+use Rattle.license_tags.specs.Comments.{begins_comment}
+use Rattle.license_tags.specs.declared.comment.Comment.{Comment}
 use Rattle.license_tags.specs.declared.Tag.{Tag}
 
 -- what stands before an expression
@@ -47,40 +49,51 @@ ends_comment bytes =
     || starts_with nat_eq bytes (codes "]]")
     || starts_with nat_eq bytes (codes "?>")
 
--- these bytes begin with what no expression goes on with
-abbrev pub closes : List ℕ → Bool
-closes bytes = ends_text bytes || ends_comment bytes
+-- the same: of JSP, Lisp, PowerShell, Matlab or Julia
+unfoldable pub ends_script_comment : List ℕ → Bool
+ends_script_comment bytes =
+    starts_with nat_eq bytes (codes "--%>")
+    || starts_with nat_eq bytes (codes "|#")
+    || starts_with nat_eq bytes (codes "#>")
+    || starts_with nat_eq bytes (codes "%}")
+    || starts_with nat_eq bytes (codes "=#")
+
+-- these bytes begin with what no expression goes on with in this kind of file
+abbrev pub closes : Comment → List ℕ → Bool
+closes comment bytes =
+    ends_text bytes || ends_comment bytes || ends_script_comment bytes || begins_comment comment bytes
 
 -- how many bytes stand before the first closing
-abbrev pub closing_place : List ℕ → ℕ
-closing_place [] = 0
-closing_place (b ∷ bs) = if closes (b ∷ bs) then 0 else 1 + closing_place bs
+abbrev pub closing_place : Comment → List ℕ → ℕ
+closing_place comment [] = 0
+closing_place comment (b ∷ bs) = if closes comment (b ∷ bs) then 0 else 1 + closing_place comment bs
 
 -- how long they are without the blanks at their end
 abbrev pub trimmed_len : List ℕ → ℕ
 trimmed_len bytes = length bytes - suffix_len is_ascii_whitespace bytes
 
 -- how long the expression is that these bytes begin with: up to the first closing or the end, less blanks
-abbrev pub expression_len : List ℕ → ℕ
-expression_len bytes = trimmed_len (take (closing_place bytes) bytes)
+abbrev pub expression_len : Comment → List ℕ → ℕ
+expression_len comment bytes = trimmed_len (take (closing_place comment bytes) bytes)
 
 -- the tag at a place in a line with this number that begins at this offset
-abbrev pub tag_at : ℕ → ℕ → List ℕ → ℕ → Tag
-tag_at number offset line place =
+abbrev pub tag_at : Comment → ℕ → ℕ → List ℕ → ℕ → Tag
+tag_at comment number offset line place =
     let behind = place + length tag_text in
     let start = behind + opening_len (drop behind line) in
-    record { line = number; start = offset + start; end = offset + (start + expression_len (drop start line)) }
+    let end = start + expression_len comment (drop start line) in
+    record { line = number; start = offset + start; end = offset + end }
 
 -- the tags of these lines, the first of which has this number and begins at this offset: in each line the first one
-abbrev pub tags_from : ℕ → ℕ → List (List ℕ) → List Tag
-tags_from number offset [] = []
-tags_from number offset (line ∷ lines) =
-    option_to_list (option_map (tag_at number offset line) (tag_place line))
-    ++ tags_from (number + 1) (offset + (length line + 1)) lines
+abbrev pub tags_from : Comment → ℕ → ℕ → List (List ℕ) → List Tag
+tags_from comment number offset [] = []
+tags_from comment number offset (line ∷ lines) =
+    option_to_list (option_map (tag_at comment number offset line) (tag_place line))
+    ++ tags_from comment (number + 1) (offset + (length line + 1)) lines
 
 -- the tags of a file
-abbrev pub tags_of : List ℕ → List Tag
-tags_of bytes = tags_from 1 0 (lines_of bytes)
+abbrev pub tags_of : Comment → List ℕ → List Tag
+tags_of comment bytes = tags_from comment 1 0 (lines_of bytes)
 
 -- the expressions lie between these offsets, in order and apart from one another
 abbrev pub AreInOrder : ℕ → List Tag → ℕ → Type 0

@@ -4,7 +4,7 @@
 //!
 //! ```rust
 //! // crates/spdx_program/src/fix.rt
-//! for tag in tags(alloc, bytes)? {
+//! for tag in tags(alloc, bytes, comment_of(path))? {
 //! ```
 //!
 //! It stands on `line_engine` and `memchr`.
@@ -21,6 +21,7 @@ ghost use Rattle.license_tags.specs.Tags.{
   opening_len,
   ends_text,
   ends_comment,
+  ends_script_comment,
   closes,
   closing_place,
   trimmed_len,
@@ -30,6 +31,11 @@ ghost use Rattle.license_tags.specs.Tags.{
   AreInOrder,
 };
 
+mod comment;
+
+pub use crate::comment::{Comment, comment_of};
+
+use crate::comment::begins_comment;
 use memchr::memchr;
 use memchr::memmem::Finder;
 use std::alloc::{AllocError, Global};
@@ -93,19 +99,30 @@ fn ends_comment(bytes: &[u8]) -> bool
         || bytes.starts_with(b"?>")
 }
 
-fn closes(bytes: &[u8]) -> bool
-    ensures { result ≡ closes bytes.now }
+#[tactic(auto, unfolding(crate::specs::Tags::ends_script_comment))]
+fn ends_script_comment(bytes: &[u8]) -> bool
+    ensures { result ≡ ends_script_comment bytes.now }
 {
-    ends_text(bytes) || ends_comment(bytes)
+    bytes.starts_with(b"--%>")
+        || bytes.starts_with(b"|#")
+        || bytes.starts_with(b"#>")
+        || bytes.starts_with(b"%}")
+        || bytes.starts_with(b"=#")
+}
+
+fn closes(comment: Comment, bytes: &[u8]) -> bool
+    ensures { result ≡ closes comment bytes.now }
+{
+    ends_text(bytes) || ends_comment(bytes) || ends_script_comment(bytes) || begins_comment(comment, bytes)
 }
 
 // How many bytes stand before the first closing.
-fn closing_place(bytes: &[u8]) -> usize
-    ensures value { result ≡ closing_place bytes.now }
+fn closing_place(comment: Comment, bytes: &[u8]) -> usize
+    ensures value { result ≡ closing_place comment bytes.now }
     ensures within { result ≤ length bytes.now }
 {
     for i in 0..bytes.len() {
-        if closes(&bytes[i..]) {
+        if closes(comment, &bytes[i..]) {
             return i;
         }
     }
@@ -124,11 +141,11 @@ fn trimmed_len(bytes: &[u8]) -> usize
     end
 }
 
-fn expression_len(bytes: &[u8]) -> usize
-    ensures value { result ≡ expression_len bytes.now }
+fn expression_len(comment: Comment, bytes: &[u8]) -> usize
+    ensures value { result ≡ expression_len comment bytes.now }
     ensures within { result ≤ length bytes.now }
 {
-    trimmed_len(&bytes[..closing_place(bytes)])
+    trimmed_len(&bytes[..closing_place(comment, bytes)])
 }
 
 /// Where the expression behind a tag stands: from `start` up to `end`, in bytes from the beginning of the file. `line` is
@@ -141,17 +158,17 @@ pub struct Tag {
 }
 
 #[tactic(auto, unfolding(crate::specs::Tags::tag_text))]
-fn tag_in(number: usize, offset: usize, line: &[u8], place: usize) -> Tag
+fn tag_in(comment: Comment, number: usize, offset: usize, line: &[u8], place: usize) -> Tag
     requires fits { offset + length line.now < 2 ^ 64 }
     requires stands { place + length tag_text ≤ length line.now }
-    ensures value { result ≡ tag_at number offset line.now place }
+    ensures value { result ≡ tag_at comment number offset line.now place }
     ensures low { offset ≤ result.start }
     ensures ordered { result.start ≤ result.end }
     ensures high { result.end ≤ offset + length line.now }
 {
     let behind = place + TAG.len();
     let start = behind + opening_len(&line[behind..]);
-    let end = start + expression_len(&line[start..]);
+    let end = start + expression_len(comment, &line[start..]);
     Tag {
         line: number,
         start: offset + start,
@@ -182,14 +199,14 @@ fn behind(bytes: &[u8], len: usize) -> &[u8]
 
 /// The places of the expressions behind the tags `SPDX-License-Identifier:` of a file, whose bytes may be no text. In each
 /// line the first tag counts. Its expression stands behind blanks, and quotes behind a blank, and goes up to the first
-/// quote, backslash, `<` or end of a comment (`*/`, `*)`, `-->`, `-}`, `#}`, `]]`, `?>`), or to the end of the line, less
-/// blanks. Linear.
+/// quote, backslash, `<`, end of a comment (`*/`, `*)`, `-->`, `-}`, `#}`, `]]`, `?>`, `--%>`, `|#`, `#>`, `%}`, `=#`), or
+/// beginning of one in this kind of file, or to the end of the line, less blanks. Linear.
 ///
 /// # Errors
 ///
 /// Memory was refused.
-pub fn tags(alloc: Global, bytes: &[u8]) -> Result<Vec<Tag>, AllocError>
-    ensures value { IfOk result (λ found. found.items ≡ tags_of bytes.now) }
+pub fn tags(alloc: Global, bytes: &[u8], comment: Comment) -> Result<Vec<Tag>, AllocError>
+    ensures value { IfOk result (λ found. found.items ≡ tags_of comment bytes.now) }
     ensures in_order { IfOk result (λ found. AreInOrder 0 found.items (length bytes.now)) }
 {
     let finder = finder();
@@ -201,7 +218,7 @@ pub fn tags(alloc: Global, bytes: &[u8]) -> Result<Vec<Tag>, AllocError>
     while let Some(place) = next {
         let len = line_len(rest);
         if place < len {
-            found.push(tag_in(number, offset, &rest[..len], place))?;
+            found.push(tag_in(comment, number, offset, &rest[..len], place))?;
             rest = behind(rest, len);
             next = finder.find(rest);
         } else {

@@ -1,14 +1,14 @@
 // What the calls make of a row.
 
 use crate::escapes::{bytes_of, put_bytes};
-use license_tags::tags;
+use license_tags::{Comment, comment_of, tags};
 use line_diff::put_diff;
 use std::alloc::{AllocError, Global};
 
 /// The call that rows are of.
 #[derive(Clone, Copy)]
 pub(crate) enum Call {
-    Tags,
+    Tags(Comment),
     Diff,
 }
 
@@ -17,22 +17,23 @@ impl Call {
         if name == "diff" {
             Call::Diff
         } else {
-            Call::Tags
+            let path = name.strip_prefix("tags ").unwrap_or("");
+            Call::Tags(comment_of(path))
         }
     }
 }
 
 pub(crate) fn answer(alloc: Global, call: Call, given: &str) -> Result<String, AllocError> {
     match call {
-        Call::Tags => tags_answer(alloc, given),
+        Call::Tags(comment) => tags_answer(alloc, comment, given),
         Call::Diff => diff_answer(alloc, given),
     }
 }
 
-fn tags_answer(alloc: Global, given: &str) -> Result<String, AllocError> {
+fn tags_answer(alloc: Global, comment: Comment, given: &str) -> Result<String, AllocError> {
     let file = bytes_of(alloc, given)?;
     let mut shown = String::new(alloc);
-    for tag in &tags(alloc, &file)? {
+    for tag in &tags(alloc, &file, comment)? {
         let between = if shown.is_empty() { "" } else { "; " };
         let (line, start, end) = (tag.line, tag.start, tag.end);
         write!(shown, "{between}{line} {start}-{end} ")?;

@@ -1,6 +1,6 @@
 //! The worked rows of `license_tags::tags` and `line_diff::put_diff`.
 //!
-//! Standard input has the rows. A line `= CALL` says of which call the rows behind it are; a row is `GIVEN => WANTED`; a
+//! Standard input has the rows. A line `= CALL` says of which call the rows behind it are (`tags PATH`: of the file at that path); a row is `GIVEN => WANTED`; a
 //! line that begins with `#` says something to readers. Bytes are written as text with `\n`, `\r`, `\\` and `\xHH`. A
 //! tag is written `LINE START-END EXPRESSION`; the two texts of a diff are parted by ` | `. Each row that doesn't hold is
 //! printed with what was answered, and at last how many hold. No wanted value was taken from the library's own output.
@@ -37,7 +37,7 @@ impl Tally {
 
 fn try_rows(rt: &HostRuntime, text: &str) -> io::Result<u8> {
     let mut tally = Tally { held: 0, others: 0 };
-    let mut call = Call::Tags;
+    let mut call = Call::named("");
     for line in text.lines() {
         if let Some(heading) = line.strip_prefix("= ") {
             call = Call::named(heading);

@@ -7,6 +7,6 @@ use Rattle.license_tags.proofs.closing_place.Goals as goal
 pub loop-i-preserved : goal.loop-i-preserved
 loop-i-preserved c =
     let bytes = c.args.bytes.now in
-    let not = ap closes (sym (take_rest bytes c.loop-i.i)) ∙ sym c.closes.ensures ∙ c.if-closes.false in
-    let h = closing_place-more bytes c.loop-i.i (omega arith) not in
+    let not = ap (closes c.args.comment) (sym (take_rest bytes c.loop-i.i)) ∙ sym c.closes.ensures ∙ c.if-closes.false in
+    let h = closing_place-more c.args.comment bytes c.loop-i.i (omega arith) not in
     omega (arith, h, c.loop-i.invariant)

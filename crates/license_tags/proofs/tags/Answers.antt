@@ -17,7 +17,7 @@ first_here c = subst (IsNext c.loop-next.rest.now) c.in-Some.is c.loop-next.inva
 pub loop-next-init : goal.loop-next-init
 loop-next-init c = record {
   next = next_found c.args.bytes.now c.find-next.result (subst (λ (t : List ℕ). FindsNeedle c.args.bytes.now t 0 c.find-next.result) c.finder-finder.ensures c.find-next.ensures);
-  done = ap (λ (found : List Tag). found ++ tags_of c.args.bytes.now) (sym c.new-found.ensures.items);
+  done = ap (λ (found : List Tag). found ++ tags_of c.args.comment c.args.bytes.now) (sym c.new-found.ensures.items);
   within = λ some. omega arith;
   number = omega arith;
   order = subst (λ (tags : List Tag). AreInOrder 0 tags (min 0 (length c.args.bytes.now))) (sym c.new-found.ensures.items) (omega arith);
@@ -69,13 +69,13 @@ loop-next-preserved c =
     let offset = c.loop-next.offset in
     let done = c.loop-next.invariant.done in
     let items = c.loop-next.found.items in
-    let later = λ (ys : List ℕ). tags_from (number + 1) (offset + (len + 1)) (lines_of ys) in
+    let later = λ (ys : List ℕ). tags_from c.args.comment (number + 1) (offset + (len + 1)) (lines_of ys) in
     elim c.if-place-len.branch [
       | then-place-len+in_ok-push w ↦
           let moved = ap (λ (r : Bor (List ℕ)). r.now) w.rest-is in
           let left = moved ∙ w.behind-rest.ensures in
           let tagged = tag_place-first (take len rest) place (line_first rest place len first within newline w.if-place-len.true) in
-          let step = tagged_step (tags_of c.args.bytes.now) items number offset rest len done lines within place tagged in
+          let step = tagged_step c.args.comment (tags_of c.args.comment c.args.bytes.now) items number offset rest len done lines within place tagged in
           let placed = ap (λ (v : Vec Tag Global). v.items) w.found-is ∙ w.in_ok-push.ensures.items in
           let pushed = placed ∙ ap (λ (t : Tag). items ++ t ∷ []) w.tag_in.ensures.value in
           let found = next_found w.behind-rest.result.now w.find-next-then-place-len.result
@@ -96,7 +96,7 @@ loop-next-preserved c =
       | else-place-len w ↦
           let left = ap (λ (r : Bor (List ℕ)). r.now) w.rest-is ∙ w.behind-rest-else-place-len.ensures in
           let absent = tag_place-none (take len rest) (line_absent rest place len first within w.if-place-len.false) in
-          let step = untagged_step (tags_of c.args.bytes.now) items number offset rest len done lines within absent in
+          let step = untagged_step c.args.comment (tags_of c.args.comment c.args.bytes.now) items number offset rest len done lines within absent in
           let found = behind_first rest place len first within newline w.if-place-len.false in
           record {
             next = subst (λ (xs : List ℕ). IsNext xs c.if-place-len.next) (sym left) (subst (IsNext (drop (len + 1) rest)) (sym w.next-is) found);
@@ -116,7 +116,7 @@ returns-clause-value c =
     let absent = subst (IsNext c.loop-next.rest.now) c.in_default.is c.loop-next.invariant.next in
     sym (
     c.loop-next.invariant.done
-    ∙ ap (λ (tags : List Tag). c.loop-next.found.items ++ tags) (tags_from-absent c.loop-next.number c.loop-next.offset c.loop-next.rest.now absent)
+    ∙ ap (λ (tags : List Tag). c.loop-next.found.items ++ tags) (tags_from-absent c.args.comment c.loop-next.number c.loop-next.offset c.loop-next.rest.now absent)
     ∙ append-nil c.loop-next.found.items
     )
 

@@ -7,7 +7,7 @@ use Rattle.license_tags.proofs.tags.Given as goal
 abbrev pub invariant-loop-next : goal.invariant-loop-next
 invariant-loop-next l = record {
   next : IsNext l.rest l.next;
-  done : tags_of l.bytes ≡ l.found.items ++ tags_from l.number l.offset (lines_of l.rest);
+  done : tags_of l.comment l.bytes ≡ l.found.items ++ tags_from l.comment l.number l.offset (lines_of l.rest);
   within : 0 < length l.rest → l.offset + length l.rest ≤ length l.bytes;
   number : l.number ≤ l.offset + 1;
   order : AreInOrder 0 l.found.items (min l.offset (length l.bytes));
