@@ -179,7 +179,8 @@ comment_named name extension =
 
 -- the kind of the file at a path, by its name there
 abbrev pub comment_of : List ℕ → Comment
-comment_of path = comment_named (unwrap_or (path_file_name path) []) (unwrap_or (path_extension path) [])
+comment_of path =
+    comment_named (unwrap_or (path_file_name path) []) (unwrap_or (path_extension path) [])
 
 -- these bytes begin with what begins a comment
 abbrev pub begins_comment : Comment → List ℕ → Bool

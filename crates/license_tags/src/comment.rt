@@ -253,7 +253,10 @@ pub fn comment_of(path: &str) -> Comment
     ensures { result ≡ comment_of path.now }
 {
     let path = Path::new(path);
-    comment_named(path.file_name().unwrap_or(""), path.extension().unwrap_or(""))
+    comment_named(
+        path.file_name().unwrap_or(""),
+        path.extension().unwrap_or(""),
+    )
 }
 
 /// Whether the bytes begin with what begins a comment.

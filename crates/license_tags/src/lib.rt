@@ -33,9 +33,8 @@ ghost use Rattle.license_tags.specs.Tags.{
 
 mod comment;
 
-pub use crate::comment::{Comment, comment_of};
-
 use crate::comment::begins_comment;
+pub use crate::comment::{Comment, comment_of};
 use memchr::memchr;
 use memchr::memmem::Finder;
 use std::alloc::{AllocError, Global};
@@ -113,7 +112,10 @@ fn ends_script_comment(bytes: &[u8]) -> bool
 fn closes(comment: Comment, bytes: &[u8]) -> bool
     ensures { result ≡ closes comment bytes.now }
 {
-    ends_text(bytes) || ends_comment(bytes) || ends_script_comment(bytes) || begins_comment(comment, bytes)
+    ends_text(bytes)
+        || ends_comment(bytes)
+        || ends_script_comment(bytes)
+        || begins_comment(comment, bytes)
 }
 
 // How many bytes stand before the first closing.
@@ -197,10 +199,10 @@ fn behind(bytes: &[u8], len: usize) -> &[u8]
     }
 }
 
-/// The places of the expressions behind the tags `SPDX-License-Identifier:` of a file, whose bytes may be no text. In each
-/// line the first tag counts. Its expression stands behind blanks, and quotes behind a blank, and goes up to the first
-/// quote, backslash, `<`, end of a comment (`*/`, `*)`, `-->`, `-}`, `#}`, `]]`, `?>`, `--%>`, `|#`, `#>`, `%}`, `=#`), or
-/// beginning of one in this kind of file, or to the end of the line, less blanks. Linear.
+/// The places of the expressions behind the tags `SPDX-License-Identifier:` of a file, whose bytes may be no text. In
+/// each line the first tag counts. Its expression stands behind blanks, and quotes behind a blank. It goes up to the
+/// first quote, backslash, `<`, end of a comment (`*/`, `*)`, `-->`, `-}`, `#}`, `]]`, `?>`, `--%>`, `|#`, `#>`, `%}`,
+/// `=#`), or beginning of one in this kind of file, or to the end of the line, less blanks. Linear.
 ///
 /// # Errors
 ///

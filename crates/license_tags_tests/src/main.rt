@@ -1,9 +1,10 @@
 //! The worked rows of `license_tags::tags` and `line_diff::put_diff`.
 //!
-//! Standard input has the rows. A line `= CALL` says of which call the rows behind it are (`tags PATH`: of the file at that path); a row is `GIVEN => WANTED`; a
-//! line that begins with `#` says something to readers. Bytes are written as text with `\n`, `\r`, `\\` and `\xHH`. A
-//! tag is written `LINE START-END EXPRESSION`; the two texts of a diff are parted by ` | `. Each row that doesn't hold is
-//! printed with what was answered, and at last how many hold. No wanted value was taken from the library's own output.
+//! Standard input has the rows. A line `= CALL` says of which call the rows behind it are (`tags PATH`: of the file at
+//! that path); a row is `GIVEN => WANTED`; a line that begins with `#` says something to readers, so a row's own `#` at
+//! the front is written `\x23`. Bytes are written as text with `\n`, `\r`, `\\` and `\xHH`. A tag is written
+//! `LINE START-END EXPRESSION`; the two texts of a diff are parted by ` | `. Each row that doesn't hold is printed with
+//! what was answered, and at last how many hold. No wanted value was taken from the library's own output.
 #![tactic(auto)]
 
 mod answers;
