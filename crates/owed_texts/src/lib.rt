@@ -41,8 +41,8 @@ pub struct Owed<'t> {
 /// times.
 ///
 /// A file holds the text of a name if it is called so, as `MIT`, or so with one extension more, as `MIT.txt`. An
-/// extension is a `.` and one or more bytes without a `.`. So `Apache-2.0` holds the text of `Apache-2.0`, and also that
-/// of `Apache-2`. Names are compared byte for byte.
+/// extension is a `.` and one or more bytes without a `.`. So `Apache-2.0` holds the text of `Apache-2.0`, and also
+/// that of `Apache-2`. Names are compared byte for byte.
 ///
 /// Takes `n log n` comparisons of names, for `n` used names and files together.
 ///
