@@ -1,8 +1,8 @@
 //! The worked rows of `owed_texts::owed_texts`.
 //!
-//! Standard input has the rows. A row is `USED | FILES => MISSING | UNUSED`, each a list of names with blanks between; a
-//! line that begins with `#` says something to readers. Each row that doesn't hold is printed with what was answered, and
-//! at last how many hold. No wanted value was taken from the library's own output.
+//! Standard input has the rows. A row is `USED | FILES => MISSING | UNUSED`, each a list of names with blanks between;
+//! a line that begins with `#` says something to readers. Each row that doesn't hold is printed with what was answered,
+//! and at last how many hold. No wanted value was taken from the library's own output.
 #![tactic(auto)]
 
 use owed_texts::owed_texts;

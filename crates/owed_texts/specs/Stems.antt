@@ -4,4 +4,5 @@ use Rattle.owed_texts.specs.Owed.{is_extension}
 
 abbrev pub stem : List ℕ → Option (List ℕ)
 stem [] = None
-stem (b ∷ bytes) = if is_extension (b ∷ bytes) then Some [] else option_map (λ s. b ∷ s) (stem bytes)
+stem (b ∷ bytes) =
+    if is_extension (b ∷ bytes) then Some [] else option_map (λ s. b ∷ s) (stem bytes)
