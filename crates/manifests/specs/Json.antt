@@ -1,11 +1,8 @@
 -- The expressions that a manifest of JSON declares.
-use Rattle.std.specs.Prelude.{ℕ, List, [], ◌++◌, codes, Option, Some, None, option_and_then, nat_eq, Bool, true, not, ◌||◌, bytes_eq, filter}
+use Rattle.std.specs.Prelude.{ℕ, List, [], ◌++◌, codes, Option, Some, option_and_then}
 use Rattle.std.specs.Option.{option_to_list, option_map_or}
-use Rattle.std.specs.List.{starts_with}
 use Rattle.serde_json.specs.Data.{Data, string, array, Items, no_items, item}
 use Rattle.serde_json.specs.Find.{get, as_str}
-use Rattle.manifests.specs.declared.form.Form.{Form}
-use Rattle.manifests.specs.declared.form.Form.TheVariants.{Npm, Composer}
 
 -- a text, or the text at `type` of an object
 abbrev pub text_in : Data → Option (List ℕ)

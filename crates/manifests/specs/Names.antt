@@ -1,9 +1,10 @@
 -- Which form of manifest a file has by its name, and by which word a form is asked for.
-use Rattle.std.specs.Prelude.{ℕ, bytes_eq, List, codes, Option, Some, None, option_and_then, if◌then◌else◌}
+use Rattle.std.specs.Prelude.{ℕ, bytes_eq, List, codes, Option, Some, None, option_and_then, option_map, if◌then◌else◌}
 use Rattle.std.specs.Option.{option_or}
 use Rattle.std.specs.Path.{path_file_name}
 use Rattle.manifests.specs.declared.form.Form.{Form}
-use Rattle.manifests.specs.declared.form.Form.TheVariants.{Cargo, Npm, Bower, Jsr, Vcpkg, Elm, Composer, Pyproject, Reuse}
+use Rattle.manifests.specs.declared.form.Form.TheVariants.{Cargo, Npm, Bower, Jsr, Vcpkg, Elm, Composer, Pyproject, Reuse, Plain}
+use Rattle.plain_manifests.specs.Names.{plain_form_of, plain_form_named}
 
 -- the form of the files of JSON of this name
 unfoldable pub by_json_name : List ℕ → Option Form
@@ -38,10 +39,15 @@ by_word name =
     if bytes_eq name (codes "reuse") then Some Reuse else
     None
 
--- the form of the file at a path, by its name there
+-- the form of the file of JSON or TOML at a path, by its name there
+abbrev pub document_form_of : List ℕ → Option Form
+document_form_of path =
+    option_and_then (λ name. option_or (by_json_name name) (by_toml_name name)) (path_file_name path)
+
+-- the form of the file at a path
 abbrev pub form_of : List ℕ → Option Form
-form_of path = option_and_then (λ name. option_or (by_json_name name) (by_toml_name name)) (path_file_name path)
+form_of path = option_or (document_form_of path) (option_map Plain (plain_form_of path))
 
 -- the form that goes by a word
 abbrev pub form_named : List ℕ → Option Form
-form_named word = by_word word
+form_named word = option_or (by_word word) (option_map Plain (plain_form_named word))

@@ -1,5 +1,5 @@
 -- The expressions of a manifest, each at its place.
-use Rattle.std.specs.Prelude.{◌≡◌, nat_eq, ℕ, Bool, true, false, not, ◌||◌, bytes_eq, List, codes, Option, Some, None, map, All, filter, slice_get, ⊤}
+use Rattle.std.specs.Prelude.{◌≡◌, nat_eq, ℕ, Bool, true, false, not, ◌||◌, bytes_eq, List, [], ◌∷◌, codes, Some, None, map, All, filter, slice_get, ⊤}
 use Rattle.std.specs.Str.{IsUtf8}
 use Rattle.std.specs.List.{starts_with}
 use Rattle.serde_json.specs.Data.{Data}
@@ -16,12 +16,15 @@ use Rattle.json_places.specs.Mended as json_mended
 use Rattle.toml_places.specs.Mended as toml_mended
 use Rattle.text_places.specs.declared.Span.{Span}
 use Rattle.manifests.specs.declared.form.Form.{Form}
-use Rattle.manifests.specs.declared.form.Form.TheVariants.{Npm, Composer, Cargo, Pyproject, Reuse}
+use Rattle.manifests.specs.declared.form.Form.TheVariants.{Npm, Composer, Cargo, Pyproject, Reuse, Plain}
 use Rattle.manifests.specs.declared.site.ManifestError.{ManifestError}
 use Rattle.manifests.specs.declared.site.ManifestError.TheVariants.{Refused, NoMemory}
 use Rattle.manifests.specs.declared.site.Reason.{Reason}
 use Rattle.manifests.specs.declared.site.Reason.TheVariants.{NotUtf8, NotJson, NotToml, NoPlace}
 use Rattle.manifests.specs.declared.site.Site.{Site}
+use Rattle.plain_manifests.specs.declared.form.PlainForm.{PlainForm}
+use Rattle.plain_manifests.specs.declared.sites.PlainSite.{PlainSite}
+use Rattle.plain_manifests.specs.Sites.{ArePlainSites, MendsPlain}
 use Rattle.manifests.specs.Json.{license_texts}
 use Rattle.manifests.specs.Toml.{cargo_texts, pyproject_texts, reuse_texts}
 
@@ -67,6 +70,26 @@ pub record AreSitesOfToml (form : Form) (bytes : List ℕ) (sites : List Site) :
   pub texts : map (λ (s : Site). s.text.items) sites ≡ texts_of_toml form document
   pub places : All (IsInToml bytes document) sites
 
+-- the site is the one of a file of fields or elements, which has no quotes in its place
+pub record IsPlain (found : PlainSite) (site : Site) : Type 0 where
+  pub span : site.span ≡ found.span
+  pub quotes : site.quotes ≡ 0
+  pub number : site.number ≡ found.number
+  pub text : site.text.items ≡ found.text.items
+
+-- so each of them is, one after the other
+abbrev pub AreEach : List PlainSite → List Site → Type 0
+AreEach [] [] = ⊤
+AreEach (found ∷ others) (site ∷ sites) = IsPlain found site × AreEach others sites
+AreEach [] (site ∷ sites) = ⊥
+AreEach (found ∷ others) [] = ⊥
+
+-- the sites are the expressions that a file of fields or elements declares, each at its place
+pub record AreSitesOfPlain (form : PlainForm) (bytes : List ℕ) (sites : List Site) : Type 0 where
+  pub found : List PlainSite
+  pub declared : ArePlainSites form bytes found
+  pub each : AreEach found sites
+
 -- a `/` means OR
 abbrev pub reads_slash : Form → Bool
 reads_slash Cargo = true
@@ -77,6 +100,7 @@ abbrev pub AreSites : Form → List ℕ → List Site → Type 0
 AreSites Cargo bytes sites = AreSitesOfToml Cargo bytes sites
 AreSites Pyproject bytes sites = AreSitesOfToml Pyproject bytes sites
 AreSites Reuse bytes sites = AreSitesOfToml Reuse bytes sites
+AreSites (Plain form) bytes sites = AreSitesOfPlain form bytes sites
 AreSites form bytes sites = AreSitesOfJson form bytes sites
 
 -- the bytes are not what the reason says that they aren't; a place that isn't known says nothing of the bytes
@@ -129,4 +153,5 @@ abbrev pub Mends : Form → List ℕ → ℕ → List ℕ → List ℕ → Type 
 Mends Cargo bytes number new mended = MendsToml Cargo bytes number new mended
 Mends Pyproject bytes number new mended = MendsToml Pyproject bytes number new mended
 Mends Reuse bytes number new mended = MendsToml Reuse bytes number new mended
+Mends (Plain form) bytes number new mended = MendsPlain form bytes number new mended
 Mends form bytes number new mended = MendsJson bytes number new mended

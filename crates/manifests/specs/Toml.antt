@@ -1,5 +1,5 @@
 -- The expressions that a manifest of TOML declares.
-use Rattle.std.specs.Prelude.{ℕ, List, [], ◌∷◌, ◌++◌, codes, Option, Some, None, option_and_then}
+use Rattle.std.specs.Prelude.{ℕ, List, [], ◌∷◌, ◌++◌, codes, Option, Some, option_and_then}
 use Rattle.std.specs.Option.{option_to_list, option_map_or}
 use Rattle.toml.specs.Data.{Data, array, Items, no_items, item, Members, get, get_member, as_str}
 

@@ -5,8 +5,10 @@ ghost use Rattle.manifests.specs.Sites.{AreSites, IsError, Mends, reads_slash};
 
 use crate::form::Form;
 use crate::json_sites::{json_sites, json_with};
+use crate::plain::sites_of_fields;
 use crate::site::{ManifestError, Site};
 use crate::toml_sites::{toml_sites, toml_with};
+use plain_manifests::with_plain_text;
 use std::alloc::Global;
 
 /// Whether `/` means OR in the expressions of the form, as Cargo reads it in a `Cargo.toml`.
@@ -32,6 +34,7 @@ pub fn sites(alloc: Global, form: Form, bytes: &[u8]) -> Result<Vec<Site>, Manif
 {
     match form {
         Form::Cargo | Form::Pyproject | Form::Reuse => toml_sites(alloc, form, bytes),
+        Form::Plain(form) => Ok(sites_of_fields(alloc, form, bytes)?),
         _ => json_sites(alloc, form, bytes),
     }
 }
@@ -60,6 +63,7 @@ pub fn with_expression(
         Form::Cargo | Form::Pyproject | Form::Reuse => {
             toml_with(alloc, form, bytes, number, new)
         }
+        Form::Plain(form) => Ok(with_plain_text(alloc, form, bytes, number, new)?),
         _ => json_with(alloc, bytes, number, new),
     }
 }

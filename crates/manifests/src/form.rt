@@ -1,8 +1,10 @@
 // Forms of manifests, and which form a file has by its name.
 
-ghost use Rattle.std.specs.Prelude.{◌≡◌};
-ghost use Rattle.manifests.specs.Names.{form_of, form_named, by_json_name, by_toml_name, by_word};
+ghost use Rattle.std.specs.Prelude.{◌≡◌, option_map};
+ghost use Rattle.manifests.specs.declared.form.Form.TheVariants.{Plain};
+ghost use Rattle.manifests.specs.Names.{form_of, form_named, document_form_of, by_json_name, by_toml_name, by_word};
 
+use plain_manifests::{PlainForm, plain_form_named, plain_form_of};
 use std::path::Path;
 
 /// How a file that declares a license is written (docs/MANIFESTS.md has what each form's own description says).
@@ -26,6 +28,8 @@ pub enum Form {
     Pyproject,
     /// `REUSE.toml`.
     Reuse,
+    /// A file of fields or elements.
+    Plain(PlainForm),
 }
 
 // The form of the files of JSON of this name.
@@ -94,9 +98,9 @@ fn by_word(name: &str) -> Option<Form>
     }
 }
 
-/// The form of a manifest that is at this path, by its name there.
-pub fn form_of(path: &str) -> Option<Form>
-    ensures { result ≡ form_of path.now }
+// The form of a file of JSON or TOML that is at this path.
+fn document_form_of(path: &str) -> Option<Form>
+    ensures { result ≡ document_form_of path.now }
 {
     match Path::new(path).file_name() {
         Some(name) => by_json_name(name).or(by_toml_name(name)),
@@ -104,9 +108,26 @@ pub fn form_of(path: &str) -> Option<Form>
     }
 }
 
-/// The form that goes by this word: `cargo`, `npm`, `bower`, `jsr`, `vcpkg`, `elm`, `composer`, `pyproject` or `reuse`.
+fn plain(form: Option<PlainForm>) -> Option<Form>
+    ensures { result ≡ option_map Plain form }
+{
+    match form {
+        Some(form) => Some(Form::Plain(form)),
+        None => None,
+    }
+}
+
+/// The form of a manifest that is at this path, by its name there.
+pub fn form_of(path: &str) -> Option<Form>
+    ensures { result ≡ form_of path.now }
+{
+    document_form_of(path).or(plain(plain_form_of(path)))
+}
+
+/// The form that goes by this word: `cargo`, `npm`, `bower`, `jsr`, `vcpkg`, `elm`, `composer`, `pyproject`, `reuse`, or that of a
+/// file of fields or elements.
 pub fn form_named(word: &str) -> Option<Form>
     ensures { result ≡ form_named word.now }
 {
-    by_word(word)
+    by_word(word).or(plain(plain_form_named(word)))
 }

@@ -7,13 +7,14 @@
 //! match sites(alloc, manifest.form, manifest.bytes) {
 //! ```
 //!
-//! It stands on `json_places`, `toml_places` and `text_places`.
+//! It stands on `json_places`, `toml_places`, `plain_manifests` and `text_places`.
 #![tactic(auto)]
 
 mod declared;
 mod form;
 mod json_sites;
 mod json_texts;
+mod plain;
 mod site;
 mod toml_sites;
 mod toml_texts;

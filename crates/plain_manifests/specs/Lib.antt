@@ -1,0 +1,4 @@
+pub mod Grammars
+pub mod Names
+pub mod Places
+pub mod Sites

@@ -1,0 +1,49 @@
+-- The expressions of a file of fields or elements, each at its place, and the file with another one.
+use Rattle.std.specs.Prelude.{◌≡◌, ℕ, Bool, not, List, ◌++◌, Some, map, filter, All, set, take, drop, slice_get}
+use Rattle.std.specs.List.{list_any}
+use Rattle.text_places.specs.declared.Span.{Span}
+use Rattle.field_lines.specs.Names.{is_one_of}
+use Rattle.plain_manifests.specs.declared.form.PlainForm.{PlainForm}
+use Rattle.plain_manifests.specs.declared.sites.PlainSite.{PlainSite}
+use Rattle.plain_manifests.specs.Grammars.{marks_of}
+use Rattle.plain_manifests.specs.Places.{ArePlaces, text_at}
+
+-- the texts at these places
+abbrev pub texts_at : List ℕ → List Span → List (List ℕ)
+texts_at bytes places = map (text_at bytes) places
+
+-- the text is an expression, and nothing that the form's own language makes one of
+abbrev pub is_expression : PlainForm → List ℕ → Bool
+is_expression form text = not (list_any (is_one_of (marks_of form)) text)
+
+-- the site is the declared text of its number, at its place
+pub record IsDeclared (bytes : List ℕ) (places : List Span) (site : PlainSite) : Type 0 where
+  pub place : slice_get places site.number ≡ Some site.span
+  pub text : site.text.items ≡ text_at bytes site.span
+
+-- the sites are the expressions that the file declares, in the order of their numbers
+pub record ArePlainSites (form : PlainForm) (bytes : List ℕ) (sites : List PlainSite) : Type 0 where
+  pub places : List Span
+  pub declared : ArePlaces form bytes places
+  pub texts : map (λ (s : PlainSite). s.text.items) sites ≡ filter (is_expression form) (texts_at bytes places)
+  pub each : All (IsDeclared bytes places) sites
+
+-- the bytes with the new text at the place
+abbrev pub with_text : List ℕ → Span → List ℕ → List ℕ
+with_text bytes span new = take span.start bytes ++ (new ++ drop span.end bytes)
+
+-- the file declares these texts
+pub record ReadsSo (form : PlainForm) (texts : List (List ℕ)) (bytes : List ℕ) : Type 0 where
+  pub places : List Span
+  pub declared : ArePlaces form bytes places
+  pub texts_are : texts_at bytes places ≡ texts
+
+-- the file has another text in place of the declared one of that number: every other byte stays, and what it declares now is
+-- what it declared before but for that text
+pub record MendsPlain (form : PlainForm) (bytes : List ℕ) (number : ℕ) (new mended : List ℕ) : Type 0 where
+  pub places : List Span
+  pub declared : ArePlaces form bytes places
+  pub span : Span
+  pub place : slice_get places number ≡ Some span
+  pub spliced : mended ≡ with_text bytes span new
+  pub reads : ReadsSo form (set (texts_at bytes places) number new) mended

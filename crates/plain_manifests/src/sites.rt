@@ -1,0 +1,271 @@
+// The expressions of a file of fields or elements, each at its place, and the file with another one.
+
+ghost use Rattle.std.specs.Prelude.{◌≡◌, [], ◌∷◌, ◌++◌, All, IfOk, OnOk, IfSome, filter, map, set, slice_get, true, Some};
+ghost use Rattle.plain_manifests.specs.Sites.{ArePlainSites, IsDeclared, MendsPlain, ReadsSo, is_expression, texts_at};
+ghost use Rattle.plain_manifests.specs.Sites as spec;
+ghost use Rattle.plain_manifests.specs.Places.{text_at};
+ghost use Rattle.field_lines.specs.Names.{is_one_of};
+ghost use Rattle.std.specs.List.{list_any};
+ghost use Rattle.plain_manifests.specs.declared.sites.PlainSite.{PlainSite};
+
+use crate::form::PlainForm;
+use crate::grammar::marks_of;
+use crate::places::{places, text_at};
+use std::alloc::{AllocError, Global};
+use text_places::Span;
+
+/// An expression that a file declares.
+#[derive(Drop, Debug)]
+pub struct PlainSite {
+    /// Where it stands, without quotes.
+    pub span: Span,
+    /// Its number among the texts that the file has where licenses are declared, from 0.
+    pub number: usize,
+    /// The expression, as it stands there.
+    pub text: Vec<u8>,
+}
+
+fn is_one_of(set: &[u8], byte: u8) -> bool
+    ensures { result ≡ is_one_of set.now byte }
+{
+    set.iter().any(|other| *other == byte)
+}
+
+fn has_any(set: &[u8], text: &[u8]) -> bool
+    ensures { result ≡ list_any (is_one_of set.now) text.now }
+{
+    text.iter().any(|byte| is_one_of(set, *byte))
+}
+
+fn is_expression(form: PlainForm, text: &[u8]) -> bool
+    ensures { result ≡ is_expression form text.now }
+{
+    let marks = marks_of(form);
+    !has_any(marks, text)
+}
+
+// A file, and where the texts stand that it declares.
+#[derive(Clone, Copy)]
+struct Declared<'d> {
+    bytes: &'d [u8],
+    places: &'d [Span],
+}
+
+// The site of the text at the place of that number.
+fn site_at(
+    alloc: Global,
+    declared: &Declared<'_>,
+    number: usize,
+    span: Span,
+    text: &[u8],
+) -> Result<PlainSite, AllocError>
+    requires place { slice_get declared.now.places.now number ≡ Some span }
+    requires text { text.now ≡ text_at declared.now.bytes.now span }
+    ensures text { IfOk result (λ site. site.text.items ≡ text.now) }
+    ensures each { IfOk result (IsDeclared declared.now.bytes.now declared.now.places.now) }
+{
+    let mut bytes = Vec::new(alloc);
+    bytes.extend_from_slice(text)?;
+    Ok(PlainSite {
+        span,
+        number,
+        text: bytes,
+    })
+}
+
+// Adds the site of the text at the place of that number, if it is an expression.
+fn push_site(
+    alloc: Global,
+    form: PlainForm,
+    declared: &Declared<'_>,
+    number: usize,
+    span: Span,
+    sites: &mut Vec<PlainSite>,
+) -> Result<(), AllocError>
+    requires { slice_get declared.now.places.now number ≡ Some span }
+    ensures texts { OnOk result (map (λ (s : PlainSite). s.text.items) sites.new.items
+        ≡ map (λ (s : PlainSite). s.text.items) sites.old.items
+        ++ filter (is_expression form) (text_at declared.now.bytes.now span ∷ [])) }
+    ensures each { OnOk result (
+        All (IsDeclared declared.now.bytes.now declared.now.places.now) sites.old.items
+        → All (IsDeclared declared.now.bytes.now declared.now.places.now) sites.new.items) }
+{
+    let text = text_at(declared.bytes, span);
+    if is_expression(form, text) {
+        sites.push(site_at(alloc, declared, number, span, text)?)?;
+    }
+    Ok(())
+}
+
+// The sites of the texts that are expressions.
+fn sites_at(
+    alloc: Global,
+    form: PlainForm,
+    declared: &Declared<'_>,
+) -> Result<Vec<PlainSite>, AllocError>
+    ensures texts { IfOk result (λ sites. map (λ (s : PlainSite). s.text.items) sites.items
+        ≡ filter (is_expression form) (texts_at declared.now.bytes.now declared.now.places.now)) }
+    ensures each { IfOk result (λ sites.
+        All (IsDeclared declared.now.bytes.now declared.now.places.now) sites.items) }
+{
+    let mut sites = Vec::new(alloc);
+    for (number, span) in declared.places.iter().enumerate() {
+        push_site(alloc, form, declared, number, *span, &mut sites)?;
+    }
+    Ok(sites)
+}
+
+/// The expressions that the bytes declare as a file of this form, in the file's order, each at its place; of a form that has
+/// two names for what declares a license, those of the one before those of the other. Texts that the form's own language makes,
+/// as `%{license}` in RPM's, are left out; so are all of a Cabal file before version 2.2 of its format, which has other names.
+///
+/// The bytes may be no text. Linear in them.
+///
+/// # Errors
+///
+/// Memory was refused.
+pub fn plain_sites(
+    alloc: Global,
+    form: PlainForm,
+    bytes: &[u8],
+) -> Result<Vec<PlainSite>, AllocError>
+    ensures { IfOk result (λ sites. ArePlainSites form bytes.now sites.items) }
+{
+    let found = places(alloc, form, bytes)?;
+    let declared = Declared {
+        bytes,
+        places: &found,
+    };
+    sites_at(alloc, form, &declared)
+}
+
+// The texts at these places.
+fn texts_at<'b>(
+    alloc: Global,
+    bytes: &'b [u8],
+    places: &[Span],
+) -> Result<Vec<&'b [u8]>, AllocError>
+    ensures { IfOk result (λ texts. map (λ t. t.now) texts.items ≡ texts_at bytes.now places.now) }
+{
+    let mut texts = Vec::new(alloc);
+    for span in places {
+        texts.push(text_at(bytes, *span))?;
+    }
+    Ok(texts)
+}
+
+// The bytes with the new text at the place.
+fn with_text(
+    alloc: Global,
+    bytes: &[u8],
+    span: Span,
+    new: &[u8],
+) -> Result<Option<Vec<u8>>, AllocError>
+    ensures { IfOk result (λ answer. IfSome answer (λ mended.
+        mended.items ≡ spec.with_text bytes.now span new.now)) }
+{
+    let (Some(before), Some(behind)) = (bytes.get(..span.start), bytes.get(span.end..)) else {
+        return Ok(None);
+    };
+    let mut mended = Vec::new(alloc);
+    mended.extend_from_slice(before)?;
+    mended.extend_from_slice(new)?;
+    mended.extend_from_slice(behind)?;
+    Ok(Some(mended))
+}
+
+// A text of a file that becomes another one.
+#[derive(Clone, Copy)]
+struct Change<'c> {
+    bytes: &'c [u8],
+    places: &'c [Span],
+    number: usize,
+    new: &'c [u8],
+}
+
+// The texts that are to be declared.
+fn wanted_texts<'c>(alloc: Global, change: &Change<'c>) -> Result<Option<Vec<&'c [u8]>>, AllocError>
+    ensures { IfOk result (λ answer. IfSome answer (λ texts. map (λ t. t.now) texts.items
+        ≡ set (texts_at change.now.bytes.now change.now.places.now)
+        change.now.number change.now.new.now)) }
+{
+    let mut texts = texts_at(alloc, change.bytes, change.places)?;
+    if change.number < texts.len() {
+        texts[change.number] = change.new;
+        Ok(Some(texts))
+    } else {
+        Ok(None)
+    }
+}
+
+// Whether the file declares these texts.
+fn reads_so(
+    alloc: Global,
+    form: PlainForm,
+    wanted: &[&[u8]],
+    bytes: &[u8],
+) -> Result<bool, AllocError>
+    ensures { IfOk result (λ answer. answer ≡ true →
+        ReadsSo form (map (λ t. t.now) wanted.now) bytes.now) }
+{
+    let found = places(alloc, form, bytes)?;
+    let texts = texts_at(alloc, bytes, &found)?;
+    Ok(are_texts(&texts, wanted))
+}
+
+// Whether the texts are these ones.
+fn are_texts(texts: &[&[u8]], wanted: &[&[u8]]) -> bool
+    ensures { result ≡ true → map (λ t. t.now) texts.now ≡ map (λ t. t.now) wanted.now }
+{
+    if texts.len() != wanted.len() {
+        return false;
+    }
+    for index in 0..texts.len() {
+        if texts[index] != wanted[index] {
+            return false;
+        }
+    }
+    true
+}
+
+/// The bytes with another text in place of the declared one of that number. Every other byte stays. What is written is read
+/// again: it declares what it declared before, but for that text. `None` where no text has the number, or the new text can't be
+/// written there as it is.
+///
+/// The bytes are read twice. Linear in them.
+///
+/// # Errors
+///
+/// Memory was refused.
+pub fn with_plain_text(
+    alloc: Global,
+    form: PlainForm,
+    bytes: &[u8],
+    number: usize,
+    new: &str,
+) -> Result<Option<Vec<u8>>, AllocError>
+    ensures { IfOk result (λ answer. IfSome answer (λ mended.
+        MendsPlain form bytes.now number new.now mended.items)) }
+{
+    let found = places(alloc, form, bytes)?;
+    let Some(span) = found.get(number) else {
+        return Ok(None);
+    };
+    let Some(mended) = with_text(alloc, bytes, *span, new.as_bytes())? else {
+        return Ok(None);
+    };
+    let change = Change {
+        bytes,
+        places: &found,
+        number,
+        new: new.as_bytes(),
+    };
+    let Some(wanted) = wanted_texts(alloc, &change)? else {
+        return Ok(None);
+    };
+    if reads_so(alloc, form, &wanted, &mended)? {
+        Ok(Some(mended))
+    } else {
+        Ok(None)
+    }
+}
