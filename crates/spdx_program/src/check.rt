@@ -4,25 +4,25 @@ use crate::console::Console;
 use crate::list;
 use crate::manifest::{Manifest, check_manifest};
 use crate::meant::mode_of;
-use crate::system::{System, bytes_of, input_bytes, is_binary, paths_or_input};
+use crate::owed::{Owing, put_owed, put_untagged};
+use crate::sums::{Sums, summary_of};
+use crate::system::{
+    System, bytes_of, bytes_or, input_bytes, is_binary, paths_or_input, utf16_text,
+};
 use crate::trouble::Trouble;
 use crate::walk::Walk;
 use crate::wanted::{Reading, Taken, form_below, reading_of};
-use finding_forms::{Form, Place, Style, put_beginning, put_ending, put_totals};
-use foreign_text::{Sink, text_for};
-use license_tags::{Tag, tags};
+use finding_forms::{Form, Place, Style, put_beginning, put_ending};
+use license_tags::{Tag, comment_of, tags};
 use line_engine::lines::{Summary, write_all};
 use line_engine::stream::Input as Lines;
 use manifests::Form as ManifestForm;
-use spdx_check::{Check, Totals, check_lines, check_one};
+use spdx_check::{Check, check_lines, check_one};
 use spdx_words::{CheckRequest, Form as AskedForm, Wanted};
 use std::alloc::{AllocError, Global};
 use std::fs;
 use std::io::Write;
 use text_places::column_of;
-
-// So many folders that are left out are named.
-const NAMED: usize = 3;
 
 /// The version that logs tell.
 pub(crate) const VERSION: &str = "0.1.0";
@@ -32,6 +32,10 @@ pub(crate) const VERSION: &str = "0.1.0";
 struct Job<'r> {
     check: Check<'r>,
     wanted: Wanted<'r>,
+    // the folder of the license texts that was named
+    texts: Option<&'r str>,
+    // whether files without a license are told
+    untagged: bool,
 }
 
 /// Checks what the request names, and answers the status.
@@ -51,55 +55,15 @@ pub(crate) fn check<R: System, O: Write + Drop, F: Write + Drop>(
     let job = Job {
         check,
         wanted: request.wanted,
+        texts: request.texts,
+        untagged: request.untagged,
     };
     let sums = check_all(rt, &job, &request.paths, console)?;
     if request.summary && matches!(job.check.form, Form::Human(_) | Form::Short) {
         let text = summary_of(rt.alloc(), &sums)?;
         write_all(&mut console.output, &text)?;
     }
-    Ok(sums.totals.status())
-}
-
-// What is counted, and the folders that were left out.
-#[derive(Drop)]
-struct Sums {
-    totals: Totals,
-    left_out: Vec<String>,
-}
-
-// The last lines.
-fn summary_of(alloc: Global, sums: &Sums) -> Result<Vec<u8>, AllocError> {
-    let mut text = Vec::new(alloc);
-    put_totals(
-        alloc,
-        &mut text,
-        sums.totals.expressions,
-        sums.totals.files,
-        sums.totals.refused,
-    )?;
-    if !sums.left_out.is_empty() {
-        put_left_out(alloc, &mut text, &sums.left_out)?;
-    }
-    Ok(text)
-}
-
-// Appends which folders were left out, the first of them by name.
-fn put_left_out(alloc: Global, text: &mut Vec<u8>, left_out: &[String]) -> Result<(), AllocError> {
-    text.extend_from_slice(b"left out: ")?;
-    for (index, path) in left_out.iter().take(NAMED).enumerate() {
-        if index > 0 {
-            text.extend_from_slice(b", ")?;
-        }
-        let name = text_for(alloc, Sink::Line, path.as_str())?;
-        text.extend_from_slice(name.as_bytes())?;
-    }
-    if left_out.len() > NAMED {
-        let others = left_out.len().saturating_sub(NAMED);
-        let rest = format!(in alloc; " and {others} more")?;
-        text.extend_from_slice(rest.as_bytes())?;
-    }
-    text.push(b'\n')?;
-    Ok(())
+    Ok(sums.status())
 }
 
 fn form_of(form: AskedForm, colours: bool) -> Form {
@@ -125,10 +89,7 @@ fn check_all<R: System, O: Write + Drop, F: Write + Drop>(
     let mut text = Vec::new(alloc);
     put_beginning(alloc, &mut text, job.check.form, VERSION)?;
     write_all(&mut console.output, &text)?;
-    let mut sums = Sums {
-        totals: Totals::default(),
-        left_out: Vec::new(alloc),
-    };
+    let mut sums = Sums::new(alloc);
     for path in paths_or_input(paths) {
         if let Err(trouble) = check_path(rt, job, *path, &mut sums, console) {
             pass_over(alloc, trouble, &mut sums, console)?;
@@ -192,7 +153,9 @@ fn check_tagged<R: System, O: Write + Drop, F: Write + Drop>(
     console: &mut Console<O, F>,
 ) -> Result<(), Trouble> {
     let bytes = bytes_at(rt, path)?;
-    check_source(rt.alloc(), job, name_of(path), &bytes, sums, console)
+    let text = utf16_text(rt.alloc(), &bytes)?;
+    let source = bytes_or(&text, &bytes);
+    check_source(rt.alloc(), job, name_of(path), source, sums, console)
 }
 
 // Checks a file that is a manifest of this form.
@@ -222,7 +185,7 @@ fn check_declared<O: Write + Drop, F: Write + Drop>(
     console: &mut Console<O, F>,
 ) -> Result<(), Trouble> {
     let mut text = Vec::new(alloc);
-    let is_first = sums.totals.refused == 0;
+    let is_first = sums.is_clean();
     let summary = check_manifest(alloc, &job.check, is_first, manifest, &mut text)?;
     if summary.lines > 0 {
         sums.totals.add(summary.lines, summary.refused);
@@ -241,7 +204,7 @@ fn check_list<R: System, O: Write + Drop, F: Write + Drop>(
 ) -> Result<(), Trouble> {
     let alloc = rt.alloc();
     let output = &mut console.output;
-    let is_first = sums.totals.refused == 0;
+    let is_first = sums.is_clean();
     let run = if path == "-" {
         let mut input = Lines::new(rt.reader());
         check_lines(alloc, &job.check, is_first, "<stdin>", &mut input, output)
@@ -280,10 +243,11 @@ fn check_tree<R: System, O: Write + Drop, F: Write + Drop>(
 ) -> Result<(), Trouble> {
     let alloc = rt.alloc();
     let mut walk = Walk::new(rt, path)?;
+    let mut owing = Owing::new(rt, job.texts, path)?;
     for count in 0..u64::MAX {
         console.show_progress(alloc, count)?;
         let checked = match walk.next_file(rt) {
-            Ok(Some(file)) => check_file(rt, job, taken, file.as_str(), sums, console),
+            Ok(Some(file)) => check_file(rt, job, taken, file.as_str(), &mut owing, sums, console),
             Ok(None) => break,
             Err(trouble) => Err(trouble),
         };
@@ -293,6 +257,32 @@ fn check_tree<R: System, O: Write + Drop, F: Write + Drop>(
     }
     console.end_progress();
     sums.left_out.append(&mut walk.left_out)?;
+    if taken.is_all() {
+        tell_owed(rt, job, &owing, sums, console)?;
+    }
+    Ok(())
+}
+
+// Tells what license texts a folder owes, and of its files without a license.
+fn tell_owed<R: System, O: Write + Drop, F: Write + Drop>(
+    rt: &R,
+    job: &Job<'_>,
+    owing: &Owing,
+    sums: &mut Sums,
+    console: &mut Console<O, F>,
+) -> Result<(), Trouble> {
+    let alloc = rt.alloc();
+    let mut text = Vec::new(alloc);
+    let owed = put_owed(rt, &job.check, sums.is_clean(), owing, &mut text)?;
+    sums.texts = sums.texts.saturating_add(owed);
+    if job.untagged {
+        let is_first = sums.is_clean();
+        let told = put_untagged(alloc, &job.check, is_first, &owing.untagged, &mut text)?;
+        sums.bare = sums.bare.saturating_add(told);
+    } else if owing.folder.is_some() {
+        sums.untagged = sums.untagged.saturating_add(owing.untagged.len() as u64);
+    }
+    write_all(&mut console.output, &text)?;
     Ok(())
 }
 
@@ -302,6 +292,7 @@ fn check_file<R: System, O: Write + Drop, F: Write + Drop>(
     job: &Job<'_>,
     taken: Taken,
     path: &str,
+    owing: &mut Owing,
     sums: &mut Sums,
     console: &mut Console<O, F>,
 ) -> Result<(), Trouble> {
@@ -310,6 +301,7 @@ fn check_file<R: System, O: Write + Drop, F: Write + Drop>(
         return Ok(());
     }
     let bytes = bytes_of(rt, path)?;
+    let files = sums.totals.files;
     if let Some(form) = form {
         let manifest = Manifest {
             path,
@@ -317,9 +309,44 @@ fn check_file<R: System, O: Write + Drop, F: Write + Drop>(
             bytes: &bytes,
         };
         check_declared(rt.alloc(), job, &manifest, sums, console)?;
+        note_declared(rt.alloc(), job, &manifest, owing)?;
     }
     if taken.tags {
-        check_source(rt.alloc(), job, path, &bytes, sums, console)?;
+        let text = utf16_text(rt.alloc(), &bytes)?;
+        let source = bytes_or(&text, &bytes);
+        check_source(rt.alloc(), job, path, source, sums, console)?;
+        note_tags(rt.alloc(), job, path, source, owing)?;
+    }
+    if sums.totals.files == files {
+        owing.add_untagged(rt, path, &bytes)?;
+    }
+    Ok(())
+}
+
+// Notes which license texts a manifest needs.
+fn note_declared(
+    alloc: Global,
+    job: &Job<'_>,
+    manifest: &Manifest<'_>,
+    owing: &mut Owing,
+) -> Result<(), AllocError> {
+    if owing.folder.is_some() {
+        owing.add_manifest(alloc, &job.check, manifest)?;
+    }
+    Ok(())
+}
+
+// Notes which license texts the tags of a file need, if it is none of the texts itself.
+fn note_tags(
+    alloc: Global,
+    job: &Job<'_>,
+    path: &str,
+    bytes: &[u8],
+    owing: &mut Owing,
+) -> Result<(), AllocError> {
+    if owing.folder.is_some() && !owing.is_text(path) && !is_binary(bytes) {
+        let tags = tags(alloc, bytes, comment_of(path))?;
+        owing.add_tags(alloc, &job.check, bytes, &tags)?;
     }
     Ok(())
 }
@@ -336,10 +363,10 @@ fn check_source<O: Write + Drop, F: Write + Drop>(
     if is_binary(bytes) {
         return Ok(());
     }
-    let tags = tags(alloc, bytes)?;
+    let tags = tags(alloc, bytes, comment_of(path))?;
     if !tags.is_empty() {
         let mut text = Vec::new(alloc);
-        let is_first = sums.totals.refused == 0;
+        let is_first = sums.is_clean();
         let summary = check_tags(alloc, &job.check, is_first, path, bytes, &tags, &mut text)?;
         sums.totals.add(summary.lines, summary.refused);
         write_all(&mut console.output, &text)?;

@@ -8,7 +8,7 @@ use crate::system::{System, bytes_of, input_bytes, is_binary, is_special, paths_
 use crate::trouble::Trouble;
 use crate::walk::Walk;
 use crate::wanted::{Reading, Taken, form_below, reading_of};
-use license_tags::tags;
+use license_tags::{comment_of, tags};
 use line_diff::put_diff;
 use line_engine::lines::write_all;
 use manifests::Form;
@@ -257,7 +257,7 @@ fn mended_of(
             if !tags || is_binary(bytes) {
                 return Ok(declared);
             }
-            let mended = tags_mended(alloc, job, declared.bytes_or(bytes))?;
+            let mended = tags_mended(alloc, job, path, declared.bytes_or(bytes))?;
             let tagged = outcome_of(alloc, job, mended)?;
             Ok(Outcome {
                 is_left: declared.is_left || tagged.is_left,
@@ -293,8 +293,13 @@ fn lines_mended(alloc: Global, job: &Job<'_>, bytes: &[u8]) -> Result<Option<Men
 }
 
 // The text with the expressions of its tags mended.
-fn tags_mended(alloc: Global, job: &Job<'_>, bytes: &[u8]) -> Result<Option<Mended>, Trouble> {
-    let spans = tag_spans(alloc, bytes)?;
+fn tags_mended(
+    alloc: Global,
+    job: &Job<'_>,
+    path: &str,
+    bytes: &[u8],
+) -> Result<Option<Mended>, Trouble> {
+    let spans = tag_spans(alloc, path, bytes)?;
     Ok(fix_all(alloc, job.catalogue, bytes, &spans)?)
 }
 
@@ -336,9 +341,9 @@ fn diff_name(path: &str) -> Option<&str> {
 }
 
 // Where the tags of a file have their expressions.
-fn tag_spans(alloc: Global, bytes: &[u8]) -> Result<Vec<Span>, AllocError> {
+fn tag_spans(alloc: Global, path: &str, bytes: &[u8]) -> Result<Vec<Span>, AllocError> {
     let mut spans = Vec::new(alloc);
-    for tag in tags(alloc, bytes)? {
+    for tag in tags(alloc, bytes, comment_of(path))? {
         spans.push(Span {
             start: tag.start,
             end: tag.end,

@@ -45,8 +45,8 @@ pub(crate) fn check_manifest(
     }
 }
 
-// How expressions are read in manifests of this form.
-fn mode_in(form: Form, mode: ParseMode) -> ParseMode {
+/// How expressions are read in manifests of this form.
+pub(crate) fn mode_in(form: Form, mode: ParseMode) -> ParseMode {
     ParseMode {
         allow_slash_as_or_operator: mode.allow_slash_as_or_operator || reads_slash(form),
         ..mode

@@ -1,6 +1,7 @@
 // What the program asks of the system.
 
 use crate::trouble::Trouble;
+use std::alloc::{AllocError, Global};
 use std::fs;
 use std::io::{Input, Read};
 use std::random::RandomSource;
@@ -38,6 +39,42 @@ pub(crate) fn is_special<R: System>(rt: &R, path: &str) -> Result<bool, Trouble>
 /// Whether the bytes are no text: a byte 0 stands among the first 8,192.
 pub(crate) fn is_binary(bytes: &[u8]) -> bool {
     bytes.iter().take(8192).any(|byte| *byte == 0)
+}
+
+/// The text of a file in UTF-16, which a byte order mark at its beginning tells; none of other files.
+pub(crate) fn utf16_text(alloc: Global, bytes: &[u8]) -> Result<Option<String>, AllocError> {
+    match bytes {
+        [0xFF, 0xFE, pairs @ ..] => text_of_pairs(alloc, pairs, true),
+        [0xFE, 0xFF, pairs @ ..] => text_of_pairs(alloc, pairs, false),
+        _ => Ok(None),
+    }
+}
+
+fn text_of_pairs(
+    alloc: Global,
+    pairs: &[u8],
+    is_little: bool,
+) -> Result<Option<String>, AllocError> {
+    let mut units = Vec::new(alloc);
+    for pair in pairs.chunks_exact(2) {
+        if let [one, other] = pair {
+            let unit = if is_little {
+                u16::from_le_bytes([*one, *other])
+            } else {
+                u16::from_be_bytes([*one, *other])
+            };
+            units.push(unit)?;
+        }
+    }
+    Ok(Some(String::from_utf16_lossy(alloc, &units)?))
+}
+
+/// The bytes of a file as UTF-8 where they were decoded, else as they are.
+pub(crate) fn bytes_or<'b>(text: &'b Option<String>, bytes: &'b [u8]) -> &'b [u8] {
+    match text {
+        Some(text) => text.as_bytes(),
+        None => bytes,
+    }
 }
 
 /// The paths, or standard input where there is none.

@@ -26,6 +26,13 @@ pub(crate) struct Taken {
     pub(crate) manifests: bool,
 }
 
+impl Taken {
+    /// Whether all that tells a license is taken.
+    pub(crate) fn is_all(self) -> bool {
+        self.tags && self.manifests
+    }
+}
+
 /// How the path is read.
 ///
 /// # Errors

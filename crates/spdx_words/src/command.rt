@@ -43,7 +43,7 @@ A newer list: put SPDX's own licenses.json and exceptions.json (github.com/spdx/
 folder, and name the folder by --list, or by the environment's SPDX_LIST for every command.";
 
 // The names of forms of manifests, as `manifests::form_named` knows them.
-const FORMS: [&str; 9] = [
+const FORMS: [&str; 32] = [
     "cargo",
     "npm",
     "bower",
@@ -53,6 +53,29 @@ const FORMS: [&str; 9] = [
     "composer",
     "pyproject",
     "reuse",
+    "metadata",
+    "setup-cfg",
+    "setup-py",
+    "cabal",
+    "opam",
+    "gem",
+    "mix",
+    "rockspec",
+    "meson",
+    "rpm",
+    "alpine",
+    "arch",
+    "snap",
+    "conda",
+    "galaxy",
+    "helm",
+    "citation",
+    "docker",
+    "dep5",
+    "appstream",
+    "nuget",
+    "msbuild",
+    "ros",
 ];
 
 const NEWER_HELP: &str =
@@ -107,6 +130,12 @@ fn check<'a>(alloc: Global) -> Result<Command<'a>, AllocError> {
         .arg(headers(alloc)?)?
         .arg(manifests(alloc)?)?
         .arg(form_name(alloc)?)?
+        .arg(texts_folder(alloc))?
+        .arg(flag(
+            alloc,
+            "untagged",
+            "Tells which files below the folders have no license tag and declare no license",
+        ))?
         .arg(list_file(alloc))?
         .arg(flag(alloc, "quiet", "Writes nothing; the status tells").short('q'))?
         .arg(flag(
@@ -233,6 +262,13 @@ fn form_name<'a>(alloc: Global) -> Result<Arg<'a>, AllocError> {
             .value_parser(FORMS.as_slice())
             .help("Takes the files as manifests of this form, whatever their names are"),
     )
+}
+
+fn texts_folder<'a>(alloc: Global) -> Arg<'a> {
+    Arg::new(alloc, "texts")
+        .long("texts")
+        .value_name("DIR")
+        .help("Where the license texts are that the folders owe; LICENSES in each that has it")
 }
 
 pub(crate) fn list_file<'a>(alloc: Global) -> Arg<'a> {

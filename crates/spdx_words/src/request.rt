@@ -56,6 +56,10 @@ pub struct CheckRequest<'w> {
     pub form: Form,
     pub is_lax: bool,
     pub wanted: Wanted<'w>,
+    /// The folder of the license texts that folders owe; `LICENSES` in each of them where there is none.
+    pub texts: Option<&'w str>,
+    /// Whether the files of folders are told that have no license.
+    pub untagged: bool,
     /// Whether nothing is written, and the status alone tells.
     pub quiet: bool,
     /// Whether the last line has the totals.

@@ -64,6 +64,8 @@ fn check_request<'w>(
         form: form_of(matches.get_str("format")),
         is_lax: matches.get_flag("lax"),
         wanted: wanted_of(matches),
+        texts: matches.get_str("texts"),
+        untagged: matches.get_flag("untagged"),
         quiet: matches.get_flag("quiet"),
         summary: !matches.get_flag("no-summary"),
         paths: texts(alloc, matches, "PATH")?,
