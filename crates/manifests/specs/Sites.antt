@@ -38,8 +38,9 @@ is_expression Npm text = not (is_word_of_npm text)
 is_expression Composer text = not (bytes_eq text (codes "proprietary"))
 is_expression form text = true
 
--- the site is the literal of the text that the document has at some path
-pub record IsInJson (bytes : List ℕ) (document : Data) (site : Site) : Type 0 where
+-- the site is the literal of the text that the document has at some path, and its number is that of its text among these
+pub record IsInJson (bytes : List ℕ) (document : Data) (texts : List (List ℕ)) (site : Site) : Type 0 where
+  pub number : slice_get texts site.number ≡ Some site.text.items
   pub steps : List json.Step
   pub text : json_paths.text_at steps document ≡ Some site.text.items
   pub stands : json_places.Stands bytes document steps site.span
@@ -49,7 +50,7 @@ pub record AreSitesOfJson (form : Form) (bytes : List ℕ) (sites : List Site) :
   pub document : Data
   pub reads : read bytes ≡ Some document
   pub texts : map (λ (s : Site). s.text.items) sites ≡ filter (is_expression form) (license_texts document)
-  pub places : All (IsInJson bytes document) sites
+  pub places : All (IsInJson bytes document (license_texts document)) sites
 
 -- what the document of a form declares
 abbrev pub texts_of_toml : Form → Members → List (List ℕ)
@@ -57,8 +58,9 @@ texts_of_toml Cargo document = cargo_texts document
 texts_of_toml Pyproject document = pyproject_texts document
 texts_of_toml form document = reuse_texts document
 
--- the site is the literal of the text that the document has at some path
-pub record IsInToml (bytes : List ℕ) (document : Members) (site : Site) : Type 0 where
+-- the same of TOML
+pub record IsInToml (bytes : List ℕ) (document : Members) (texts : List (List ℕ)) (site : Site) : Type 0 where
+  pub number : slice_get texts site.number ≡ Some site.text.items
   pub steps : List toml.Step
   pub text : toml_paths.text_at steps document ≡ Some site.text.items
   pub stands : toml_places.Stands bytes document steps site.span
@@ -68,7 +70,7 @@ pub record AreSitesOfToml (form : Form) (bytes : List ℕ) (sites : List Site) :
   pub document : Members
   pub reads : parse_document bytes ≡ Some document
   pub texts : map (λ (s : Site). s.text.items) sites ≡ texts_of_toml form document
-  pub places : All (IsInToml bytes document) sites
+  pub places : All (IsInToml bytes document (texts_of_toml form document)) sites
 
 -- the site is the one of a file of fields or elements, which has no quotes in its place
 pub record IsPlain (found : PlainSite) (site : Site) : Type 0 where

@@ -88,12 +88,15 @@ fn site_at(
     placed: &Placed<'_>,
     number: usize,
     text: &str,
+    texts: &[&str],
 ) -> Result<Option<Site>, AllocError>
-    requires { ArePlaces placed.now.text.now (table_view placed.now.document.now)
+    requires number { slice_get (map (λ t. t.now) texts.now) number ≡ Some text.now }
+    requires places { ArePlaces placed.now.text.now (table_view placed.now.document.now)
         placed.now.paths.now placed.now.spans.now }
     ensures text { IfOk result (λ found. IfSome found (λ site. site.text.items ≡ text.now)) }
     ensures place { IfOk result (λ found. IfSome found
-        (IsInToml placed.now.text.now (table_view placed.now.document.now))) }
+        (IsInToml placed.now.text.now (table_view placed.now.document.now)
+        (map (λ t. t.now) texts.now))) }
 {
     let Some((path, span)) = place_at(placed, number) else {
         return Ok(None);
@@ -129,11 +132,12 @@ fn sites_of(alloc: Global, placed: &Placed<'_>, texts: &[&str]) -> Result<Vec<Si
         ≡ map (λ t. t.now) texts.now) }
     ensures err { IfErr result (spec.IsError placed.now.text.now) }
     ensures places { IfOk result (λ sites.
-        All (IsInToml placed.now.text.now (table_view placed.now.document.now)) sites.items) }
+        All (IsInToml placed.now.text.now (table_view placed.now.document.now)
+        (map (λ t. t.now) texts.now)) sites.items) }
 {
     let mut sites = Vec::new(alloc);
     for (number, text) in texts.iter().enumerate() {
-        let Some(site) = site_at(alloc, placed, number, *text)? else {
+        let Some(site) = site_at(alloc, placed, number, *text, texts)? else {
             return Err(no_place());
         };
         sites.push(site)?;

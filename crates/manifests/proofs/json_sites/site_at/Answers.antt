@@ -11,7 +11,8 @@ returns-clause-place c =
     c.says.ensures c.if-not-says.false in
     let bytes : c.extend_from_slice.new.self.items ≡ c.args.text.now = grind (arith, common_steps) in
     record {
+      number = rw bytes c.requires.number;
       steps = c.in-Some.path.now.steps.items;
       text = rw bytes says;
-      stands = ArePlaces-at _ _ _ _ c.args.number c.in-Some.path.now c.in-Some.span c.requires c.in-Some.ensures.path c.in-Some.ensures.span;
+      stands = ArePlaces-at _ _ _ _ c.args.number c.in-Some.path.now c.in-Some.span c.requires.places c.in-Some.ensures.path c.in-Some.ensures.span;
     }

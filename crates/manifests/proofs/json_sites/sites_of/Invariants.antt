@@ -12,5 +12,5 @@ invariant-loop-number l =
     record {
       texts : filter (is_expression l.form) (map shown l.texts)
           ≡ map text l.sites.items ++ filter (is_expression l.form) (map shown (drop l.number l.texts));
-      places : All (IsInJson l.placed.bytes.now (view l.placed.document.now)) l.sites.items;
+      places : All (IsInJson l.placed.bytes.now (view l.placed.document.now) (map shown l.texts)) l.sites.items;
     }

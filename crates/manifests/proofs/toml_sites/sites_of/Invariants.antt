@@ -12,5 +12,5 @@ invariant-loop-number l =
     record {
       texts : map shown l.texts
           ≡ map text l.sites.items ++ map shown (drop l.number l.texts);
-      places : All (IsInToml l.placed.text.now (table_view l.placed.document.now)) l.sites.items;
+      places : All (IsInToml l.placed.text.now (table_view l.placed.document.now) (map shown l.texts)) l.sites.items;
     }
