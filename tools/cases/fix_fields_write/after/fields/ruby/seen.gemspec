@@ -1,0 +1,5 @@
+Gem::Specification.new do |spec|
+  spec.name = "seen"
+  spec.license = "GPL-3.0-only"
+  spec.licenses = ["MIT".freeze, "Ruby"]
+end

@@ -1,0 +1,8 @@
+defmodule Seen.MixProject do
+  defp package do
+    [
+      licenses: ["Apache 2.0"],
+      links: %{}
+    ]
+  end
+end
