@@ -1,4 +1,4 @@
--- Where the tag occurs in bytes, as a line's first place of it.
+-- Where a text occurs in bytes, and a tag in a line.
 use Rattle.std.proofs.Common.{◌≡◌, ◌≢◌, ℕ, suc, zero, ◌+◌, ◌-◌, ◌<◌, ◌≤◌, Bool, true, false, not, nat_eq, cond, MatchOption, subst, inl, inr, List, [], ◌∷◌, Option, Some, None, option_map, length, get_or, take, drop, refl, sym, ap, ◌∙◌, zero-add, arith}
 use Rattle.std.specs.List.{starts_with, list_all}
 use Rattle.std.proofs.lemmas.List.{get_or-take, get_or-drop, length-take-le, length-drop}
@@ -8,11 +8,19 @@ use Rattle.std.proofs.lemmas.Slice.Eq.{starts_is}
 use Rattle.std.proofs.lemmas.Bool.{cases_lt}
 use Rattle.std.proofs.lemmas.Bool.Decides.{Decides-eqb}
 use Rattle.memchr.specs.Find.{OccursAt, FindsNeedle}
-use Rattle.license_tags.specs.Tags.{tag_text, tag_place}
+use Rattle.license_tags.specs.Tags.{tag_text, start_text, end_text, place_of}
 
 pub tag_text-length : length tag_text ≡ 24
 unfolding tag_text
 tag_text-length = refl
+
+pub start_text-length : length start_text ≡ 17
+unfolding start_text
+start_text-length = refl
+
+pub end_text-length : length end_text ≡ 15
+unfolding end_text
+end_text-length = refl
 
 no_newline : list_all (λ b. not (nat_eq b 10)) tag_text ≡ true
 unfolding tag_text
@@ -24,14 +32,14 @@ tag_text-newline j l e =
     let well = no_newline in
     cc
 
--- it occurs nowhere
-abbrev pub IsAbsent : List ℕ → Type 0
-IsAbsent xs = (j : ℕ) → OccursAt xs tag_text j → ⊥
+-- the text t occurs nowhere
+abbrev pub IsAbsent : List ℕ → List ℕ → Type 0
+IsAbsent t xs = (j : ℕ) → OccursAt xs t j → ⊥
 
 -- it occurs first at this place
-pub record IsFirstAt (xs : List ℕ) (k : ℕ) : Type 0 where
-  pub here : OccursAt xs tag_text k
-  pub first : (j : ℕ) → j < k → OccursAt xs tag_text j → ⊥
+pub record IsFirstAt (t xs : List ℕ) (k : ℕ) : Type 0 where
+  pub here : OccursAt xs t k
+  pub first : (j : ℕ) → j < k → OccursAt xs t j → ⊥
 
 drop_occurs : (xs t : List ℕ) (m k : ℕ) → m ≤ length xs → OccursAt xs t (m + k) → OccursAt (drop m xs) t k
 drop_occurs xs t m k l h = record {
@@ -59,62 +67,68 @@ occurs_take xs t n k l h =
       reads = λ j b. sym (get_or-take n xs (k + j) 0 (omega arith)) ∙ h.reads j b;
     }
 
-starts_occurs : (xs : List ℕ) → starts_with nat_eq xs tag_text ≡ true → OccursAt xs tag_text 0
-starts_occurs xs t =
-    let e = (starts_is Decides-eqb xs tag_text (starts_with nat_eq xs tag_text) refl).0 t in
-    record {
-      fits = omega (arith, front_fits xs tag_text (drop (length tag_text) xs) e);
-      reads = λ j b. ap (λ (n : ℕ). get_or xs n 0) (zero-add j) ∙ front_reads 0 xs tag_text (drop (length tag_text) xs) e j b;
-    }
-
-occurs_starts : (xs : List ℕ) → OccursAt xs tag_text 0 → starts_with nat_eq xs tag_text ≡ true
-occurs_starts xs h =
-    (starts_is Decides-eqb xs tag_text (starts_with nat_eq xs tag_text) refl).1 (drop (length tag_text) xs) (front_from_reads 0 xs tag_text (omega (arith, h.fits)) (λ j b. ap (λ (n : ℕ). get_or xs n 0) (sym (zero-add j)) ∙ h.reads j b))
-
-place_yes : (x : ℕ) (xs : List ℕ) → starts_with nat_eq (x ∷ xs) tag_text ≡ true → tag_place (x ∷ xs) ≡ Some 0
-place_yes x xs t = ap (λ (b : Bool). cond b (Some 0) (option_map (λ n. 1 + n) (tag_place xs))) t
-
-place_no : (x : ℕ) (xs : List ℕ) → starts_with nat_eq (x ∷ xs) tag_text ≡ false → tag_place (x ∷ xs) ≡ option_map (λ n. 1 + n) (tag_place xs)
-place_no x xs t = ap (λ (b : Bool). cond b (Some 0) (option_map (λ n. 1 + n) (tag_place xs))) t
-
 not_true : (b : Bool) → (b ≡ true → ⊥) → b ≡ false
 not_true true n = absurd (n refl)
 not_true false n = refl
 
-absent_tail : (x : ℕ) (xs : List ℕ) → IsAbsent (x ∷ xs) → IsAbsent xs
-absent_tail x xs h j o = h (1 + j) (occurs_drop (x ∷ xs) tag_text 1 j (omega arith) o)
+-- where the text occurs next in these bytes, or that it doesn't
+abbrev pub IsNext : List ℕ → List ℕ → Option ℕ → Type 0
+IsNext t xs next = MatchOption next (IsAbsent t xs) (λ k. IsFirstAt t xs k)
 
-first_tail : (x : ℕ) (xs : List ℕ) (k : ℕ) → IsFirstAt (x ∷ xs) (suc k) → IsFirstAt xs k
-first_tail x xs k h = record {
-  here = drop_occurs (x ∷ xs) tag_text 1 k (omega arith) (subst (OccursAt (x ∷ xs) tag_text) (omega arith) h.here);
-  first = λ j l o. h.first (1 + j) (omega arith) (occurs_drop (x ∷ xs) tag_text 1 j (omega arith) o);
-}
+module _ (t : List ℕ) (some : 0 < length t) where
+  starts_occurs : (xs : List ℕ) → starts_with nat_eq xs t ≡ true → OccursAt xs t 0
+  starts_occurs xs h =
+      let e = (starts_is Decides-eqb xs t (starts_with nat_eq xs t) refl).0 h in
+      record {
+        fits = omega (arith, front_fits xs t (drop (length t) xs) e);
+        reads = λ j b. ap (λ (n : ℕ). get_or xs n 0) (zero-add j) ∙ front_reads 0 xs t (drop (length t) xs) e j b;
+      }
 
-pub tag_place-none : (xs : List ℕ) → IsAbsent xs → tag_place xs ≡ None
-tag_place-none [] h = refl
-tag_place-none (x ∷ xs) h =
-    place_no x xs (not_true (starts_with nat_eq (x ∷ xs) tag_text) (λ t. h 0 (starts_occurs (x ∷ xs) t)))
-    ∙ ap (option_map (λ n. 1 + n)) (tag_place-none xs (absent_tail x xs h))
+  occurs_starts : (xs : List ℕ) → OccursAt xs t 0 → starts_with nat_eq xs t ≡ true
+  occurs_starts xs h =
+      (starts_is Decides-eqb xs t (starts_with nat_eq xs t) refl).1 (drop (length t) xs) (front_from_reads 0 xs t (omega (arith, h.fits)) (λ j b. ap (λ (n : ℕ). get_or xs n 0) (sym (zero-add j)) ∙ h.reads j b))
 
-pub tag_place-first : (xs : List ℕ) (k : ℕ) → IsFirstAt xs k → tag_place xs ≡ Some k
-tag_place-first [] k h = absurd (omega (arith, h.here.fits, tag_text-length))
-tag_place-first (x ∷ xs) zero h = place_yes x xs (occurs_starts (x ∷ xs) h.here)
-tag_place-first (x ∷ xs) (suc k) h =
-    place_no x xs (not_true (starts_with nat_eq (x ∷ xs) tag_text) (λ t. h.first 0 (omega arith) (starts_occurs (x ∷ xs) t)))
-    ∙ ap (option_map (λ n. 1 + n)) (tag_place-first xs k (first_tail x xs k h))
-    ∙ ap Some (omega arith)
+  place_yes : (x : ℕ) (xs : List ℕ) → starts_with nat_eq (x ∷ xs) t ≡ true → place_of t (x ∷ xs) ≡ Some 0
+  place_yes x xs h = ap (λ (b : Bool). cond b (Some 0) (option_map (λ n. 1 + n) (place_of t xs))) h
 
--- where the tag occurs next in these bytes, or that it doesn't
-abbrev pub IsNext : List ℕ → Option ℕ → Type 0
-IsNext xs next = MatchOption next (IsAbsent xs) (λ k. IsFirstAt xs k)
+  place_no : (x : ℕ) (xs : List ℕ) → starts_with nat_eq (x ∷ xs) t ≡ false → place_of t (x ∷ xs) ≡ option_map (λ n. 1 + n) (place_of t xs)
+  place_no x xs h = ap (λ (b : Bool). cond b (Some 0) (option_map (λ n. 1 + n) (place_of t xs))) h
 
-pub next_found : (xs : List ℕ) (r : Option ℕ) → FindsNeedle xs tag_text 0 r → IsNext xs r
-next_found xs None h = λ j o. h j (omega arith) (omega (arith, o.fits)) o
-next_found xs (Some k) h = record { here = h.1; first = λ j l o. h.0.before j (omega arith) l o }
+  absent_tail : (x : ℕ) (xs : List ℕ) → IsAbsent t (x ∷ xs) → IsAbsent t xs
+  absent_tail x xs h j o = h (1 + j) (occurs_drop (x ∷ xs) t 1 j (omega arith) o)
 
-module _ (xs : List ℕ) (k len : ℕ) (h : IsFirstAt xs k) (within : len ≤ length xs) where
+  first_tail : (x : ℕ) (xs : List ℕ) (k : ℕ) → IsFirstAt t (x ∷ xs) (suc k) → IsFirstAt t xs k
+  first_tail x xs k h = record {
+    here = drop_occurs (x ∷ xs) t 1 k (omega arith) (subst (OccursAt (x ∷ xs) t) (omega arith) h.here);
+    first = λ j l o. h.first (1 + j) (omega arith) (occurs_drop (x ∷ xs) t 1 j (omega arith) o);
+  }
+
+  pub place_of-none : (xs : List ℕ) → IsAbsent t xs → place_of t xs ≡ None
+  place_of-none [] h = refl
+  place_of-none (x ∷ xs) h =
+      place_no x xs (not_true (starts_with nat_eq (x ∷ xs) t) (λ e. h 0 (starts_occurs (x ∷ xs) e)))
+      ∙ ap (option_map (λ n. 1 + n)) (place_of-none xs (absent_tail x xs h))
+
+  pub place_of-first : (xs : List ℕ) (k : ℕ) → IsFirstAt t xs k → place_of t xs ≡ Some k
+  place_of-first [] k h = absurd (omega (arith, h.here.fits, some))
+  place_of-first (x ∷ xs) zero h = place_yes x xs (occurs_starts (x ∷ xs) h.here)
+  place_of-first (x ∷ xs) (suc k) h =
+      place_no x xs (not_true (starts_with nat_eq (x ∷ xs) t) (λ e. h.first 0 (omega arith) (starts_occurs (x ∷ xs) e)))
+      ∙ ap (option_map (λ n. 1 + n)) (place_of-first xs k (first_tail x xs k h))
+      ∙ ap Some (omega arith)
+
+  -- what a search answers
+  pub place_of-next : (xs : List ℕ) (r : Option ℕ) → IsNext t xs r → r ≡ place_of t xs
+  place_of-next xs None h = sym (place_of-none xs h)
+  place_of-next xs (Some k) h = sym (place_of-first xs k h)
+
+pub next_found : (t xs : List ℕ) (r : Option ℕ) → FindsNeedle xs t 0 r → IsNext t xs r
+next_found t xs None h = λ j o. h j (omega arith) (omega (arith, o.fits)) o
+next_found t xs (Some k) h = record { here = h.1; first = λ j l o. h.0.before j (omega arith) l o }
+
+module _ (xs : List ℕ) (k len : ℕ) (h : IsFirstAt tag_text xs k) (within : len ≤ length xs) where
   -- no tag in a line that ends before it
-  pub line_absent : len ≤ k → IsAbsent (take len xs)
+  pub line_absent : len ≤ k → IsAbsent tag_text (take len xs)
   line_absent l j o =
       let low : j + length tag_text ≤ len = omega (arith, length-take-le len xs within, o.fits) in
       h.first j (omega (arith, tag_text-length)) (occurs_take xs tag_text len j within o)
@@ -133,7 +147,7 @@ module _ (xs : List ℕ) (k len : ℕ) (h : IsFirstAt xs k) (within : len ≤ le
           | inr high ↦ high
         ]
 
-    pub line_first : k < len → IsFirstAt (take len xs) k
+    pub line_first : k < len → IsFirstAt tag_text (take len xs) k
     line_first l = record {
       here = take_occurs xs tag_text len k within (line_whole l) h.here;
       first = λ j low o. h.first j low (occurs_take xs tag_text len j within o);
@@ -146,7 +160,7 @@ module _ (xs : List ℕ) (k len : ℕ) (h : IsFirstAt xs k) (within : len ≤ le
           | inr high ↦ absurd (outside 0 (omega (arith, tag_text-length)) (omega arith))
         ]
 
-    pub behind_first : len ≤ k → IsFirstAt (drop (len + 1) xs) (k - (len + 1))
+    pub behind_first : len ≤ k → IsFirstAt tag_text (drop (len + 1) xs) (k - (len + 1))
     behind_first l =
         let low = line_before l in
         let room : len + 1 ≤ length xs = omega (arith, h.here.fits) in

@@ -1,7 +1,7 @@
 -- Where the expressions stand behind the tags of a file.
-use Rattle.std.specs.Prelude.{ℕ, ◌+◌, ◌-◌, ◌≤◌, Bool, ◌||◌, ◌==◌, nat_eq, List, [], ◌∷◌, ◌++◌, Option, None, Some, option_map, length, take, drop, codes, if◌then◌else◌}
+use Rattle.std.specs.Prelude.{ℕ, ◌+◌, ◌-◌, ◌≤◌, Bool, false, not, ◌||◌, ◌&&◌, ◌==◌, nat_eq, List, [], ◌∷◌, ◌++◌, Option, None, Some, option_map, length, take, drop, codes, if◌then◌else◌}
 use Rattle.std.specs.List.{starts_with, prefix_len, suffix_len}
-use Rattle.std.specs.Option.{option_to_list}
+use Rattle.std.specs.Option.{is_some, option_to_list}
 use Rattle.std.specs.Char.{is_ascii_whitespace}
 use Rattle.line_engine.specs.Lines.{lines_of}
 use Rattle.license_tags.specs.Comments.{begins_comment}
@@ -12,10 +12,22 @@ use Rattle.license_tags.specs.declared.Tag.{Tag}
 unfoldable pub tag_text : List ℕ
 tag_text = codes "SPDX-License-Identifier:"
 
--- how many bytes stand before the first tag in a line
-abbrev pub tag_place : List ℕ → Option ℕ
-tag_place [] = None
-tag_place (b ∷ bs) = if starts_with nat_eq (b ∷ bs) tag_text then Some 0 else option_map (λ n. 1 + n) (tag_place bs)
+-- what stands in the first line of an ignored block
+unfoldable pub start_text : List ℕ
+start_text = codes "REUSE-IgnoreStart"
+
+-- what stands in its last line
+unfoldable pub end_text : List ℕ
+end_text = codes "REUSE-IgnoreEnd"
+
+-- how many bytes stand before the first place where a text stands in these bytes
+abbrev pub place_of : List ℕ → List ℕ → Option ℕ
+place_of text [] = None
+place_of text (b ∷ bs) =
+    if starts_with nat_eq (b ∷ bs) text then Some 0 else option_map (λ n. 1 + n) (place_of text bs)
+
+abbrev pub holds : List ℕ → List ℕ → Bool
+holds text bytes = is_some (place_of text bytes)
 
 -- quotation marks: `"`, `'` and a backquote
 abbrev pub is_quote : ℕ → Bool
@@ -84,16 +96,31 @@ tag_at comment number offset line place =
     let end = start + expression_len comment (drop start line) in
     record { line = number; start = offset + start; end = offset + end }
 
--- the tags of these lines, the first of which has this number and begins at this offset: in each line the first one
-abbrev pub tags_from : Comment → ℕ → ℕ → List (List ℕ) → List Tag
-tags_from comment number offset [] = []
-tags_from comment number offset (line ∷ lines) =
-    option_to_list (option_map (tag_at comment number offset line) (tag_place line))
-    ++ tags_from comment (number + 1) (offset + (length line + 1)) lines
+-- a line belongs to an ignored block: one is open before it, or begins in it
+abbrev pub is_inside : Bool → List ℕ → Bool
+is_inside opened line = opened || holds start_text line
+
+-- a block is open behind a line: the line belongs to it, and doesn't end it
+abbrev pub is_open_behind : Bool → List ℕ → Bool
+is_open_behind inside line = inside && not (holds end_text line)
+
+-- the tags of a line, the first of those that stand in it: none of a line that belongs to a block
+abbrev pub line_tags : Comment → Bool → ℕ → ℕ → List ℕ → List Tag
+line_tags comment inside number offset line =
+    if inside then [] else option_to_list (option_map (tag_at comment number offset line) (place_of tag_text line))
+
+-- the tags of these lines, the first of which has this number and begins at this offset, and before which a block is
+-- open or not
+abbrev pub tags_from : Comment → Bool → ℕ → ℕ → List (List ℕ) → List Tag
+tags_from comment opened number offset [] = []
+tags_from comment opened number offset (line ∷ lines) =
+    let inside = is_inside opened line in
+    line_tags comment inside number offset line
+    ++ tags_from comment (is_open_behind inside line) (number + 1) (offset + (length line + 1)) lines
 
 -- the tags of a file
 abbrev pub tags_of : Comment → List ℕ → List Tag
-tags_of comment bytes = tags_from comment 1 0 (lines_of bytes)
+tags_of comment bytes = tags_from comment false 1 0 (lines_of bytes)
 
 -- the expressions lie between these offsets, in order and apart from one another
 abbrev pub AreInOrder : ℕ → List Tag → ℕ → Type 0

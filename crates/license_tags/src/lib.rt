@@ -16,6 +16,11 @@ ghost use Rattle.std.specs.Char.{is_ascii_whitespace};
 ghost use Rattle.line_engine.specs.Lines.{lines_of};
 ghost use Rattle.license_tags.specs.Tags.{
   tag_text,
+  start_text,
+  end_text,
+  holds,
+  is_inside,
+  is_open_behind,
   is_quote,
   is_opening,
   opening_len,
@@ -42,10 +47,50 @@ use std::alloc::{AllocError, Global};
 // What stands before an expression.
 const TAG: &[u8; 24] = b"SPDX-License-Identifier:";
 
+// What stands in the first line of an ignored block, and what in its last.
+const START: &[u8; 17] = b"REUSE-IgnoreStart";
+
+const END: &[u8; 15] = b"REUSE-IgnoreEnd";
+
 fn finder() -> Finder<'static>
     ensures { result ≡ tag_text }
 {
     Finder::new(TAG)
+}
+
+fn start_finder() -> Finder<'static>
+    ensures { result ≡ start_text }
+{
+    Finder::new(START)
+}
+
+fn end_finder() -> Finder<'static>
+    ensures { result ≡ end_text }
+{
+    Finder::new(END)
+}
+
+fn holds(mark: &Finder<'static>, line: &[u8]) -> bool
+    requires { 0 < length mark.now }
+    ensures { result ≡ holds mark.now line.now }
+{
+    mark.find(line).is_some()
+}
+
+// Whether a line belongs to an ignored block, where one is open before it or not.
+fn is_inside(start: &Finder<'static>, opened: bool, line: &[u8]) -> bool
+    requires { start.now ≡ start_text }
+    ensures { result ≡ is_inside opened line.now }
+{
+    opened || holds(start, line)
+}
+
+// Whether a block is open behind a line that belongs to it or to none.
+fn is_open_behind(end: &Finder<'static>, inside: bool, line: &[u8]) -> bool
+    requires { end.now ≡ end_text }
+    ensures { result ≡ is_open_behind inside line.now }
+{
+    inside && !holds(end, line)
 }
 
 fn is_opening(byte: u8) -> bool
@@ -202,7 +247,13 @@ fn behind(bytes: &[u8], len: usize) -> &[u8]
 /// The places of the expressions behind the tags `SPDX-License-Identifier:` of a file, whose bytes may be no text. In
 /// each line the first tag counts. Its expression stands behind blanks, and quotes behind a blank. It goes up to the
 /// first quote, backslash, `<`, end of a comment (`*/`, `*)`, `-->`, `-}`, `#}`, `]]`, `?>`, `--%>`, `|#`, `#>`, `%}`,
-/// `=#`), or beginning of one in this kind of file, or to the end of the line, less blanks. Linear.
+/// `=#`), or beginning of one in this kind of file, or to the end of the line, less blanks.
+///
+/// Tags in an ignored block are not given. It goes from a line that holds `REUSE-IgnoreStart` through the next line
+/// that holds `REUSE-IgnoreEnd`, which may be the same line, or to the end of the file. The lines of both marks belong
+/// to it.
+///
+/// Linear. A file without tags is searched once, and its blocks are not looked for.
 ///
 /// # Errors
 ///
@@ -211,20 +262,25 @@ pub fn tags(alloc: Global, bytes: &[u8], comment: Comment) -> Result<Vec<Tag>, A
     ensures value { IfOk result (λ found. found.items ≡ tags_of comment bytes.now) }
     ensures in_order { IfOk result (λ found. AreInOrder 0 found.items (length bytes.now)) }
 {
-    let finder = finder();
+    let (finder, start, end) = (finder(), start_finder(), end_finder());
     let mut found = Vec::new(alloc);
     let mut rest = bytes;
     let mut offset = 0;
     let mut number = 1;
+    let mut opened = false;
     let mut next = finder.find(rest);
     while let Some(place) = next {
         let len = line_len(rest);
+        let line = &rest[..len];
+        let inside = is_inside(&start, opened, line);
+        opened = is_open_behind(&end, inside, line);
+        rest = behind(rest, len);
         if place < len {
-            found.push(tag_in(comment, number, offset, &rest[..len], place))?;
-            rest = behind(rest, len);
             next = finder.find(rest);
+            if !inside {
+                found.push(tag_in(comment, number, offset, line, place))?;
+            }
         } else {
-            rest = behind(rest, len);
             next = Some(place - (len + 1));
         }
         offset += len + 1;
