@@ -27,12 +27,14 @@ install:
 install_library:
 	@DESTDIR="$(DESTDIR)" tools/install_library "$(PREFIX)"
 
-# Whether the pages quote files as they are; whether the table of crates and the page of calls are what the sources say, which
-# tools/crates and tools/calling write.
+# Whether the pages quote files as they are; whether the table of crates, the page of calls and the completions are what the
+# sources and --help say, which tools/crates, tools/calling and tools/completions write; and whether the completions answer.
 quotes:
 	@tools/quotes
 	@tools/crates --check
 	@tools/calling --check
+	@tools/completions --check
+	@tools/try_completions
 
 # Whether docs/THEOREM.md is what the sources say; tools/theorem writes it.
 theorem:

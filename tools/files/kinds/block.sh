@@ -1,0 +1,5 @@
+# SPDX-License-Identifier: MIT
+# REUSE-IgnoreStart
+echo "SPDX-License-Identifier: Foo"
+# REUSE-IgnoreEnd
+# SPDX-License-Identifier: Bar
