@@ -24,7 +24,7 @@ use Rattle.manifests.specs.declared.site.Reason.TheVariants.{NotUtf8, NotJson, N
 use Rattle.manifests.specs.declared.site.Site.{Site}
 use Rattle.plain_manifests.specs.declared.form.PlainForm.{PlainForm}
 use Rattle.plain_manifests.specs.declared.sites.PlainSite.{PlainSite}
-use Rattle.plain_manifests.specs.Sites.{ArePlainSites, MendsPlain}
+use Rattle.plain_manifests.specs.Sites.{ArePlainSites, MendsPlain, StaysPlain}
 use Rattle.manifests.specs.Json.{license_texts}
 use Rattle.manifests.specs.Toml.{cargo_texts, pyproject_texts, reuse_texts}
 
@@ -157,3 +157,8 @@ Mends Pyproject bytes number new mended = MendsToml Pyproject bytes number new m
 Mends Reuse bytes number new mended = MendsToml Reuse bytes number new mended
 Mends (Plain form) bytes number new mended = MendsPlain form bytes number new mended
 Mends form bytes number new mended = MendsJson bytes number new mended
+
+-- why there is no such manifest: of a file of fields or elements exactly; of JSON and TOML it isn't said
+abbrev pub Stays : Form → List ℕ → ℕ → List ℕ → Type 0
+Stays (Plain form) bytes number new = StaysPlain form bytes number new
+Stays form bytes number new = ⊤

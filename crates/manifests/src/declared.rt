@@ -1,7 +1,7 @@
 // The expressions of a manifest of any form.
 
-ghost use Rattle.std.specs.Prelude.{◌≡◌, IfErr, IfOk, IfSome};
-ghost use Rattle.manifests.specs.Sites.{AreSites, IsError, Mends, reads_slash};
+ghost use Rattle.std.specs.Prelude.{◌≡◌, IfErr, IfNone, IfOk, IfSome};
+ghost use Rattle.manifests.specs.Sites.{AreSites, IsError, Mends, Stays, reads_slash};
 
 use crate::form::Form;
 use crate::json_sites::{json_sites, json_with};
@@ -57,6 +57,8 @@ pub fn with_expression(
 ) -> Result<Option<Vec<u8>>, ManifestError>
     ensures ok { IfOk result (λ answer. IfSome answer (λ mended.
         Mends form bytes.now number new.now mended.items)) }
+    ensures stays { IfOk result (λ answer. IfNone answer
+        (Stays form bytes.now number new.now)) }
     ensures err { IfErr result (IsError bytes.now) }
 {
     match form {

@@ -1,5 +1,5 @@
 -- The expressions of a file of fields or elements, each at its place, and the file with another one.
-use Rattle.std.specs.Prelude.{◌≡◌, ℕ, Bool, not, List, ◌++◌, Some, map, filter, All, set, take, drop, slice_get}
+use Rattle.std.specs.Prelude.{◌≡◌, ◌≢◌, ◌⊎◌, ℕ, Bool, not, List, ◌++◌, None, Some, map, filter, All, set, take, drop, slice_get}
 use Rattle.std.specs.List.{list_any}
 use Rattle.text_places.specs.declared.Span.{Span}
 use Rattle.field_lines.specs.Names.{is_one_of}
@@ -38,6 +38,16 @@ pub record ReadsSo (form : PlainForm) (texts : List (List ℕ)) (bytes : List �
   pub declared : ArePlaces form bytes places
   pub texts_are : texts_at bytes places ≡ texts
 
+-- the file declares other texts than these
+pub record ReadsOther (form : PlainForm) (texts : List (List ℕ)) (bytes : List ℕ) : Type 0 where
+  pub places : List Span
+  pub declared : ArePlaces form bytes places
+  pub texts_are_not : texts_at bytes places ≢ texts
+
+-- the texts that are to be declared: those of the file, with the new one at that number
+abbrev pub wanted : List ℕ → List Span → ℕ → List ℕ → List (List ℕ)
+wanted bytes places number new = set (texts_at bytes places) number new
+
 -- the file has another text in place of the declared one of that number: every other byte stays, and what it declares now is
 -- what it declared before but for that text
 pub record MendsPlain (form : PlainForm) (bytes : List ℕ) (number : ℕ) (new mended : List ℕ) : Type 0 where
@@ -46,4 +56,16 @@ pub record MendsPlain (form : PlainForm) (bytes : List ℕ) (number : ℕ) (new 
   pub span : Span
   pub place : slice_get places number ≡ Some span
   pub spliced : mended ≡ with_text bytes span new
-  pub reads : ReadsSo form (set (texts_at bytes places) number new) mended
+  pub reads : ReadsSo form (wanted bytes places number new) mended
+
+-- with the new text at that place the file would declare something else
+pub record ChangesOther (form : PlainForm) (bytes : List ℕ) (places : List Span) (number : ℕ) (new : List ℕ) : Type 0 where
+  pub span : Span
+  pub place : slice_get places number ≡ Some span
+  pub other : ReadsOther form (wanted bytes places number new) (with_text bytes span new)
+
+-- no declared text has that number, or the new one can't be written in its place as it is
+pub record StaysPlain (form : PlainForm) (bytes : List ℕ) (number : ℕ) (new : List ℕ) : Type 0 where
+  pub places : List Span
+  pub declared : ArePlaces form bytes places
+  pub why : (slice_get places number ≡ None) ⊎ ChangesOther form bytes places number new

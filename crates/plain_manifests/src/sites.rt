@@ -1,8 +1,7 @@
 // The expressions of a file of fields or elements, each at its place, and the file with another one.
 
-ghost use Rattle.std.specs.Prelude.{◌≡◌, [], ◌∷◌, ◌++◌, All, IfOk, OnOk, IfSome, filter, map, set, slice_get, true, Some};
-ghost use Rattle.plain_manifests.specs.Sites.{ArePlainSites, IsDeclared, MendsPlain, ReadsSo, is_expression, texts_at};
-ghost use Rattle.plain_manifests.specs.Sites as spec;
+ghost use Rattle.std.specs.Prelude.{◌≡◌, ◌≢◌, ◌<◌, [], ◌∷◌, ◌++◌, All, IfOk, OnOk, IfSome, IfNone, drop, filter, length, map, slice_get, take, true, false, Some};
+ghost use Rattle.plain_manifests.specs.Sites.{ArePlainSites, IsDeclared, MendsPlain, ReadsOther, ReadsSo, StaysPlain, is_expression, texts_at, wanted, with_text};
 ghost use Rattle.plain_manifests.specs.Places.{text_at};
 ghost use Rattle.field_lines.specs.Names.{is_one_of};
 ghost use Rattle.std.specs.List.{list_any};
@@ -154,26 +153,6 @@ fn texts_at<'b>(
     Ok(texts)
 }
 
-// The bytes with the new text at the place.
-fn with_text(
-    alloc: Global,
-    bytes: &[u8],
-    span: Span,
-    new: &[u8],
-) -> Result<Option<Vec<u8>>, AllocError>
-    ensures { IfOk result (λ answer. IfSome answer (λ mended.
-        mended.items ≡ spec.with_text bytes.now span new.now)) }
-{
-    let (Some(before), Some(behind)) = (bytes.get(..span.start), bytes.get(span.end..)) else {
-        return Ok(None);
-    };
-    let mut mended = Vec::new(alloc);
-    mended.extend_from_slice(before)?;
-    mended.extend_from_slice(new)?;
-    mended.extend_from_slice(behind)?;
-    Ok(Some(mended))
-}
-
 // A text of a file that becomes another one.
 #[derive(Clone, Copy)]
 struct Change<'c> {
@@ -183,39 +162,69 @@ struct Change<'c> {
     new: &'c [u8],
 }
 
+// The bytes with the new text at the place.
+fn with_text(alloc: Global, bytes: &[u8], span: Span, new: &[u8]) -> Result<Vec<u8>, AllocError>
+    ensures { IfOk result (λ mended. mended.items ≡ with_text bytes.now span new.now) }
+{
+    let mut mended = Vec::new(alloc);
+    mended.extend_from_slice(before(bytes, span.start))?;
+    mended.extend_from_slice(new)?;
+    mended.extend_from_slice(behind(bytes, span.end))?;
+    Ok(mended)
+}
+
+// What stands before a place.
+fn before(bytes: &[u8], at: usize) -> &[u8]
+    ensures { result.now ≡ take at bytes.now }
+{
+    match bytes.get(..at) {
+        Some(before) => before,
+        None => bytes,
+    }
+}
+
+// What stands from a place on.
+fn behind(bytes: &[u8], at: usize) -> &[u8]
+    ensures { result.now ≡ drop at bytes.now }
+{
+    match bytes.get(at..) {
+        Some(behind) => behind,
+        None => &[],
+    }
+}
+
 // The texts that are to be declared.
-fn wanted_texts<'c>(alloc: Global, change: &Change<'c>) -> Result<Option<Vec<&'c [u8]>>, AllocError>
-    ensures { IfOk result (λ answer. IfSome answer (λ texts. map (λ t. t.now) texts.items
-        ≡ set (texts_at change.now.bytes.now change.now.places.now)
-        change.now.number change.now.new.now)) }
+fn wanted_texts<'c>(alloc: Global, change: &Change<'c>) -> Result<Vec<&'c [u8]>, AllocError>
+    requires { change.now.number < length change.now.places.now }
+    ensures { IfOk result (λ texts. map (λ t. t.now) texts.items
+        ≡ wanted change.now.bytes.now change.now.places.now change.now.number change.now.new.now) }
 {
     let mut texts = texts_at(alloc, change.bytes, change.places)?;
-    if change.number < texts.len() {
-        texts[change.number] = change.new;
-        Ok(Some(texts))
-    } else {
-        Ok(None)
-    }
+    texts[change.number] = change.new;
+    Ok(texts)
 }
 
 // Whether the file declares these texts.
 fn reads_so(
     alloc: Global,
     form: PlainForm,
-    wanted: &[&[u8]],
+    texts: &[&[u8]],
     bytes: &[u8],
 ) -> Result<bool, AllocError>
-    ensures { IfOk result (λ answer. answer ≡ true →
-        ReadsSo form (map (λ t. t.now) wanted.now) bytes.now) }
+    ensures so { IfOk result (λ answer. answer ≡ true →
+        ReadsSo form (map (λ t. t.now) texts.now) bytes.now) }
+    ensures other { IfOk result (λ answer. answer ≡ false →
+        ReadsOther form (map (λ t. t.now) texts.now) bytes.now) }
 {
     let found = places(alloc, form, bytes)?;
-    let texts = texts_at(alloc, bytes, &found)?;
-    Ok(are_texts(&texts, wanted))
+    let declared = texts_at(alloc, bytes, &found)?;
+    Ok(are_texts(&declared, texts))
 }
 
 // Whether the texts are these ones.
 fn are_texts(texts: &[&[u8]], wanted: &[&[u8]]) -> bool
-    ensures { result ≡ true → map (λ t. t.now) texts.now ≡ map (λ t. t.now) wanted.now }
+    ensures same { result ≡ true → map (λ t. t.now) texts.now ≡ map (λ t. t.now) wanted.now }
+    ensures other { result ≡ false → map (λ t. t.now) texts.now ≢ map (λ t. t.now) wanted.now }
 {
     if texts.len() != wanted.len() {
         return false;
@@ -228,9 +237,36 @@ fn are_texts(texts: &[&[u8]], wanted: &[&[u8]]) -> bool
     true
 }
 
+// The mended bytes, if they declare what is wanted.
+fn mended_at(
+    alloc: Global,
+    form: PlainForm,
+    change: &Change<'_>,
+    span: Span,
+) -> Result<Option<Vec<u8>>, AllocError>
+    requires { slice_get change.now.places.now change.now.number ≡ Some span }
+    ensures spliced { IfOk result (λ answer. IfSome answer (λ mended.
+        mended.items ≡ with_text change.now.bytes.now span change.now.new.now)) }
+    ensures reads { IfOk result (λ answer. IfSome answer (λ mended.
+        ReadsSo form (wanted change.now.bytes.now change.now.places.now
+        change.now.number change.now.new.now) mended.items)) }
+    ensures other { IfOk result (λ answer. IfNone answer
+        (ReadsOther form (wanted change.now.bytes.now change.now.places.now
+        change.now.number change.now.new.now)
+        (with_text change.now.bytes.now span change.now.new.now))) }
+{
+    let mended = with_text(alloc, change.bytes, span, change.new)?;
+    let texts = wanted_texts(alloc, change)?;
+    if reads_so(alloc, form, &texts, &mended)? {
+        Ok(Some(mended))
+    } else {
+        Ok(None)
+    }
+}
+
 /// The bytes with another text in place of the declared one of that number. Every other byte stays. What is written is read
-/// again: it declares what it declared before, but for that text. `None` where no text has the number, or the new text can't be
-/// written there as it is.
+/// again: it declares what it declared before, but for that text. `None` exactly where no text has the number, or with the new
+/// text in its place as it is the file would declare something else.
 ///
 /// The bytes are read twice. Linear in them.
 ///
@@ -244,14 +280,13 @@ pub fn with_plain_text(
     number: usize,
     new: &str,
 ) -> Result<Option<Vec<u8>>, AllocError>
-    ensures { IfOk result (λ answer. IfSome answer (λ mended.
+    ensures mends { IfOk result (λ answer. IfSome answer (λ mended.
         MendsPlain form bytes.now number new.now mended.items)) }
+    ensures stays { IfOk result (λ answer. IfNone answer
+        (StaysPlain form bytes.now number new.now)) }
 {
     let found = places(alloc, form, bytes)?;
     let Some(span) = found.get(number) else {
-        return Ok(None);
-    };
-    let Some(mended) = with_text(alloc, bytes, *span, new.as_bytes())? else {
         return Ok(None);
     };
     let change = Change {
@@ -260,12 +295,8 @@ pub fn with_plain_text(
         number,
         new: new.as_bytes(),
     };
-    let Some(wanted) = wanted_texts(alloc, &change)? else {
-        return Ok(None);
-    };
-    if reads_so(alloc, form, &wanted, &mended)? {
-        Ok(Some(mended))
-    } else {
-        Ok(None)
+    match mended_at(alloc, form, &change, *span)? {
+        Some(mended) => Ok(Some(mended)),
+        None => Ok(None),
     }
 }
