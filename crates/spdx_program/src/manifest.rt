@@ -66,15 +66,18 @@ fn check_sites(
         refused: 0,
     };
     let mut line = 1;
+    let mut column = 1;
     let mut from = 0;
     for site in found {
         let start = site.span.start.saturating_add(site.quotes);
-        line = line_after(line, behind(before(manifest.bytes, start), from));
+        let skipped = behind(before(manifest.bytes, start), from);
+        column = column_after(column, skipped, column_of(skipped, skipped.len()));
+        line = line_after(line, skipped);
         from = start;
         let place = Place {
             file: manifest.path,
             line,
-            column: column_of(manifest.bytes, start),
+            column,
         };
         let is_first = is_first && summary.refused == 0;
         if check_one(alloc, check, is_first, place, &site.text, text)? {
@@ -87,6 +90,16 @@ fn check_sites(
 
 fn line_after(line: u64, bytes: &[u8]) -> u64 {
     line.saturating_add(newline_count(bytes) as u64)
+}
+
+// The column behind bytes that begin at this one; `alone` is what it would be if they began a line. Values that share a line
+// cost one pass over it.
+fn column_after(column: u64, bytes: &[u8], alone: u64) -> u64 {
+    if newline_count(bytes) == 0 {
+        column.saturating_add(alone).saturating_sub(1)
+    } else {
+        alone
+    }
 }
 
 // What stands before a place; all of it where the place is past the end.

@@ -2,7 +2,7 @@
 //!
 //! ```rust
 //! // crates/spdx_program/src/manifest.rt
-//! column: column_of(manifest.bytes, start),
+//! column = column_after(column, skipped, column_of(skipped, skipped.len()));
 //! ```
 //!
 //! It stands on nothing.
