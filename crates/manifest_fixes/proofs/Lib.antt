@@ -1,0 +1,4 @@
+pub mod Laws
+pub mod Settled
+pub mod Slashed
+pub mod SoFar

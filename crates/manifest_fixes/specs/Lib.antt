@@ -1,0 +1,3 @@
+pub mod Fixing
+pub mod Needs
+pub mod Progress
