@@ -1,0 +1,10 @@
+pub mod Shown
+pub mod Reading
+pub mod Borrowed
+pub mod Moved
+pub mod Entries
+pub mod Unused
+pub mod Needs
+pub mod Unread
+pub mod Told
+pub mod Texts
