@@ -4,7 +4,7 @@ use Rattle.json.specs.Token.{end_object}
 use Rattle.json.specs.Lex.{tokens}
 use Rattle.json.specs.Json.{max_depth, document}
 use Rattle.json.specs.Tree.{json_tokens, members_tokens, depth, members_depth}
-use Rattle.finding_forms.specs.Finding.{Aid, nothing, write, names, Told, fault_column, from_of, to_of}
+use Rattle.finding_forms.specs.Finding.{Aid, nothing, write, names, Told, from_of, to_of}
 use Rattle.finding_forms.specs.Json.{aid_members, json_of, json_text, HasNoNewline}
 use Rattle.finding_forms.proofs.JsonLines.{items_depth-texts_of, document-from, AreOneLine, one_line-print_from, one_line-decimal, texts_one_line}
 
@@ -29,4 +29,4 @@ aid_one_line (names (first ∷ others)) = texts_one_line others (end_object ∷ 
 pub one_line-json_text : (t : Told) → HasNoNewline (json_text t)
 one_line-json_text t =
     one_line-print_from false (json_tokens (json_of t))
-    (one_line-decimal t.line, (one_line-decimal (fault_column t), (one_line-decimal (from_of t), (one_line-decimal (to_of t), aid_one_line t.aid))))
+    (one_line-decimal t.seen.line, (one_line-decimal t.seen.column, (one_line-decimal (from_of t), (one_line-decimal (to_of t), aid_one_line t.aid))))

@@ -8,7 +8,7 @@ use Rattle.finding_forms.specs.Json.{HasNoNewline}
 use Rattle.foreign_text.specs.Hidden.{is_hidden}
 use Rattle.foreign_text.specs.Written.{text_for, char_for, visible, numbered, percent, is_command_mark, is_property_mark}
 use Rattle.foreign_text.proofs.Bytes.{hidden_newline}
-use Rattle.finding_forms.specs.Finding.{Aid, nothing, write, names, Told, fault_column}
+use Rattle.finding_forms.specs.Finding.{Aid, nothing, write, names, Seen, Told}
 use Rattle.finding_forms.specs.Forms.{IsOneLine, short_text, github_place, github_text}
 use Rattle.finding_forms.specs.Message.{helps, named, other_names, help_text, message_text, place_text}
 use Rattle.finding_forms.proofs.JsonLines.{joined, one_line-digits_onto, one_line-decimal}
@@ -97,8 +97,8 @@ one_line-message how clean t =
 
 one_line-place : (how : Sink) → Clean how → (t : Told) → HasNoNewline (place_text how t)
 one_line-place how clean t =
-    joined (text_for how t.file) (58 ∷ (decimal t.line ++ (58 ∷ decimal (fault_column t)))) (one_line-text_for how clean t.file)
-    (omega arith, joined (decimal t.line) (58 ∷ decimal (fault_column t)) (one_line-decimal t.line) (omega arith, one_line-decimal (fault_column t)))
+    joined (text_for how t.file) (58 ∷ (decimal t.seen.line ++ (58 ∷ decimal t.seen.column))) (one_line-text_for how clean t.file)
+    (omega arith, joined (decimal t.seen.line) (58 ∷ decimal t.seen.column) (one_line-decimal t.seen.line) (omega arith, one_line-decimal t.seen.column))
 
 pub one_line-short : (t : Told) → IsOneLine (short_text t)
 one_line-short t =
@@ -113,8 +113,8 @@ file_mark : (rest : List ℕ) → HasNoNewline rest → HasNoNewline (codes "::e
 file_mark rest h =
     (omega arith, (omega arith, (omega arith, (omega arith, (omega arith, (omega arith, (omega arith, (omega arith, (omega arith, (omega arith, (omega arith, (omega arith, (omega arith, h)))))))))))))
 
-one_line-github_place : (t : Told) → HasNoNewline (github_place t)
-one_line-github_place t = (
+one_line-github_place : (s : Seen) → HasNoNewline (github_place s)
+one_line-github_place s = (
   omega arith,
   (
     omega arith,
@@ -126,8 +126,8 @@ one_line-github_place t = (
           omega arith,
           (
             omega arith,
-            joined (decimal t.line) (codes ",col=" ++ (decimal (fault_column t) ++ codes "::")) (one_line-decimal t.line)
-                (omega arith, (omega arith, (omega arith, (omega arith, (omega arith, joined (decimal (fault_column t)) (codes "::") (one_line-decimal (fault_column t)) (omega arith, (omega arith, tt))))))),
+            joined (decimal s.line) (codes ",col=" ++ (decimal s.column ++ codes "::")) (one_line-decimal s.line)
+                (omega arith, (omega arith, (omega arith, (omega arith, (omega arith, joined (decimal s.column) (codes "::") (one_line-decimal s.column) (omega arith, (omega arith, tt))))))),
           ),
         ),
       ),
@@ -138,12 +138,12 @@ one_line-github_place t = (
 pub one_line-github : (t : Told) → IsOneLine (github_text t)
 one_line-github t =
     let file = text_for Property t.file in
-    let place = github_place t in
+    let place = github_place t.seen in
     let message = message_text Command t in
     let inner : place ++ (message ++ 10 ∷ []) ≡ (place ++ message) ++ 10 ∷ [] = sym (append_assoc place message (10 ∷ [])) in
     let whole : file ++ (place ++ (message ++ 10 ∷ [])) ≡ (file ++ (place ++ message)) ++ 10 ∷ [] = ap (λ (x : List ℕ). file ++ x) inner ∙ sym (append_assoc file (place ++ message) (10 ∷ [])) in (
       codes "::error file=" ++ (file ++ (place ++ message)),
       ap (λ (x : List ℕ). codes "::error file=" ++ x) whole,
       file_mark (file ++ (place ++ message))
-          (joined file (place ++ message) (one_line-text_for Property clean_property t.file) (joined place message (one_line-github_place t) (one_line-message Command clean_command t))),
+          (joined file (place ++ message) (one_line-text_for Property clean_property t.file) (joined place message (one_line-github_place t.seen) (one_line-message Command clean_command t))),
     )

@@ -6,7 +6,7 @@ use Rattle.json.proofs.Printed.Decimals.{IsNumber-decimal}
 use Rattle.foreign_text.specs.declared.sinks.Sink.TheVariants.{Message, Path}
 use Rattle.foreign_text.specs.Written.{text_for}
 use Rattle.finding_forms.specs.Message.{message_text}
-use Rattle.finding_forms.specs.Finding.{Aid, nothing, write, names, Told, column_behind, fault_column, before_of, fault_of}
+use Rattle.finding_forms.specs.Finding.{Aid, nothing, write, names, Told, column_behind, fault_of}
 use Rattle.finding_forms.specs.SarifLog.{text_object, artifact, items_of}
 use Rattle.finding_forms.specs.Sarif.{region, location, replacement, result_of, fixes_of, IsNumbered, AreNumbered, LogReadsBack}
 use Rattle.finding_forms.proofs.SarifLogLaw as log
@@ -22,10 +22,14 @@ artifact_numbers path = (tt, tt)
 text_numbers : (text : List ℕ) → HasNumbers (text_object text)
 text_numbers text = (tt, tt)
 
-location_numbers : (path : List ℕ) (t : Told) → IsNumber (decimal t.line) → IsNumber (decimal t.column) → HasNumbers (location path t)
-location_numbers path t h k =
-    let fault : HasNumbers (region t.line (fault_column t) (fault_of t)) = (h, (is_column t.column (before_of t), (is_column (fault_column t) (fault_of t), ((tt, tt), tt)))) in
-    let whole : HasNumbers (region t.line t.column t.expression) = (h, (k, (is_column t.column t.expression, ((tt, tt), tt)))) in
+location_numbers : (path : List ℕ) (t : Told) → IsNumbered t → HasNumbers (location path t)
+location_numbers path t h =
+    let seen_line = IsNumber-decimal t.seen.line h.seen_line in
+    let seen_column = IsNumber-decimal t.seen.column h.seen_column in
+    let line = IsNumber-decimal t.line h.line in
+    let column = IsNumber-decimal t.column h.column in
+    let fault : HasNumbers (region t.seen.line t.seen.column (fault_of t)) = (seen_line, (seen_column, (is_column t.seen.column (fault_of t), ((tt, tt), tt)))) in
+    let whole : HasNumbers (region t.line t.column t.expression) = (line, (column, (is_column t.column t.expression, ((tt, tt), tt)))) in
     ((artifact_numbers path, (fault, (whole, tt))), tt)
 
 fixes_numbers : (path : List ℕ) (t : Told) (aid : Aid) → IsNumber (decimal t.line) → IsNumber (decimal t.column) → MembersHaveNumbers (fixes_of path t aid)
@@ -40,7 +44,7 @@ result_numbers t h =
     let path = text_for Path t.file in
     let line = IsNumber-decimal t.line h.line in
     let column = IsNumber-decimal t.column h.column in
-    (tt, (tt, (text_numbers (message_text Message t), ((location_numbers path t line column, tt), fixes_numbers path t t.aid line column))))
+    (tt, (tt, (text_numbers (message_text Message t), ((location_numbers path t h, tt), fixes_numbers path t t.aid line column))))
 
 results_numbers : (ts : List Told) → AreNumbered ts → ItemsHaveNumbers (items_of (map result_of ts))
 results_numbers [] h = tt

@@ -5,7 +5,7 @@ use Rattle.finding_forms.specs.declared.forms.Style.{Style}
 use Rattle.finding_forms.specs.declared.forms.Form.{Form}
 use Rattle.finding_forms.specs.declared.forms.Form.TheVariants.{Human, Short, Json, Github, Sarif}
 use Rattle.foreign_text.specs.Written.{text_for}
-use Rattle.finding_forms.specs.Finding.{Aid, Told, fault_column}
+use Rattle.finding_forms.specs.Finding.{Aid, Seen, Told}
 use Rattle.finding_forms.specs.Excerpt.{carets_under, excerpt_line}
 use Rattle.finding_forms.specs.Paint.{bold, cyan, painted, red}
 use Rattle.finding_forms.specs.Message.{helps, help_text, message_text, place_text}
@@ -24,8 +24,8 @@ abbrev pub reason_line : Style → Told → List ℕ
 reason_line style t = painted style bold (place_text Line t) ++ reason_text style t
 
 -- carets under the fault
-abbrev pub caret_line : Style → Told → List ℕ
-caret_line style t = carets_under style t.expression t.start t.end ++ 10 ∷ []
+abbrev pub caret_line : Style → Seen → List ℕ
+caret_line style s = carets_under style s.text s.start s.end ++ 10 ∷ []
 
 abbrev pub help_line : Style → Aid → List ℕ
 help_line style aid =
@@ -33,7 +33,7 @@ help_line style aid =
 
 abbrev pub human_text : Style → Told → List ℕ
 human_text style t =
-    reason_line style t ++ (excerpt_line t.expression t.start ++ (caret_line style t ++ help_line style t.aid))
+    reason_line style t ++ (excerpt_line t.seen.text t.seen.start ++ (caret_line style t.seen ++ help_line style t.aid))
 
 -- ---- a line each
 
@@ -45,13 +45,13 @@ abbrev pub short_text : Told → List ℕ
 short_text t = place_text Line t ++ (codes ": " ++ (message_text Line t ++ 10 ∷ []))
 
 -- the line and the column of an error of a workflow
-abbrev pub github_place : Told → List ℕ
-github_place t = codes ",line=" ++ (decimal t.line ++ (codes ",col=" ++ (decimal (fault_column t) ++ codes "::")))
+abbrev pub github_place : Seen → List ℕ
+github_place s = codes ",line=" ++ (decimal s.line ++ (codes ",col=" ++ (decimal s.column ++ codes "::")))
 
 -- an error of a workflow
 abbrev pub github_text : Told → List ℕ
 github_text t =
-    codes "::error file=" ++ (text_for Property t.file ++ (github_place t ++ (message_text Command t ++ 10 ∷ [])))
+    codes "::error file=" ++ (text_for Property t.file ++ (github_place t.seen ++ (message_text Command t ++ 10 ∷ [])))
 
 -- ---- any form
 

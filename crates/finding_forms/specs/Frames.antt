@@ -6,7 +6,7 @@ use Rattle.finding_forms.specs.declared.forms.Form.{Form}
 use Rattle.finding_forms.specs.declared.forms.Form.TheVariants.{Human, Short, Json, Github, Sarif}
 use Rattle.finding_forms.specs.declared.frames.Frame.{Frame}
 use Rattle.foreign_text.specs.Written.{text_for}
-use Rattle.finding_forms.specs.Finding.{Told, fault_column}
+use Rattle.finding_forms.specs.Finding.{Told}
 use Rattle.finding_forms.specs.Message.{message_text}
 use Rattle.finding_forms.specs.Excerpt.{excerpt_line}
 use Rattle.finding_forms.specs.Forms.{caret_line, finding_text, help_line, reason_text}
@@ -14,7 +14,7 @@ use Rattle.finding_forms.specs.Paint.{bold, paint_begins, paint_ends}
 
 -- the same finding in another line
 abbrev pub on_line : Told → ℕ → Told
-on_line t line = record t { line = line }
+on_line t line = record t { line = line; seen = record t.seen { line = line } }
 
 -- the frame with a number in it
 abbrev pub framed : Frame → ℕ → List ℕ
@@ -39,14 +39,14 @@ before_human style file = paint_begins style bold ++ (text_for Line file ++ 58 �
 
 -- the column of the fault, and the end of the place
 abbrev pub column_human : Style → Told → List ℕ
-column_human style t = 58 ∷ (decimal (fault_column t) ++ paint_ends style)
+column_human style t = 58 ∷ (decimal t.seen.column ++ paint_ends style)
 
 abbrev pub behind_human : Style → Told → List ℕ
 behind_human style t =
-    column_human style t ++ (reason_text style t ++ (excerpt_line t.expression t.start ++ (caret_line style t ++ help_line style t.aid)))
+    column_human style t ++ (reason_text style t ++ (excerpt_line t.seen.text t.seen.start ++ (caret_line style t.seen ++ help_line style t.aid)))
 
 abbrev pub before_short : List ℕ → List ℕ
 before_short file = text_for Line file ++ 58 ∷ []
 
 abbrev pub behind_short : Told → List ℕ
-behind_short t = 58 ∷ (decimal (fault_column t) ++ (codes ": " ++ (message_text Line t ++ 10 ∷ [])))
+behind_short t = 58 ∷ (decimal t.seen.column ++ (codes ": " ++ (message_text Line t ++ 10 ∷ [])))

@@ -3,7 +3,7 @@ use Rattle.std.specs.Prelude.{ℕ, ◌≢◌, ⊤, List, [], ◌∷◌, ◌++◌
 use Rattle.json.specs.Json.{Json, number, string, array, object, Items, no_items, item, Members, no_members, member}
 use Rattle.json.specs.Print.{print}
 use Rattle.json.specs.Tree.{json_tokens}
-use Rattle.finding_forms.specs.Finding.{Aid, nothing, write, names, Told, from_of, to_of, fault_column}
+use Rattle.finding_forms.specs.Finding.{Aid, nothing, write, names, Told, from_of, to_of}
 
 abbrev pub texts_of : List (List ℕ) → Items
 texts_of [] = no_items
@@ -21,8 +21,8 @@ abbrev pub json_of : Told → Json
 json_of t =
     object
     (member (codes "file") (string t.file)
-    (member (codes "line") (number (decimal t.line))
-    (member (codes "column") (number (decimal (fault_column t)))
+    (member (codes "line") (number (decimal t.seen.line))
+    (member (codes "column") (number (decimal t.seen.column))
     (member (codes "expression") (string t.expression)
     (member (codes "verdict") (string (codes "refused"))
     (member (codes "start") (number (decimal (from_of t)))

@@ -1,11 +1,11 @@
 -- The tokens of a finding's members, as they are written. Only private clauses cite it.
 use Rattle.std.specs.Prelude.{List, [], ◌∷◌, codes, decimal}
 use Rattle.json.specs.Token.{Token, key, string, number}
-use Rattle.finding_forms.specs.Finding.{Told, from_of, to_of, fault_column}
+use Rattle.finding_forms.specs.Finding.{Told, from_of, to_of}
 
 abbrev pub place_tokens : Told → List Token
 place_tokens t =
-    key (codes "file") ∷ string t.file ∷ key (codes "line") ∷ number (decimal t.line) ∷ key (codes "column") ∷ number (decimal (fault_column t)) ∷ []
+    key (codes "file") ∷ string t.file ∷ key (codes "line") ∷ number (decimal t.seen.line) ∷ key (codes "column") ∷ number (decimal t.seen.column) ∷ []
 
 abbrev pub fault_tokens : Told → List Token
 fault_tokens t =

@@ -2,7 +2,7 @@
 use Rattle.std.specs.Prelude.{ℕ, List, [], ◌∷◌, ◌++◌, Bool, true, false, if◌then◌else◌, codes, decimal}
 use Rattle.foreign_text.specs.declared.sinks.Sink.{Sink}
 use Rattle.foreign_text.specs.Written.{text_for}
-use Rattle.finding_forms.specs.Finding.{Aid, nothing, write, names, Told, fault_column}
+use Rattle.finding_forms.specs.Finding.{Aid, nothing, write, names, Told}
 
 abbrev pub helps : Aid → Bool
 helps nothing = false
@@ -33,4 +33,4 @@ message_text how t = text_for how t.reason ++ (if helps t.aid then codes "; " ++
 
 -- the file, the line and the column of the fault
 abbrev pub place_text : Sink → Told → List ℕ
-place_text how t = text_for how t.file ++ (58 ∷ (decimal t.line ++ (58 ∷ decimal (fault_column t))))
+place_text how t = text_for how t.file ++ (58 ∷ (decimal t.seen.line ++ (58 ∷ decimal t.seen.column)))

@@ -7,7 +7,7 @@ use Rattle.json.specs.Tree.{json_tokens}
 use Rattle.foreign_text.specs.declared.sinks.Sink.TheVariants.{Message, Path}
 use Rattle.foreign_text.specs.Written.{text_for}
 use Rattle.finding_forms.specs.Rule.{rule_name}
-use Rattle.finding_forms.specs.Finding.{Aid, nothing, write, names, Told, column_behind, fault_column, fault_of}
+use Rattle.finding_forms.specs.Finding.{Aid, nothing, write, names, Told, column_behind, fault_of}
 use Rattle.finding_forms.specs.Message.{message_text}
 use Rattle.finding_forms.specs.SarifLog.{text_object, artifact, log_of, log_text}
 
@@ -23,12 +23,12 @@ abbrev pub region : ℕ → ℕ → List ℕ → Json
 region line column text =
     object (region_members line column text (member (codes "snippet") (text_object text) no_members))
 
--- the fault, within the whole expression
+-- the fault where it is seen, and the whole expression
 abbrev pub location : List ℕ → Told → Json
 location path t =
     object (member (codes "physicalLocation") (object
     (member (codes "artifactLocation") (artifact path)
-    (member (codes "region") (region t.line (fault_column t) (fault_of t))
+    (member (codes "region") (region t.seen.line t.seen.column (fault_of t))
     (member (codes "contextRegion") (region t.line t.column t.expression) no_members)))) no_members)
 
 -- the mended text in the place of the expression
@@ -78,6 +78,8 @@ region_tokens line column text =
 pub record IsNumbered (t : Told) : Type 0 where
   pub line : t.line < 2 ^ 64
   pub column : t.column < 2 ^ 64
+  pub seen_line : t.seen.line < 2 ^ 64
+  pub seen_column : t.seen.column < 2 ^ 64
 
 abbrev pub AreNumbered : List Told → Type 0
 AreNumbered [] = ⊤

@@ -1,12 +1,12 @@
 // The form for people, with carets under the fault.
 
 ghost use Rattle.std.specs.Prelude.{◌≡◌, ℕ, ◌++◌, OnOk, OnErr, IfOk, string_bytes};
-ghost use Rattle.finding_forms.specs.Finding.{told, aid_of};
+ghost use Rattle.finding_forms.specs.Finding.{aid_of, seen_of, told};
 ghost use Rattle.finding_forms.specs.Forms.{caret_line, help_line, human_text, reason_text};
 ghost use Rattle.finding_forms.specs.Frames.{before_human, behind_human, column_human, framed, on_line};
 
 use crate::excerpt::{put_carets_under, put_excerpt_line};
-use crate::findings::{Finding, Help};
+use crate::findings::{Finding, Help, Sight};
 use crate::forms::Style;
 use crate::frames::Frame;
 use crate::messages::{put_column, put_help};
@@ -14,8 +14,8 @@ use crate::paint::{begin_paint, end_paint, put_painted};
 use foreign_text::{Sink, put_text};
 use std::alloc::{AllocError, Global};
 
-/// Appends a finding as people read it: the place of the fault and the reason, the expression, carets under the fault
-/// by the columns of a terminal, and what helps. An expression of more than 200 bytes is shown round the fault, as by
+/// Appends a finding as people read it: the place of the fault and the reason, the text in which it is seen, carets under
+/// it by the columns of a terminal, and what helps. A text of more than 200 bytes is shown round the fault, as by
 /// `put_excerpt_line`.
 ///
 /// # Errors
@@ -31,7 +31,7 @@ pub fn put_human(
         text.new.items ≡ text.old.items ++ human_text style (told finding.now)) }
     ensures err { OnErr result (text.new.items ≡ text.old.items) }
 {
-    human_frame(alloc, style, finding)?.put(text, finding.place.line)
+    human_frame(alloc, style, finding)?.put(text, finding.sight().line)
 }
 
 /// The lines of a finding round the number of its line.
@@ -67,8 +67,9 @@ fn behind_human(alloc: Global, style: Style, finding: &Finding<'_>) -> Result<St
     let mut lines = String::new(alloc);
     put_place_end(&mut lines, style, finding)?;
     put_reason(&mut lines, style, finding)?;
-    put_excerpt_line(&mut lines, finding.expression, finding.start)?;
-    put_carets(alloc, &mut lines, style, finding)?;
+    let sight = finding.sight();
+    put_excerpt_line(&mut lines, sight.text, sight.start)?;
+    put_carets(alloc, &mut lines, style, sight)?;
     put_help_line(&mut lines, style, &finding.help)?;
     Ok(lines)
 }
@@ -101,19 +102,12 @@ fn put_carets(
     alloc: Global,
     lines: &mut String,
     style: Style,
-    finding: &Finding<'_>,
+    sight: Sight<'_>,
 ) -> Result<(), AllocError>
     ensures { OnOk result (string_bytes lines.new ≡
-        string_bytes lines.old ++ caret_line style (told finding.now)) }
+        string_bytes lines.old ++ caret_line style (seen_of sight.entry)) }
 {
-    put_carets_under(
-        alloc,
-        lines,
-        style,
-        finding.expression,
-        finding.start,
-        finding.end,
-    )?;
+    put_carets_under(alloc, lines, style, sight.text, sight.start, sight.end)?;
     lines.push('\n')?;
     Ok(())
 }

@@ -1,7 +1,7 @@
 // A finding, and where its fault stands.
 
 ghost use Rattle.std.specs.Prelude.{◌≡◌, IsCharBoundary};
-ghost use Rattle.finding_forms.specs.Finding.{told, aid_of, place_in, from_of, to_of, before_of, fault_of, column_behind, fault_column};
+ghost use Rattle.finding_forms.specs.Finding.{aid_of, before_in, column_behind, end_in, fault_of, from_of, place_in, seen_in, seen_of, to_of, told};
 ghost use Rattle.finding_forms.specs.Message.{helps};
 
 /// Where an expression stands: the line of the file, from 1, and the column in which the expression begins, in
@@ -24,6 +24,21 @@ pub enum Help<'t> {
     Names(&'t [&'t str]),
 }
 
+/// Where a fault is seen in its file: in a line, which may have more than the expression, or have it with escapes.
+#[derive(Clone, Copy, Debug)]
+pub struct Sight<'t> {
+    /// The line of the fault, from 1.
+    pub line: u64,
+    /// The column in which the fault begins, in characters from 1.
+    pub column: u64,
+    /// What is shown of the line.
+    pub text: &'t str,
+    /// Where the fault begins, in bytes of that text.
+    pub start: usize,
+    /// Where the fault ends, in bytes of that text.
+    pub end: usize,
+}
+
 /// What is wrong with an expression. Any values are a finding: a place of the fault that is within a character or past
 /// the end of the expression stands for its end, and a fault that ends before it begins is empty.
 #[derive(Clone, Copy, Debug)]
@@ -36,15 +51,8 @@ pub struct Finding<'t> {
     pub end: usize,
     pub reason: &'t str,
     pub help: Help<'t>,
-}
-
-/// An expression in three parts, and where the middle one stands in bytes.
-#[derive(Clone, Copy)]
-pub(crate) struct Parts<'t> {
-    pub(crate) before: &'t str,
-    pub(crate) fault: &'t str,
-    pub(crate) from: usize,
-    pub(crate) to: usize,
+    /// Where the fault is seen; `None` where the expression stands in the file as it is, at its place.
+    pub sight: Option<Sight<'t>>,
 }
 
 impl Help<'_> {
@@ -78,28 +86,60 @@ pub(crate) fn column_behind(column: u64, text: &str) -> u64
     column.saturating_add(text.chars().count() as u64)
 }
 
-impl<'t> Finding<'t> {
-    /// The column of the fault.
-    pub(crate) fn column(&self) -> u64
-        ensures { result ≡ fault_column (told self.now) }
-    {
-        column_behind(self.place.column, self.parts().before)
-    }
+/// Where a fault ends in a text, which is not before it begins.
+pub(crate) fn end_in(text: &str, start: usize, end: usize) -> usize
+    ensures end { result ≡ end_in text.now start end }
+    ensures boundary { IsCharBoundary text.now result }
+{
+    place_in(text, end).max(place_in(text, start))
+}
 
-    pub(crate) fn parts(&self) -> Parts<'t>
-        ensures before { result.before.now ≡ before_of (told self.now) }
-        ensures fault { result.fault.now ≡ fault_of (told self.now) }
-        ensures from { result.from ≡ from_of (told self.now) }
-        ensures to { result.to ≡ to_of (told self.now) }
+impl<'t> Finding<'t> {
+    /// Where the fault is seen.
+    pub(crate) fn sight(&self) -> Sight<'t>
+        ensures seen { seen_of result ≡ seen_in self.now }
+        ensures line { result.line ≡ (seen_in self.now).line }
+        ensures column { result.column ≡ (seen_in self.now).column }
     {
-        let text = self.expression;
-        let from = place_in(text, self.start);
-        let to = place_in(text, self.end).max(from);
-        Parts {
-            before: &text[..from],
-            fault: &text[from..to],
-            from,
-            to,
+        match self.sight {
+            Some(sight) => sight,
+            None => Sight {
+                line: self.place.line,
+                column: column_behind(self.place.column, before_in(self.expression, self.start)),
+                text: self.expression,
+                start: self.start,
+                end: self.end,
+            },
         }
     }
+
+    /// Where the fault begins in the expression.
+    pub(crate) fn from(&self) -> usize
+        ensures { result ≡ from_of (told self.now) }
+    {
+        place_in(self.expression, self.start)
+    }
+
+    /// Where the fault ends in the expression.
+    pub(crate) fn to(&self) -> usize
+        ensures { result ≡ to_of (told self.now) }
+    {
+        end_in(self.expression, self.start, self.end)
+    }
+
+    /// What is seen of the fault.
+    pub(crate) fn fault(&self) -> &'t str
+        ensures { result.now ≡ fault_of (told self.now) }
+    {
+        let sight = self.sight();
+        let from = place_in(sight.text, sight.start);
+        &sight.text[from..end_in(sight.text, sight.start, sight.end)]
+    }
+}
+
+// The text before the fault that begins there.
+fn before_in(text: &str, start: usize) -> &str
+    ensures { result.now ≡ before_in text.now start }
+{
+    &text[..place_in(text, start)]
 }

@@ -53,9 +53,10 @@ fn put_place(writer: &mut Writer, finding: &Finding<'_>) -> Result<(), AllocErro
     writer.key("file")?;
     writer.string(finding.place.file)?;
     writer.key("line")?;
-    writer.u64(finding.place.line)?;
+    let sight = finding.sight();
+    writer.u64(sight.line)?;
     writer.key("column")?;
-    writer.u64(finding.column())?;
+    writer.u64(sight.column)?;
     Ok(())
 }
 
@@ -64,15 +65,14 @@ fn put_fault(writer: &mut Writer, finding: &Finding<'_>) -> Result<(), AllocErro
         writer.new.tokens ≡ writer.old.tokens ++ fault_tokens (told finding.now)) }
     ensures before { OnOk result (writer.new.before ≡ writer.old.before) }
 {
-    let parts = finding.parts();
     writer.key("expression")?;
     writer.string(finding.expression)?;
     writer.key("verdict")?;
     writer.string("refused")?;
     writer.key("start")?;
-    writer.u64(parts.from as u64)?;
+    writer.u64(finding.from() as u64)?;
     writer.key("end")?;
-    writer.u64(parts.to as u64)?;
+    writer.u64(finding.to() as u64)?;
     writer.key("reason")?;
     writer.string(finding.reason)?;
     Ok(())

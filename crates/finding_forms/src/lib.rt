@@ -17,7 +17,7 @@ mod total_line;
 
 pub use carets::put_human;
 pub use excerpt::{put_carets_under, put_excerpt_line};
-pub use findings::{Finding, Help, Place};
+pub use findings::{Finding, Help, Place, Sight};
 pub use forms::{Form, Style, put_beginning, put_ending, put_finding};
 pub use frames::{Frame, frame_of};
 pub use json_form::put_json;

@@ -1,7 +1,7 @@
 // A line for each finding.
 
 ghost use Rattle.std.specs.Prelude.{◌≡◌, ℕ, ◌++◌, OnOk, OnErr, IfOk, string_bytes};
-ghost use Rattle.finding_forms.specs.Finding.{told};
+ghost use Rattle.finding_forms.specs.Finding.{seen_in, told};
 ghost use Rattle.finding_forms.specs.Forms.{IsOneLine, short_text, github_place, github_text};
 ghost use Rattle.finding_forms.specs.Frames.{before_short, behind_short, framed, on_line};
 
@@ -21,7 +21,7 @@ pub fn put_short(alloc: Global, text: &mut Vec<u8>, finding: &Finding<'_>) -> Re
     ensures err { OnErr result (text.new.items ≡ text.old.items) }
     ensures one_line { IsOneLine (short_text (told finding.now)) }
 {
-    short_frame(alloc, finding)?.put(text, finding.place.line)
+    short_frame(alloc, finding)?.put(text, finding.sight().line)
 }
 
 /// The line of a finding round the number of its line.
@@ -88,10 +88,10 @@ fn github_line(alloc: Global, finding: &Finding<'_>) -> Result<String, AllocErro
 
 fn put_properties(line: &mut String, finding: &Finding<'_>) -> Result<(), AllocError>
     ensures { OnOk result (string_bytes line.new ≡
-        string_bytes line.old ++ github_place (told finding.now)) }
+        string_bytes line.old ++ github_place (seen_in finding.now)) }
 {
-    let column = finding.column();
-    match write!(line, ",line={},col={column}::", finding.place.line) {
+    let sight = finding.sight();
+    match write!(line, ",line={},col={}::", sight.line, sight.column) {
         Ok(()) => Ok(()),
         Err(_) => Err(AllocError),
     }

@@ -2,7 +2,7 @@
 
 ghost use Rattle.std.specs.Prelude.{◌≡◌, ℕ, ◌∷◌, ◌++◌, List, OnOk, decimal, map, string_bytes};
 ghost use Rattle.std.specs.Borrow.{Bor};
-ghost use Rattle.finding_forms.specs.Finding.{told, aid_of, fault_column, names as name_aid};
+ghost use Rattle.finding_forms.specs.Finding.{told, aid_of, seen_in, names as name_aid};
 ghost use Rattle.finding_forms.specs.Message.{named, other_names, help_text, message_text};
 
 use crate::findings::{Finding, Help};
@@ -12,9 +12,9 @@ use std::alloc::AllocError;
 /// Appends a colon and the column of the fault.
 pub(crate) fn put_column(line: &mut String, finding: &Finding<'_>) -> Result<(), AllocError>
     ensures { OnOk result (string_bytes line.new ≡
-        string_bytes line.old ++ (58 ∷ decimal (fault_column (told finding.now)))) }
+        string_bytes line.old ++ (58 ∷ decimal (seen_in finding.now).column)) }
 {
-    let column = finding.column();
+    let column = finding.sight().column;
     match write!(line, ":{column}") {
         Ok(()) => Ok(()),
         Err(_) => Err(AllocError),

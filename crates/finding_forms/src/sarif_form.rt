@@ -188,7 +188,8 @@ fn put_location(writer: &mut Writer, path: &str, finding: &Finding<'_>) -> Resul
     writer.key("artifactLocation")?;
     put_artifact(writer, path)?;
     writer.key("region")?;
-    put_region(writer, line, finding.column(), finding.parts().fault)?;
+    let sight = finding.sight();
+    put_region(writer, sight.line, sight.column, finding.fault())?;
     writer.key("contextRegion")?;
     put_region(writer, line, column, finding.expression)?;
     writer.end_object()?;

@@ -1,7 +1,7 @@
 // Rows, and the findings that they say.
 
 use finding_forms::{
-    Finding, Form, Help, Place, Style, put_beginning, put_ending, put_finding, put_totals,
+    Finding, Form, Help, Place, Sight, Style, put_beginning, put_ending, put_finding, put_totals,
 };
 use std::alloc::{AllocError, Global};
 
@@ -123,5 +123,20 @@ fn finding_of<'t>(row: &'t Row, names: &'t [&'t str]) -> Finding<'t> {
         end: row.number(5),
         reason: row.field(6),
         help,
+        sight: sight_of(row),
     }
+}
+
+// Where the fault is seen, if the row says it.
+fn sight_of(row: &Row) -> Option<Sight<'_>> {
+    if row.fields.len() < 13 {
+        return None;
+    }
+    Some(Sight {
+        line: row.field(8).parse::<u64>().unwrap_or(0),
+        column: row.field(9).parse::<u64>().unwrap_or(0),
+        text: row.field(10),
+        start: row.number(11),
+        end: row.number(12),
+    })
 }

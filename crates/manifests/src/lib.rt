@@ -14,6 +14,7 @@ mod declared;
 mod form;
 mod json_sites;
 mod json_texts;
+mod old_table;
 mod plain;
 mod site;
 mod toml_sites;
@@ -21,4 +22,5 @@ mod toml_texts;
 
 pub use crate::declared::{reads_slash, sites, with_expression};
 pub use crate::form::{Form, form_named, form_of};
+pub use crate::old_table::has_license_table;
 pub use crate::site::{Fault, ManifestError, Reason, Site};

@@ -31,7 +31,7 @@ fn path_to(
 }
 
 // What a table has at a key.
-fn member<'d>(table: &'d Table, key: &str) -> Option<&'d Value>
+pub(crate) fn member<'d>(table: &'d Table, key: &str) -> Option<&'d Value>
     ensures { option_map (λ v. view v.now) result ≡ get_member key.now (table_view table.now) }
 {
     table.get(key)

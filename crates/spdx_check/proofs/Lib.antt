@@ -1,4 +1,5 @@
 pub mod Blanks
-pub mod Fixes
 pub mod Findings
+pub mod Fixes
+pub mod Frames
 pub mod Writing

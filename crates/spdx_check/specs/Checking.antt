@@ -13,8 +13,9 @@ use Rattle.line_engine.specs.Runs.{Runs}
 use Rattle.spdx_list.specs.Files.{InsteadRow}
 use Rattle.spdx_list.specs.Shown.{instead_of}
 use Rattle.finding_forms.specs.declared.findings.Place.{Place}
+use Rattle.finding_forms.specs.declared.findings.Sight.{Sight}
 use Rattle.finding_forms.specs.declared.forms.Form.{Form}
-use Rattle.finding_forms.specs.Finding.{Told}
+use Rattle.finding_forms.specs.Finding.{Seen, Told, seen_alone, seen_of}
 use Rattle.finding_forms.specs.Forms.{finding_text}
 use Rattle.spdx_check.specs.declared.check.Check.{Check}
 use Rattle.spdx_check.specs.declared.lines.Checked.{Checked}
@@ -35,9 +36,9 @@ pub record Spot : Type 0 where
 abbrev pub spot_of : Place → Spot
 spot_of place = record { file = place.file.now; line = place.line; column = place.column }
 
--- what is wrong with the expression there
-abbrev pub told_at : Spot → Wrong → Told
-told_at spot wrong = record {
+-- what is wrong with the expression there, whose fault is seen so
+abbrev pub told_by : Spot → Wrong → Seen → Told
+told_by spot wrong seen = record {
   file = spot.file;
   line = spot.line;
   column = spot.column;
@@ -46,7 +47,21 @@ told_at spot wrong = record {
   end = wrong.place.to;
   reason = wrong.reason;
   aid = wrong.aid;
+  seen = seen;
 }
+
+-- the fault of an expression that stands there as it is
+abbrev pub seen_there : Spot → Wrong → Seen
+seen_there spot wrong = seen_alone spot.line spot.column wrong.shown wrong.place.from wrong.place.to
+
+-- what is wrong with the expression there, which stands there as it is
+abbrev pub told_at : Spot → Wrong → Told
+told_at spot wrong = told_by spot wrong (seen_there spot wrong)
+
+-- where the fault is seen, if it is said
+abbrev pub seen_by : Spot → Wrong → Option Sight → Seen
+seen_by spot wrong None = seen_there spot wrong
+seen_by spot wrong (Some sight) = seen_of sight
 
 -- nothing is written where nothing is wrong
 abbrev pub found_text : Form → Bool → Spot → Option Wrong → List ℕ

@@ -6,7 +6,7 @@ ghost use Rattle.finding_forms.specs.Forms.{finding_text};
 ghost use Rattle.spdx_check.specs.Checking.{ChecksOne, found_text, spot_of, told_at};
 ghost use Rattle.spdx_check.specs.Refusals.{wrong_of};
 
-use crate::refusals::{Refusal, refusal_of};
+use crate::refusals::{Refusal, refusal_in};
 use finding_forms::{Finding, Form, Place, put_finding};
 use spdx_catalogue::Catalogue;
 use spdx_lexer::token::ParseMode;
@@ -52,7 +52,7 @@ pub fn check_one(
         text.new.items is_refused) }
     ensures err { OnErr result (text.new.items ≡ text.old.items) }
 {
-    let found = refusal_of(alloc, check, expression)?;
+    let found = refusal_in(alloc, check, expression)?;
     put_found(alloc, check.form, is_first, place, &found, text)
 }
 
@@ -97,12 +97,5 @@ pub(crate) fn put_refusal<'t>(
 pub(crate) fn finding_at<'t>(place: Place<'t>, refusal: &'t Refusal<'_>) -> Finding<'t>
     ensures { told result ≡ told_at (spot_of place.entry) (wrong_of refusal.now) }
 {
-    Finding {
-        place,
-        expression: refusal.shown.as_str(),
-        start: refusal.start,
-        end: refusal.end,
-        reason: refusal.reason.as_str(),
-        help: refusal.help(),
-    }
+    refusal.finding(place, None)
 }

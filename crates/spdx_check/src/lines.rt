@@ -9,7 +9,7 @@ ghost use Rattle.spdx_check.specs.Known.{AreHeld, spot_in};
 
 use crate::check::Check;
 use crate::known::{known_of, put_known};
-use crate::refusals::refusal_of;
+use crate::refusals::refusal_in;
 use crate::remembered::Remembered;
 use finding_forms::Place;
 use line_engine::device::{Sink, Source};
@@ -88,7 +88,7 @@ fn put_line<'c>(
     if let Some(known) = remembered.find(expression) {
         return put_known(alloc, check.form, is_first, place, known, text);
     }
-    let found = refusal_of(alloc, check, expression)?;
+    let found = refusal_in(alloc, check, expression)?;
     let known = known_of(alloc, check.form, file, found)?;
     let is_refused = put_known(alloc, check.form, is_first, place, &known, text)?;
     remembered.keep(alloc, expression, known);

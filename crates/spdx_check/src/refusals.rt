@@ -7,16 +7,16 @@ ghost use Rattle.spdx_lexer.specs.Code.{span_of};
 ghost use Rattle.spdx_lexer.specs.Faults.{fault_of};
 ghost use Rattle.spdx_parser.specs.Meaning.{IsRefused};
 ghost use Rattle.spdx_fix.specs.Fix.{Reads};
-ghost use Rattle.finding_forms.specs.Finding.{aid_of};
+ghost use Rattle.finding_forms.specs.Finding.{aid_of, told};
 ghost use Rattle.spdx_list.specs.Shown.{instead_of};
 ghost use Rattle.spdx_list.specs.declared.extras.Instead.{Instead};
-ghost use Rattle.spdx_check.specs.Checking.{heirs_in};
-ghost use Rattle.spdx_check.specs.Finding.{aid_by, heir_in, heir_of, hint_by, name_at, wants_name, wrong_in, no_text};
+ghost use Rattle.spdx_check.specs.Checking.{heirs_in, seen_by, spot_of, told_by};
+ghost use Rattle.spdx_check.specs.Finding.{IsTheFinding, aid_by, heir_in, heir_of, hint_by, name_at, wants_name, wrong_in, no_text};
 ghost use Rattle.spdx_check.specs.Found.{finding_of, fix_of};
 ghost use Rattle.spdx_check.specs.Refusals.{aid_in, wrong_of};
 
 use crate::check::Check;
-use finding_forms::Help;
+use finding_forms::{Finding, Help, Place, Sight};
 use spdx_catalogue::{Catalogue, Failure};
 use spdx_fix::fix;
 use spdx_hints::{hints, phrase};
@@ -33,19 +33,50 @@ pub(crate) enum Remedy<'c> {
     Names(Vec<&'c str>),
 }
 
-/// What is wrong, in texts of its own.
+/// What is wrong with an expression, in texts of its own.
 #[derive(Drop)]
-pub(crate) struct Refusal<'c> {
-    pub(crate) shown: String,
-    pub(crate) start: usize,
-    pub(crate) end: usize,
-    pub(crate) reason: String,
+pub struct Refusal<'c> {
+    shown: String,
+    start: usize,
+    end: usize,
+    reason: String,
     remedy: Remedy<'c>,
 }
 
 impl Refusal<'_> {
-    /// What helps, as it is told.
-    pub(crate) fn help(&self) -> Help<'_>
+    /// Where the fault begins, in bytes of the expression.
+    pub fn start(&self) -> usize
+        ensures { result ≡ self.now.start }
+    {
+        self.start
+    }
+
+    /// Where the fault ends, in bytes of the expression, which has U+FFFD for each of its sequences that is no UTF-8.
+    pub fn end(&self) -> usize
+        ensures { result ≡ self.now.end }
+    {
+        self.end
+    }
+
+    /// What is told of an expression that begins at the place. `sight` says where its fault is seen; `None` that the
+    /// expression stands there as it is.
+    pub fn finding<'t>(&'t self, place: Place<'t>, sight: Option<Sight<'t>>) -> Finding<'t>
+        ensures { told result ≡ told_by (spot_of place.entry) (wrong_of self.now)
+            (seen_by (spot_of place.entry) (wrong_of self.now) sight.entry) }
+    {
+        Finding {
+            place,
+            expression: self.shown.as_str(),
+            start: self.start,
+            end: self.end,
+            reason: self.reason.as_str(),
+            help: self.help(),
+            sight,
+        }
+    }
+
+    // What helps, as it is told.
+    fn help(&self) -> Help<'_>
         ensures { aid_of result ≡ aid_in self.now.remedy }
     {
         match &self.remedy {
@@ -56,8 +87,27 @@ impl Refusal<'_> {
     }
 }
 
-/// What is wrong with the bytes of an expression, if anything is.
-pub(crate) fn refusal_of<'c>(
+/// What is wrong with the bytes of an expression, if anything is; cost as that of `check_one`.
+///
+/// # Errors
+///
+/// Memory was refused.
+#[tactic(auto, using(crate::proofs::Findings::the_finding))]
+pub fn refusal_of<'c>(
+    alloc: Global,
+    check: &Check<'c>,
+    bytes: &[u8],
+) -> Result<Option<Refusal<'c>>, AllocError>
+    ensures found { IfOk result (λ found. option_map wrong_of found ≡
+        finding_of check.now.catalogue.now (heirs_in check.now) check.now.mode bytes.now) }
+    ensures is { IfOk result (λ found. IsTheFinding check.now.catalogue.now
+        (heirs_in check.now) check.now.mode bytes.now (option_map wrong_of found)) }
+{
+    refusal_in(alloc, check, bytes)
+}
+
+/// What is found, by reading.
+pub(crate) fn refusal_in<'c>(
     alloc: Global,
     check: &Check<'c>,
     bytes: &[u8],

@@ -2,27 +2,27 @@
 
 use crate::console::Console;
 use crate::list;
-use crate::manifest::{Manifest, check_manifest};
+use crate::manifest::Manifest;
 use crate::meant::mode_of;
 use crate::owed::{Owing, put_owed, put_untagged};
 use crate::sums::{Sums, summary_of};
 use crate::system::{
-    System, bytes_of, bytes_or, input_bytes, is_binary, paths_or_input, utf16_text,
+    System, bytes_of, bytes_or, input_bytes, paths_or_input, utf16_text, without_mark,
 };
 use crate::trouble::Trouble;
 use crate::walk::Walk;
 use crate::wanted::{Reading, Taken, form_below, reading_of};
-use finding_forms::{Form, Place, Style, put_beginning, put_ending};
-use license_tags::{Tag, comment_of, tags};
-use line_engine::lines::{Summary, write_all};
+use check_sources::{Findings, Source, check_manifest, check_tags, is_binary};
+use finding_forms::{Form, Style, put_beginning, put_ending};
+use license_tags::{comment_of, tags};
+use line_engine::lines::write_all;
 use line_engine::stream::Input as Lines;
-use manifests::Form as ManifestForm;
-use spdx_check::{Check, check_lines, check_one};
+use manifests::{Form as ManifestForm, has_license_table};
+use spdx_check::{Check, check_lines};
 use spdx_words::{CheckRequest, Form as AskedForm, Wanted};
 use std::alloc::{AllocError, Global};
 use std::fs;
 use std::io::Write;
-use text_places::column_of;
 
 /// The version that logs tell.
 pub(crate) const VERSION: &str = "0.1.0";
@@ -171,7 +171,7 @@ fn check_named<R: System, O: Write + Drop, F: Write + Drop>(
     let manifest = Manifest {
         path: name_of(path),
         form,
-        bytes: &bytes,
+        bytes: without_mark(&bytes),
     };
     check_declared(rt.alloc(), job, &manifest, sums, console)
 }
@@ -184,12 +184,28 @@ fn check_declared<O: Write + Drop, F: Write + Drop>(
     sums: &mut Sums,
     console: &mut Console<O, F>,
 ) -> Result<(), Trouble> {
-    let mut text = Vec::new(alloc);
+    let source = Source {
+        path: manifest.path,
+        bytes: manifest.bytes,
+    };
     let is_first = sums.is_clean();
-    let summary = check_manifest(alloc, &job.check, is_first, manifest, &mut text)?;
-    if summary.lines > 0 {
-        sums.totals.add(summary.lines, summary.refused);
-        write_all(&mut console.output, &text)?;
+    let found = check_manifest(alloc, &job.check, is_first, manifest.form, source)?;
+    put_findings(&found, sums, console)?;
+    if manifest.form == ManifestForm::Pyproject && has_license_table(alloc, manifest.bytes)? {
+        sums.tables.push(String::from_str(alloc, manifest.path)?)?;
+    }
+    Ok(())
+}
+
+// Writes what was found in a file, and counts it. A file without an expression counts for none.
+fn put_findings<O: Write + Drop, F: Write + Drop>(
+    found: &Findings,
+    sums: &mut Sums,
+    console: &mut Console<O, F>,
+) -> Result<(), Trouble> {
+    if found.summary.lines > 0 {
+        sums.totals.add(found.summary.lines, found.summary.refused);
+        write_all(&mut console.output, &found.text)?;
     }
     Ok(())
 }
@@ -306,7 +322,7 @@ fn check_file<R: System, O: Write + Drop, F: Write + Drop>(
         let manifest = Manifest {
             path,
             form,
-            bytes: &bytes,
+            bytes: without_mark(&bytes),
         };
         check_declared(rt.alloc(), job, &manifest, sums, console)?;
         note_declared(rt.alloc(), job, &manifest, owing)?;
@@ -351,7 +367,7 @@ fn note_tags(
     Ok(())
 }
 
-// Checks the tags of a file's bytes. Those with a byte 0 near their beginning are no text, and have none.
+// Checks the tags of a file's bytes.
 fn check_source<O: Write + Drop, F: Write + Drop>(
     alloc: Global,
     job: &Job<'_>,
@@ -360,46 +376,7 @@ fn check_source<O: Write + Drop, F: Write + Drop>(
     sums: &mut Sums,
     console: &mut Console<O, F>,
 ) -> Result<(), Trouble> {
-    if is_binary(bytes) {
-        return Ok(());
-    }
-    let tags = tags(alloc, bytes, comment_of(path))?;
-    if !tags.is_empty() {
-        let mut text = Vec::new(alloc);
-        let is_first = sums.is_clean();
-        let summary = check_tags(alloc, &job.check, is_first, path, bytes, &tags, &mut text)?;
-        sums.totals.add(summary.lines, summary.refused);
-        write_all(&mut console.output, &text)?;
-    }
-    Ok(())
-}
-
-// Checks the expressions at the tags of a file.
-fn check_tags(
-    alloc: Global,
-    check: &Check<'_>,
-    is_first: bool,
-    path: &str,
-    bytes: &[u8],
-    tags: &[Tag],
-    text: &mut Vec<u8>,
-) -> Result<Summary, AllocError> {
-    let mut summary = Summary {
-        lines: 0,
-        refused: 0,
-    };
-    for tag in tags {
-        let place = Place {
-            file: path,
-            line: tag.line as u64,
-            column: column_of(bytes, tag.start),
-        };
-        let is_first = is_first && summary.refused == 0;
-        let expression = bytes.get(tag.start..tag.end).unwrap_or(&[]);
-        if check_one(alloc, check, is_first, place, expression, text)? {
-            summary.refused = summary.refused.saturating_add(1);
-        }
-        summary.lines = summary.lines.saturating_add(1);
-    }
-    Ok(summary)
+    let source = Source { path, bytes };
+    let found = check_tags(alloc, &job.check, sums.is_clean(), source)?;
+    put_findings(&found, sums, console)
 }

@@ -2,15 +2,17 @@
 
 use crate::console::Console;
 use crate::list;
-use crate::manifest::{Manifest, mended};
+use crate::manifest::{Manifest, trouble_of};
 use crate::replace::{Held, Loss, hold, replace};
-use crate::system::{System, bytes_of, input_bytes, is_binary, is_special, paths_or_input};
+use crate::system::{System, bytes_of, input_bytes, is_special, paths_or_input, without_mark};
 use crate::trouble::Trouble;
 use crate::walk::Walk;
 use crate::wanted::{Reading, Taken, form_below, reading_of};
+use check_sources::is_binary;
 use license_tags::{comment_of, tags};
 use line_diff::put_diff;
 use line_engine::lines::write_all;
+use manifest_fixes::{FixedManifest, fix_manifest};
 use manifests::Form;
 use spdx::{Catalogue, Expression, Failure};
 use spdx_mend::{Mended, Span, fix_all};
@@ -281,9 +283,33 @@ fn declared_of(
             is_left: false,
         });
     };
-    let manifest = Manifest { path, form, bytes };
-    let (bytes, is_left) = mended(alloc, job.catalogue, &manifest)?;
+    let behind = without_mark(bytes);
+    let manifest = Manifest {
+        path,
+        form,
+        bytes: behind,
+    };
+    let FixedManifest {
+        bytes: fixed,
+        is_left,
+    } = match fix_manifest(alloc, job.catalogue, form, behind) {
+        Ok(fixed) => fixed,
+        Err(error) => return Err(trouble_of(alloc, &manifest, error)),
+    };
+    let mark = bytes.len().saturating_sub(behind.len());
+    let bytes = match fixed {
+        Some(mended) => Some(joined(alloc, bytes.get(..mark).unwrap_or(&[]), &mended)?),
+        None => None,
+    };
     Ok(Outcome { bytes, is_left })
+}
+
+// One behind the other.
+fn joined(alloc: Global, one: &[u8], other: &[u8]) -> Result<Vec<u8>, AllocError> {
+    let mut bytes = Vec::new(alloc);
+    bytes.extend_from_slice(one)?;
+    bytes.extend_from_slice(other)?;
+    Ok(bytes)
 }
 
 // The text with the expressions of its lines mended.

@@ -2,18 +2,15 @@
 
 use crate::baseline::{Before, Older};
 use crate::console::Console;
-use crate::details::{Detail, told_verdict};
-use crate::entries::put_all_unused;
 use crate::list;
-use crate::needs::put_needs;
 use crate::packages::{AllListed, Listed, Wanted, read_all, view};
 use crate::policy::policy;
-use crate::shown::Shown;
 use crate::system::System;
 use crate::trouble::Trouble;
 use crate::verdicts::{are_gathered, form_of, put_explanations, put_verdicts};
 use finding_forms::Style;
 use gate_forms::{Baseline, Node, Report as Told, Totals as ToldTotals, Why, put_known};
+use gate_told::{Detail, Shown, put_all_unused, put_needs, told_verdict};
 use line_engine::lines::write_all;
 use package_sources::Package as ListedPackage;
 use spdx::Catalogue;

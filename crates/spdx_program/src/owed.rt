@@ -1,9 +1,10 @@
 // The license texts that a folder owes, and its files without a license.
 
-use crate::manifest::{Manifest, mode_in};
+use crate::manifest::Manifest;
 use crate::system::System;
 use crate::trouble::Trouble;
 use crate::walk::Walk;
+use check_sources::mode_in;
 use finding_forms::{Finding, Help, Place, put_finding};
 use license_tags::Tag;
 use manifests::{ManifestError, sites};
@@ -338,6 +339,7 @@ fn put_told(
         end: told.name.len(),
         reason: told.reason,
         help: Help::Nothing,
+        sight: None,
     };
     put_finding(alloc, text, check.form, is_first, &finding)
 }

@@ -5,14 +5,19 @@ use foreign_text::{Sink, text_for};
 use spdx_check::Totals;
 use std::alloc::{AllocError, Global};
 
-// So many folders that are left out are named.
+// So many paths are named.
 const NAMED: usize = 3;
+
+// What is said of manifests whose license is a table.
+const TABLES: &str = "license is a table of before PEP 639, not judged: ";
 
 /// What is counted, and the folders that were left out.
 #[derive(Drop)]
 pub(crate) struct Sums {
     pub(crate) totals: Totals,
     pub(crate) left_out: Vec<String>,
+    /// The manifests whose license is a table, as it was before PEP 639.
+    pub(crate) tables: Vec<String>,
     /// The license texts that are missing or that nobody needs.
     pub(crate) texts: u64,
     /// The files without a license that were told.
@@ -26,6 +31,7 @@ impl Sums {
         Sums {
             totals: Totals::default(),
             left_out: Vec::new(alloc),
+            tables: Vec::new(alloc),
             texts: 0,
             bare: 0,
             untagged: 0,
@@ -68,24 +74,31 @@ pub(crate) fn summary_of(alloc: Global, sums: &Sums) -> Result<Vec<u8>, AllocErr
         let line = format!(in alloc; "without a license: {count} (--untagged tells which)\n")?;
         text.extend_from_slice(line.as_bytes())?;
     }
-    if !sums.left_out.is_empty() {
-        put_left_out(alloc, &mut text, &sums.left_out)?;
-    }
+    put_paths(alloc, &mut text, TABLES, &sums.tables)?;
+    put_paths(alloc, &mut text, "left out: ", &sums.left_out)?;
     Ok(text)
 }
 
-// Appends which folders were left out, the first of them by name.
-fn put_left_out(alloc: Global, text: &mut Vec<u8>, left_out: &[String]) -> Result<(), AllocError> {
-    text.extend_from_slice(b"left out: ")?;
-    for (index, path) in left_out.iter().take(NAMED).enumerate() {
+// Appends a line of paths, the first of them by name, if there are any.
+fn put_paths(
+    alloc: Global,
+    text: &mut Vec<u8>,
+    said: &str,
+    paths: &[String],
+) -> Result<(), AllocError> {
+    if paths.is_empty() {
+        return Ok(());
+    }
+    text.extend_from_slice(said.as_bytes())?;
+    for (index, path) in paths.iter().take(NAMED).enumerate() {
         if index > 0 {
             text.extend_from_slice(b", ")?;
         }
         let name = text_for(alloc, Sink::Line, path.as_str())?;
         text.extend_from_slice(name.as_bytes())?;
     }
-    if left_out.len() > NAMED {
-        let others = left_out.len().saturating_sub(NAMED);
+    if paths.len() > NAMED {
+        let others = paths.len().saturating_sub(NAMED);
         let rest = format!(in alloc; " and {others} more")?;
         text.extend_from_slice(rest.as_bytes())?;
     }

@@ -36,11 +36,6 @@ pub(crate) fn is_special<R: System>(rt: &R, path: &str) -> Result<bool, Trouble>
     }
 }
 
-/// Whether the bytes are no text: a byte 0 stands among the first 8,192.
-pub(crate) fn is_binary(bytes: &[u8]) -> bool {
-    bytes.iter().take(8192).any(|byte| *byte == 0)
-}
-
 /// The text of a file in UTF-16, which a byte order mark at its beginning tells; none of other files.
 pub(crate) fn utf16_text(alloc: Global, bytes: &[u8]) -> Result<Option<String>, AllocError> {
     match bytes {
@@ -69,11 +64,19 @@ fn text_of_pairs(
     Ok(Some(String::from_utf16_lossy(alloc, &units)?))
 }
 
-/// The bytes of a file as UTF-8 where they were decoded, else as they are.
+/// The bytes without the byte order mark of UTF-8 at their beginning.
+pub(crate) fn without_mark(bytes: &[u8]) -> &[u8] {
+    match bytes {
+        [0xEF, 0xBB, 0xBF, rest @ ..] => rest,
+        _ => bytes,
+    }
+}
+
+/// The bytes of a file as UTF-8 where they were decoded, else as they are, without a byte order mark.
 pub(crate) fn bytes_or<'b>(text: &'b Option<String>, bytes: &'b [u8]) -> &'b [u8] {
     match text {
         Some(text) => text.as_bytes(),
-        None => bytes,
+        None => without_mark(bytes),
     }
 }
 

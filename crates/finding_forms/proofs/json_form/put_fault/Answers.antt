@@ -8,8 +8,8 @@ returns-clause-tokens c =
     let w3 = written w2 _ _ c.in_ok-key-2.ensures.ok in
     let w4 = written w3 _ _ c.in_ok-string-2.ensures.ok in
     let w5 = written w4 _ _ c.in_ok-key-3.ensures.ok in
-    let w6 = written w5 _ _ (rw (c.parts-parts.ensures.from) at c.in_ok-u64.ensures.ok) in
+    let w6 = written w5 _ _ (rw (c.from.ensures) at c.in_ok-u64.ensures.ok) in
     let w7 = written w6 _ _ c.in_ok-key-4.ensures.ok in
-    let w8 = written w7 _ _ (rw (c.parts-parts.ensures.to) at c.in_ok-u64-2.ensures.ok) in
+    let w8 = written w7 _ _ (rw (c.to.ensures) at c.in_ok-u64-2.ensures.ok) in
     let w9 = written w8 _ _ c.in_ok-key-5.ensures.ok in
     (written w9 _ _ c.in_ok-string-3.ensures.ok).is

@@ -4,7 +4,7 @@ use Rattle.spdx_lexer.specs.Faults.{fault_of}
 use Rattle.spdx_check.specs.Checking.{heirs_in}
 use Rattle.spdx_check.specs.Finding.{Wrong}
 use Rattle.spdx_check.proofs.Findings.{accepted_there, refused_there, no_text_is}
-use Rattle.spdx_check.proofs.refusals.refusal_of.Goals as goal
+use Rattle.spdx_check.proofs.refusals.refusal_in.Goals as goal
 
 pub returns-in-Err : goal.returns-in-Err
 returns-in-Err c =

@@ -1,0 +1,5 @@
+pub mod Written
+pub mod Findings
+pub mod Tags
+pub mod Manifests
+pub mod Stood

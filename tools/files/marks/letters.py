@@ -1,0 +1,1 @@
+# é, SPDX-License-Identifier: MIT OR Foo
