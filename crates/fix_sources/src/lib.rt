@@ -1,0 +1,24 @@
+//! A text whose license expressions are replaced by their fixes, and nothing else: those of its lines, or those behind its
+//! license tags.
+//!
+//! ```rust
+//! // crates/spdx_program/src/fix.rt
+//! let tagged = fix_tags(alloc, job.catalogue, path, text)?;
+//! ```
+//!
+//! It stands on `spdx_mend`, and on `spdx_check`, `check_sources` and `license_tags`, which say where the expressions are.
+#![tactic(auto)]
+
+mod fixing;
+mod spans;
+
+pub use crate::fixing::{fix_lines, fix_tags};
+
+/// What becomes of a text.
+#[derive(Drop, Debug)]
+pub struct FixedText {
+    /// Its bytes with the fixes, where some expression is replaced.
+    pub bytes: Option<Vec<u8>>,
+    /// Whether an expression is left that strict reading refuses.
+    pub is_left: bool,
+}
