@@ -3,7 +3,7 @@
 //! It reads no expression: it gives their places, and whoever asked reads them.
 //!
 //! ```rust
-//! // crates/spdx_program/src/fix.rt
+//! // crates/fix_sources/src/spans.rt
 //! for tag in tags(alloc, bytes, comment_of(path))? {
 //! ```
 //!

@@ -1,8 +1,8 @@
 //! A text whose licence expressions are replaced by their fixes, and nothing else.
 //!
 //! ```rust
-//! // crates/spdx_program/src/fix.rt
-//! Ok(fix_all(alloc, job.catalogue, bytes, &spans)?)
+//! // crates/fix_sources/src/fixing.rt
+//! let Some(mended) = fix_all(alloc, catalogue, bytes, spans)? else {
 //! ```
 //!
 //! It stands on `spdx_fix`.

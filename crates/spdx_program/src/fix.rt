@@ -8,14 +8,12 @@ use crate::system::{System, bytes_of, input_bytes, is_special, paths_or_input, w
 use crate::trouble::Trouble;
 use crate::walk::Walk;
 use crate::wanted::{Reading, Taken, form_below, reading_of};
-use check_sources::is_binary;
-use license_tags::{comment_of, tags};
+use fix_sources::{FixedText, fix_lines, fix_tags};
 use line_diff::put_diff;
 use line_engine::lines::write_all;
 use manifest_fixes::{FixedManifest, fix_manifest};
 use manifests::Form;
-use spdx::{Catalogue, Expression, Failure};
-use spdx_mend::{Mended, Span, fix_all};
+use spdx::Catalogue;
 use spdx_words::{FixRequest, Wanted};
 use std::alloc::{AllocError, Global};
 use std::io::Write;
@@ -250,17 +248,14 @@ fn mended_of(
     bytes: &[u8],
 ) -> Result<Outcome, Trouble> {
     match parts {
-        Parts::Lines => {
-            let mended = lines_mended(alloc, job, bytes)?;
-            outcome_of(alloc, job, mended)
-        }
+        Parts::Lines => Ok(outcome_of(fix_lines(alloc, job.catalogue, bytes)?)),
         Parts::Source { form, tags } => {
             let declared = declared_of(alloc, job, form, path, bytes)?;
-            if !tags || is_binary(bytes) {
+            if !tags {
                 return Ok(declared);
             }
-            let mended = tags_mended(alloc, job, path, declared.bytes_or(bytes))?;
-            let tagged = outcome_of(alloc, job, mended)?;
+            let text = declared.bytes_or(bytes);
+            let tagged = fix_tags(alloc, job.catalogue, path, text)?;
             Ok(Outcome {
                 is_left: declared.is_left || tagged.is_left,
                 bytes: tagged.bytes.or(declared.bytes),
@@ -312,38 +307,9 @@ fn joined(alloc: Global, one: &[u8], other: &[u8]) -> Result<Vec<u8>, AllocError
     Ok(bytes)
 }
 
-// The text with the expressions of its lines mended.
-fn lines_mended(alloc: Global, job: &Job<'_>, bytes: &[u8]) -> Result<Option<Mended>, Trouble> {
-    let spans = line_spans(alloc, bytes)?;
-    Ok(fix_all(alloc, job.catalogue, bytes, &spans)?)
-}
-
-// The text with the expressions of its tags mended.
-fn tags_mended(
-    alloc: Global,
-    job: &Job<'_>,
-    path: &str,
-    bytes: &[u8],
-) -> Result<Option<Mended>, Trouble> {
-    let spans = tag_spans(alloc, path, bytes)?;
-    Ok(fix_all(alloc, job.catalogue, bytes, &spans)?)
-}
-
-// What becomes of a text that is mended so; the places of its expressions are in order, so there is one.
-fn outcome_of(alloc: Global, job: &Job<'_>, mended: Option<Mended>) -> Result<Outcome, Trouble> {
-    let Some(mended) = mended else {
-        return Ok(Outcome {
-            bytes: None,
-            is_left: false,
-        });
-    };
-    let is_left = is_refused(alloc, job.catalogue, &mended)?;
-    let bytes = if mended.count > 0 {
-        Some(mended.bytes)
-    } else {
-        None
-    };
-    Ok(Outcome { bytes, is_left })
+fn outcome_of(fixed: FixedText) -> Outcome {
+    let FixedText { bytes, is_left } = fixed;
+    Outcome { bytes, is_left }
 }
 
 fn diff_of(alloc: Global, path: &str, old: &[u8], new: &[u8]) -> Result<Vec<u8>, Trouble> {
@@ -364,49 +330,4 @@ fn diff_name(path: &str) -> Option<&str> {
     } else {
         Some(name)
     }
-}
-
-// Where the tags of a file have their expressions.
-fn tag_spans(alloc: Global, path: &str, bytes: &[u8]) -> Result<Vec<Span>, AllocError> {
-    let mut spans = Vec::new(alloc);
-    for tag in tags(alloc, bytes, comment_of(path))? {
-        spans.push(Span {
-            start: tag.start,
-            end: tag.end,
-        })?;
-    }
-    Ok(spans)
-}
-
-// Where the lines stand that are not blank, without their ends.
-fn line_spans(alloc: Global, bytes: &[u8]) -> Result<Vec<Span>, AllocError> {
-    let mut spans = Vec::new(alloc);
-    let mut start: usize = 0;
-    for line in bytes.split(|byte| *byte == b'\n') {
-        let text = line.strip_suffix(b"\r").unwrap_or(line);
-        if !text.trim_ascii().is_empty() {
-            spans.push(Span {
-                start,
-                end: start.saturating_add(text.len()),
-            })?;
-        }
-        start = start.saturating_add(line.len()).saturating_add(1);
-    }
-    Ok(spans)
-}
-
-// Whether some expression is still refused.
-fn is_refused(alloc: Global, catalogue: &Catalogue, mended: &Mended) -> Result<bool, AllocError> {
-    for span in &mended.spans {
-        let bytes = mended.bytes.get(span.start..span.end).unwrap_or(&[]);
-        match str::from_utf8(bytes) {
-            Ok(text) => match Expression::parse(alloc, catalogue, text) {
-                Ok(_) => {}
-                Err(Failure::Refused(_)) => return Ok(true),
-                Err(Failure::Memory(error)) => return Err(error),
-            },
-            Err(_) => return Ok(true),
-        }
-    }
-    Ok(false)
 }
