@@ -5,3 +5,5 @@ pub mod Ranges
 pub mod Appended
 pub mod Agreeing
 pub mod Silent
+pub mod Passing
+pub mod OwnRows

@@ -8,3 +8,6 @@ pub mod Needs
 pub mod Unread
 pub mod Told
 pub mod Texts
+pub mod Totals
+pub mod Verdicts
+pub mod Packages

@@ -13,16 +13,22 @@
 
 mod details;
 mod entries;
+mod forms;
 mod needs;
+mod packages;
 mod reading;
 mod shown;
+mod totals;
 mod tree;
 mod unread;
 mod unused;
 
 pub use crate::details::{Detail, told_verdict};
 pub use crate::entries::entry_text;
+pub use crate::forms::{Form, are_gathered, put_explanations, put_verdicts};
 pub use crate::needs::put_needs;
+pub use crate::packages::{NamedPackage, told_packages};
 pub use crate::shown::Shown;
+pub use crate::totals::told_totals;
 pub use crate::tree::parts;
 pub use crate::unused::put_all_unused;

@@ -1,0 +1,177 @@
+// What is told of the packages of a run.
+
+ghost use Rattle.std.specs.Prelude.{◌≡◌, ◌++◌, IfOk, OnOk, length, map, option_map};
+ghost use Rattle.std.specs.Option.{option_copied};
+ghost use Rattle.gate_told.specs.Moved.{moved_node, moved_why};
+ghost use Rattle.gate_told.specs.Packages.{
+  AreTold,
+  moved_report,
+  nodes_told,
+  report_of,
+  reports_of,
+  row_telling,
+  row_told,
+  state_at,
+  state_by,
+  text_told,
+  why_told,
+};
+ghost use Rattle.gate_told.specs.Texts.{telling_in};
+
+use crate::details::{Detail, told_verdict};
+use gate_forms::{Baseline, Node, Report, Why};
+use spdx_gate::{Row, Verdict};
+use std::alloc::{AllocError, Global};
+
+/// A package of a run.
+#[derive(Clone, Copy)]
+pub struct NamedPackage<'r> {
+    /// The file that names it.
+    pub file: &'r str,
+    pub name: &'r str,
+    pub version: Option<&'r str>,
+}
+
+/// What is told of the packages of a run, in their order, by a policy of this path: of the n-th package its file, its name
+/// and its version, the verdict of the n-th row, and what the detail tells that has the number of the row's judgement. Where
+/// there is a baseline, the n-th of `known` says whether the refusal of the n-th package is known. A package without a row
+/// is not told. Of as many packages as rows each is told, in its own file, and as refused exactly if its row is (`each`).
+///
+/// # Errors
+///
+/// Memory was refused.
+pub fn told_packages<'r>(
+    alloc: Global,
+    policy: &'r str,
+    packages: &[NamedPackage<'r>],
+    rows: &[Row],
+    details: &'r [Detail<'r>],
+    known: Option<&[bool]>,
+) -> Result<Vec<Report<'r>>, AllocError>
+    ensures exact { IfOk result (λ told. map moved_report told.items
+        ≡ reports_of policy.now (map telling_in details.now) rows.now known.entry packages.now) }
+    ensures each { IfOk result (λ told. length packages.now ≡ length rows.now →
+        AreTold packages.now rows.now told.items) }
+{
+    let mut told = Vec::new(alloc);
+    for (number, named) in packages.iter().enumerate() {
+        let baseline = state_at(known, number);
+        add_told(
+            &mut told,
+            policy,
+            named,
+            rows.get(number),
+            details,
+            baseline,
+        )?;
+    }
+    Ok(told)
+}
+
+// Adds what is told of a package with this row.
+fn add_told<'r>(
+    told: &mut Vec<Report<'r>>,
+    policy: &'r str,
+    named: &NamedPackage<'r>,
+    row: Option<&Row>,
+    details: &'r [Detail<'r>],
+    baseline: Baseline,
+) -> Result<(), AllocError>
+    ensures { OnOk result (map moved_report told.new.items ≡ map moved_report told.old.items
+        ++ row_told policy.now (map telling_in details.now) named.now baseline
+        (option_copied row.entry)) }
+{
+    match row {
+        Some(row) => {
+            told.push(report_of(policy, named, row, details, baseline))?;
+            Ok(())
+        }
+        None => Ok(()),
+    }
+}
+
+// What is told of a package.
+fn report_of<'r>(
+    policy: &'r str,
+    named: &NamedPackage<'r>,
+    row: &Row,
+    details: &'r [Detail<'r>],
+    baseline: Baseline,
+) -> Report<'r>
+    ensures { moved_report result ≡
+        report_of policy.now (map telling_in details.now) named.now row.now baseline }
+{
+    let text = TextTold::of(detail_of(row, details), row.verdict);
+    Report {
+        policy,
+        file: named.file,
+        name: named.name,
+        version: named.version,
+        expression: text.expression,
+        verdict: told_verdict(row.verdict),
+        baseline,
+        why: text.why,
+        nodes: text.nodes,
+    }
+}
+
+fn detail_of<'r>(row: &Row, details: &'r [Detail<'r>]) -> Option<&'r Detail<'r>>
+    ensures { option_map telling_in (option_copied result) ≡
+        row_telling (map telling_in details.now) row.now }
+{
+    match row.judgement {
+        Some(number) => details.get(number),
+        None => None,
+    }
+}
+
+// What is told of the text that a package is judged by.
+#[derive(Clone, Copy)]
+struct TextTold<'r> {
+    expression: &'r str,
+    nodes: &'r [Node<'r>],
+    why: Why<'r>,
+}
+
+impl<'r> TextTold<'r> {
+    fn of(detail: Option<&'r Detail<'r>>, verdict: Verdict) -> TextTold<'r>
+        ensures expression { result.expression.now ≡
+            text_told (option_map telling_in (option_copied detail.entry)) }
+        ensures nodes { map moved_node result.nodes.now ≡
+            nodes_told (option_map telling_in (option_copied detail.entry)) }
+        ensures why { moved_why result.why ≡
+            why_told (option_map telling_in (option_copied detail.entry)) verdict }
+    {
+        match detail {
+            Some(detail) => TextTold {
+                expression: detail.expression,
+                nodes: detail.nodes.as_slice(),
+                why: detail.why(verdict),
+            },
+            None => TextTold {
+                expression: "",
+                nodes: &[],
+                why: Why::Nothing,
+            },
+        }
+    }
+}
+
+// Whether the refusal of that number is known.
+fn state_at(known: Option<&[bool]>, number: usize) -> Baseline
+    ensures { result ≡ state_at known.entry number }
+{
+    match known {
+        Some(known) => state_by(known.get(number)),
+        None => Baseline::Absent,
+    }
+}
+
+fn state_by(is_known: Option<&bool>) -> Baseline
+    ensures { result ≡ state_by (option_copied is_known.entry) }
+{
+    match is_known {
+        Some(true) => Baseline::Known,
+        _ => Baseline::New,
+    }
+}
