@@ -5,7 +5,6 @@ use crate::packages::{Listed, listed_before};
 use crate::system::System;
 use crate::trouble::Trouble;
 use gate_baseline::{Refusal, known_among};
-use gate_forms::Baseline;
 use package_sources::{Package, Spot};
 use spdx::Catalogue;
 use spdx_gate::{Report, Row};
@@ -18,8 +17,8 @@ use std::alloc::{AllocError, Global};
 pub(crate) struct Before {
     /// The older file.
     pub(crate) path: String,
-    // of each package of the run, in order, whether one of its name and license is refused there
-    known: Vec<bool>,
+    /// Of each package of the run, in order, whether one of its name and license is refused there.
+    pub(crate) known: Vec<bool>,
 }
 
 impl Before {
@@ -41,14 +40,6 @@ impl Before {
             path: String::from_str(alloc, older.path)?,
             known,
         })
-    }
-
-    /// Whether the package of that number, from 0, is known, if it is refused.
-    pub(crate) fn state(&self, number: usize) -> Baseline {
-        match self.known.get(number) {
-            Some(true) => Baseline::Known,
-            _ => Baseline::New,
-        }
     }
 
     /// Whether every package is allowed or known.

@@ -1,20 +1,22 @@
 // The command `gate`.
 
 use crate::baseline::{Before, Older};
+use crate::check::VERSION;
 use crate::console::Console;
 use crate::list;
 use crate::packages::{AllListed, Listed, Wanted, read_all, view};
 use crate::policy::policy;
 use crate::system::System;
 use crate::trouble::Trouble;
-use crate::verdicts::{are_gathered, form_of, put_explanations, put_verdicts};
 use finding_forms::Style;
-use gate_forms::{Baseline, Node, Report as Told, Totals as ToldTotals, Why, put_known};
-use gate_told::{Detail, Shown, put_all_unused, put_needs, told_verdict};
+use gate_forms::{Report as Told, put_known};
+use gate_told::{
+    Detail, Form, NamedPackage, Shown, are_gathered, put_all_unused, put_explanations, put_needs,
+    put_verdicts, told_packages, told_totals,
+};
 use line_engine::lines::write_all;
-use package_sources::Package as ListedPackage;
 use spdx::Catalogue;
-use spdx_gate::{Package, Report, Row, judge};
+use spdx_gate::{Package, Report, judge};
 use spdx_policy::Policy;
 use spdx_words::{GateForm, GateRequest};
 use std::alloc::{AllocError, Global};
@@ -93,11 +95,11 @@ impl Gated<'_> {
         }
     }
 
-    // Whether the package of that number is known.
-    fn state(&self, number: usize) -> Baseline {
+    // Of each package whether its refusal is known, where there is a baseline.
+    fn known(&self) -> Option<&[bool]> {
         match &self.before {
-            Some(before) => before.state(number),
-            None => Baseline::Absent,
+            Some(before) => Some(before.known.as_slice()),
+            None => None,
         }
     }
 }
@@ -182,7 +184,7 @@ fn told(
         put_explanations(alloc, &mut text, style, name, &verdicts)?;
         return Ok(text);
     }
-    let totals = totals(&gated.report);
+    let totals = told_totals(&gated.report);
     let form = form_of(look.form, style);
     put_verdicts(alloc, &mut text, form, path, &totals, &verdicts)?;
     match &gated.before {
@@ -206,24 +208,28 @@ fn verdicts_of<'r>(
     gated: &'r Gated<'_>,
     details: &'r [Detail<'r>],
 ) -> Result<Vec<Told<'r>>, AllocError> {
-    let mut verdicts = Vec::new(alloc);
-    let mut rest = gated.report.rows.iter();
-    for file in &gated.listed {
+    let path = gated.path.as_str();
+    let packages = named_in(alloc, &gated.listed)?;
+    let rows = gated.report.rows.as_slice();
+    told_packages(alloc, path, &packages, rows, details, gated.known())
+}
+
+// The packages of these files.
+fn named_in(alloc: Global, listed: &[Listed]) -> Result<Vec<NamedPackage<'_>>, AllocError> {
+    let mut named = Vec::new(alloc);
+    for file in listed {
         for package in &file.packages {
-            if let Some(row) = rest.next() {
-                let mut told = verdict(
-                    gated.path.as_str(),
-                    file.path.as_str(),
-                    package,
-                    row,
-                    details,
-                );
-                told.baseline = gated.state(verdicts.len());
-                verdicts.push(told)?;
-            }
+            named.push(NamedPackage {
+                file: file.path.as_str(),
+                name: package.name.as_str(),
+                version: match &package.version {
+                    Some(version) => Some(version.as_str()),
+                    None => None,
+                },
+            })?;
         }
     }
-    Ok(verdicts)
+    Ok(named)
 }
 
 // The texts of each judgement.
@@ -253,49 +259,14 @@ fn details_of<'s>(
     Ok(details)
 }
 
-// What is told of a package.
-fn verdict<'r>(
-    policy: &'r str,
-    file: &'r str,
-    package: &'r ListedPackage,
-    row: &Row,
-    details: &'r [Detail<'r>],
-) -> Told<'r> {
-    let detail = match row.judgement {
-        Some(place) => details.get(place),
-        None => None,
-    };
-    let (expression, nodes, why): (&'r str, &'r [Node<'r>], Why<'r>) = match detail {
-        Some(detail) => (
-            detail.expression,
-            detail.nodes.as_slice(),
-            detail.why(row.verdict),
-        ),
-        None => ("", &[], Why::Nothing),
-    };
-    Told {
-        policy,
-        file,
-        name: package.name.as_str(),
-        version: match &package.version {
-            Some(version) => Some(version.as_str()),
-            None => None,
-        },
-        expression,
-        verdict: told_verdict(row.verdict),
-        baseline: Baseline::Absent,
-        why,
-        nodes,
-    }
-}
-
-fn totals(report: &Report<'_>) -> ToldTotals {
-    let totals = report.totals();
-    ToldTotals {
-        packages: totals.packages as u64,
-        allowed: totals.allowed as u64,
-        by_exception: totals.by_exception as u64,
-        refused: totals.refused as u64,
-        unstated: totals.unstated as u64,
+// The form that was asked for, in this style where it has one.
+fn form_of(form: GateForm, style: Style) -> Form<'static> {
+    match form {
+        GateForm::Human => Form::Human(style),
+        GateForm::Short => Form::Short,
+        GateForm::Json => Form::Json,
+        GateForm::Github => Form::Github,
+        GateForm::Sarif => Form::Sarif { version: VERSION },
+        GateForm::Html => Form::Html,
     }
 }

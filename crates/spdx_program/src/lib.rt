@@ -36,7 +36,6 @@ mod simplify;
 mod sums;
 mod system;
 mod trouble;
-mod verdicts;
 mod walk;
 mod wanted;
 
