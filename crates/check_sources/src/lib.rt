@@ -2,7 +2,7 @@
 //!
 //! ```rust
 //! // crates/spdx_program/src/check.rt
-//! let findings = check_tags(alloc, &job.check, is_first, source)?;
+//! let found = check_tags(alloc, &job.check, sums.is_clean(), source)?;
 //! ```
 //!
 //! It stands on `license_tags` and `manifests`, which say where the expressions are, on `spdx_check`, which says what is

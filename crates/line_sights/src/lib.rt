@@ -2,7 +2,7 @@
 //!
 //! ```rust
 //! // crates/check_sources/src/written.rt
-//! let shown = cursor.shown(alloc, to)?;
+//! cursor.shown(alloc, part.len)
 //! ```
 //!
 //! It stands on `text_places` and `finding_forms`.

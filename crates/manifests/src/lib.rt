@@ -3,8 +3,8 @@
 //! It reads no expression: it gives their places, and writes another text there.
 //!
 //! ```rust
-//! // crates/spdx_program/src/manifest.rt
-//! match sites(alloc, manifest.form, manifest.bytes) {
+//! // crates/check_sources/src/declared.rt
+//! match sites(alloc, form, source.bytes) {
 //! ```
 //!
 //! It stands on `json_places`, `toml_places`, `plain_manifests` and `text_places`.

@@ -1,8 +1,8 @@
 //! What is wrong with the licence expressions of a file: one by one, where another finds them, or line by line.
 //!
 //! ```rust
-//! // crates/spdx_program/src/check.rt
-//! if check_one(alloc, check, is_first, place, expression, text)? {
+//! // crates/check_sources/src/written.rt
+//! let Some(refusal) = refusal_of(alloc, check, written.text)? else {
 //! ```
 //!
 //! It stands on the parser, `spdx_fix`, `spdx_hints` and `spdx_list` for what helps, `finding_forms` for how it is

@@ -1,8 +1,8 @@
 //! Where something stands in the bytes of a file, and how such a place is told: by its line and column.
 //!
 //! ```rust
-//! // crates/spdx_program/src/manifest.rt
-//! column = column_after(column, skipped, column_of(skipped, skipped.len()));
+//! // crates/line_sights/src/cursor.rt
+//! let line = self.line + newline_count(skipped) as u64;
 //! ```
 //!
 //! It stands on nothing.
