@@ -12,12 +12,11 @@ use Rattle.gate_forms.specs.Json.{json_line, json_lines}
 use Rattle.gate_forms.specs.Known.{is_known}
 use Rattle.gate_forms.specs.Lines.{github_line, github_text, short_line, short_text}
 use Rattle.gate_forms.specs.Refusals.{also_line, is_same, refusals_from, refusals_text}
-use Rattle.gate_forms.specs.Report.{is_refused}
 use Rattle.gate_forms.specs.Sarif.{LogReadsBack, result_of}
 use Rattle.gate_forms.specs.Totals.{totals_text}
 use Rattle.gate_told.specs.declared.forms.Form.{Form}
 use Rattle.gate_told.specs.declared.forms.Form.TheVariants.{Human, Short, Json, Github, Sarif, Html}
-use Rattle.gate_told.specs.Verdicts.{IsLog, are_gathered, explanations_text, is_any_named, is_any_refused, is_named, is_of_refusals, is_report_refused, log_line, named, new_of, people_text, refused_of, verdicts_text}
+use Rattle.gate_told.specs.Verdicts.{IsLog, are_gathered, explanations_text, is_any_named, is_any_refused, is_named, is_of_refusals, is_report_refused, log_line, new_of, people_text, refused_of, verdicts_text}
 
 first_false : (a b : Bool) → (a || b) ≡ false → a ≡ false
 first_false true b e = e

@@ -1,7 +1,8 @@
 //! What is told of a gate's judgements of packages, for the forms in which that is written.
 //!
 //! These are the parts of each expression in the order in which they are shown; what a policy says of its requirements, and
-//! by which entries; why a text is no expression; what would make packages pass; and what of the policy is of no use.
+//! by which entries; why a text is no expression; what would make packages pass; and what of the policy is of no use. With
+//! the files and names of a run's packages they are its verdicts, which stand one behind the other in each form.
 //!
 //! ```rust
 //! // crates/spdx_program/src/gate.rt

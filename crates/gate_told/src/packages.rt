@@ -32,10 +32,11 @@ pub struct NamedPackage<'r> {
     pub version: Option<&'r str>,
 }
 
-/// What is told of the packages of a run, in their order, by a policy of this path: of the n-th package its file, its name
-/// and its version, the verdict of the n-th row, and what the detail tells that has the number of the row's judgement. Where
-/// there is a baseline, the n-th of `known` says whether the refusal of the n-th package is known. A package without a row
-/// is not told. Of as many packages as rows each is told, in its own file, and as refused exactly if its row is (`each`).
+/// What is told of the packages of a run, in their order, by a policy of this path: of the n-th package its file, its
+/// name and its version, the verdict of the n-th row, and what the detail tells that has the number of the row's
+/// judgement. Where there is a baseline, the n-th of `known` says whether the refusal of the n-th package is known. A
+/// package without a row is not told. Of as many packages as rows each is told, in its own file, and as refused exactly
+/// if its row is (`each`).
 ///
 /// # Errors
 ///

@@ -1,7 +1,5 @@
 use Rattle.std.specs.Prelude.{Result, Ok, Err, OnOk}
-use Rattle.gate_forms.specs.Sarif.{LogReadsBack}
 use Rattle.gate_told.proofs.Passing.{log_told}
-use Rattle.gate_told.specs.Verdicts.{IsLog, log_line}
 use Rattle.gate_told.proofs.forms.put_log.Goals as goal
 
 pub returns-clause-log : goal.returns-clause-log
