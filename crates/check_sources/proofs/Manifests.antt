@@ -1,6 +1,5 @@
 -- What is written of a manifest.
-use Rattle.std.proofs.Common.{◌≡◌, ℕ, Bool, List, Result, Ok, Err, IfOk, map, subst}
-use Rattle.line_engine.specs.declared.lines.Summary.{Summary}
+use Rattle.std.proofs.Common.{◌≡◌, Bool, List, Result, Ok, Err, IfOk, map, subst}
 use Rattle.manifests.specs.declared.form.Form.{Form}
 use Rattle.manifests.specs.declared.site.Fault.{Fault}
 use Rattle.manifests.specs.declared.site.Site.{Site}

@@ -1,4 +1,4 @@
-use Rattle.std.proofs.Common.{◌≡◌, ℕ, ◌+◌, ◌≤◌, List, ◌++◌, drop, map}
+use Rattle.std.proofs.Common.{◌≡◌, ◌+◌, ◌≤◌, ◌++◌, drop, map}
 use Rattle.spdx_check.specs.Checking.{heirs_in}
 use Rattle.spdx_check.specs.Found.{finding_of}
 use Rattle.check_sources.specs.Findings.{findings_text, refused_count}

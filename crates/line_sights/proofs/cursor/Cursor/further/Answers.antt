@@ -1,4 +1,4 @@
-use Rattle.std.proofs.Common.{◌≡◌, ℕ, ◌+◌, ◌-◌, ap, sym, ◌∙◌, arith}
+use Rattle.std.proofs.Common.{ap, sym, ◌∙◌, arith}
 use Rattle.text_places.specs.Places.{character_count}
 use Rattle.std.proofs.lemmas.Bool.{ne_eqb}
 use Rattle.line_sights.proofs.Further.{line_further, other_begins, other_column_of, same_begins, same_column_of}
