@@ -1,6 +1,6 @@
 // A `pyproject.toml` whose license is a table, as it was before PEP 639.
 
-ghost use Rattle.std.specs.Prelude.{◌≡◌, IfOk, Some};
+ghost use Rattle.std.specs.Prelude.{◌≡◌, IfOk, None, Some, false};
 ghost use Rattle.std.specs.Str.{IsUtf8};
 ghost use Rattle.toml.specs.Data.{Members};
 ghost use Rattle.toml.specs.Parse.{parse_document};
@@ -18,8 +18,10 @@ use toml::{Table, Value};
 ///
 /// Memory was refused.
 pub fn has_license_table(alloc: Global, bytes: &[u8]) -> Result<bool, AllocError>
-    ensures { IfOk result (λ has. (document : Members) → IsUtf8 bytes.now →
+    ensures has { IfOk result (λ has. (document : Members) → IsUtf8 bytes.now →
         parse_document bytes.now ≡ Some document → has ≡ has_license_table document) }
+    ensures none { IfOk result (λ has.
+        (IsUtf8 bytes.now → parse_document bytes.now ≡ None) → has ≡ false) }
 {
     match toml::table_from_slice(alloc, bytes) {
         Ok(document) => Ok(is_old(&document)),
