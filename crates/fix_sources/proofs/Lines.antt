@@ -7,7 +7,8 @@ use Rattle.license_tags.specs.declared.Tag.{Tag}
 use Rattle.license_tags.specs.Tags.{AreInOrder as AreTagsInOrder}
 use Rattle.spdx_mend.specs.declared.Span.{Span}
 use Rattle.spdx_mend.specs.Mending.{AreInOrder}
-use Rattle.fix_sources.specs.Spans.{expression_of, is_blank, spans_from, line_spans, span_of}
+use Rattle.spdx_check.specs.Checking.{expression_of, is_blank}
+use Rattle.fix_sources.specs.Spans.{spans_from, line_spans, span_of}
 
 -- ---- the expression of a line is no longer than the line
 

@@ -1,25 +1,12 @@
 -- Where the expressions of a text stand: those of its lines, or those behind its license tags.
-use Rattle.std.specs.Prelude.{ℕ, ◌+◌, ◌-◌, ◌==◌, Bool, List, [], ◌∷◌, ◌++◌, length, map, take, slice_index, if◌then◌else◌}
-use Rattle.std.specs.Char.{is_ascii_whitespace}
-use Rattle.std.specs.List.{list_all, list_any}
+use Rattle.std.specs.Prelude.{ℕ, ◌+◌, List, [], ◌∷◌, ◌++◌, length, map, if◌then◌else◌}
 use Rattle.line_engine.specs.Lines.{lines_of}
 use Rattle.license_tags.specs.declared.Tag.{Tag}
 use Rattle.license_tags.specs.Comments.{comment_of}
 use Rattle.license_tags.specs.Tags.{tags_of}
+use Rattle.spdx_check.specs.Checking.{expression_of, is_blank}
+use Rattle.check_sources.specs.Tags.{is_binary}
 use Rattle.spdx_mend.specs.declared.Span.{Span}
-
--- the expression of a line, which is without a carriage return at its end
-abbrev pub expression_of : List ℕ → List ℕ
-expression_of line =
-    let last = length line - 1 in if slice_index line last == 13 then take last line else line
-
--- it is nothing but ASCII white space
-abbrev pub is_blank : List ℕ → Bool
-is_blank expression = list_all is_ascii_whitespace expression
-
--- the bytes are no text: a byte 0 stands among the first 8,192
-abbrev pub is_binary : List ℕ → Bool
-is_binary bytes = list_any (λ b. b == 0) (take 8192 bytes)
 
 -- the place of the expression of a line that begins at this offset; a blank line has none
 abbrev pub line_span : ℕ → List ℕ → List Span

@@ -3,18 +3,13 @@
 ghost use Rattle.std.specs.Prelude.{◌≡◌, ◌++◌, ◌∷◌, ◌+◌, ◌<◌, ◌≤◌, ◌^◌, IfOk, OnOk, length, drop, take};
 ghost use Rattle.line_engine.specs.Lines.{lines_of};
 ghost use Rattle.spdx_mend.specs.Mending.{AreInOrder};
-ghost use Rattle.fix_sources.specs.Spans.{
-  expression_of,
-  is_binary,
-  is_blank,
-  line_span,
-  line_spans,
-  span_of,
-  tag_spans,
-};
+ghost use Rattle.spdx_check.specs.Checking.{is_blank};
+ghost use Rattle.fix_sources.specs.Spans.{line_span, line_spans, span_of, tag_spans};
 
+use check_sources::is_binary;
 use license_tags::{Tag, comment_of, tags};
 use memchr::memchr;
+use spdx_check::expression_of;
 use spdx_mend::Span;
 use std::alloc::{AllocError, Global};
 
@@ -34,23 +29,6 @@ fn behind(bytes: &[u8], len: usize) -> &[u8]
     match bytes.get(len..) {
         Some([_, rest @ ..]) => rest,
         _ => &[],
-    }
-}
-
-// Whether the bytes are no text.
-fn is_binary(bytes: &[u8]) -> bool
-    ensures { result ≡ is_binary bytes.now }
-{
-    bytes.iter().take(8192).any(|byte| *byte == 0)
-}
-
-// The line without a carriage return at its end.
-fn expression_of(line: &[u8]) -> &[u8]
-    ensures { result.now ≡ expression_of line.now }
-{
-    match line.split_last() {
-        Some((b'\r', front)) => front,
-        _ => line,
     }
 }
 
