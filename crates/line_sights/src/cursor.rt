@@ -4,7 +4,7 @@ ghost use Rattle.std.specs.Prelude.{◌≡◌, ◌+◌, ◌-◌, ◌≤◌, drop
 ghost use Rattle.text_places.specs.Places.{character_count, column_of, last_line_len, line_before};
 ghost use Rattle.line_sights.specs.Lines.{line_of, within};
 
-use text_places::newline_count;
+use text_places::{character_count, last_line_len, newline_count};
 
 /// A place in a file, in bytes from its beginning, with its line and its column. It is moved from one place to the next, so
 /// that many places cost one pass over the file.
@@ -100,28 +100,9 @@ impl<'b> Cursor<'b> {
     }
 }
 
-// How many characters there are: a byte that continues none, or is no text, counts.
-fn character_count(bytes: &[u8]) -> usize
-    ensures { result ≡ character_count bytes.now }
-{
-    bytes.iter().filter(|byte| **byte & 0xc0 != 0x80).count()
-}
-
 // What stands behind the last newline.
 fn last_line(bytes: &[u8]) -> &[u8]
     ensures { result.now ≡ drop (length bytes.now - last_line_len bytes.now) bytes.now }
 {
     &bytes[bytes.len() - last_line_len(bytes)..]
-}
-
-// How many bytes stand behind the last newline.
-fn last_line_len(bytes: &[u8]) -> usize
-    ensures value { result ≡ last_line_len bytes.now }
-    ensures within { result ≤ length bytes.now }
-{
-    bytes
-        .iter()
-        .rev()
-        .take_while(|byte| **byte != b'\n')
-        .count()
 }

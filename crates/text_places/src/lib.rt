@@ -1,4 +1,4 @@
-//! Where something stands in the bytes of a file, and how such a place is told: by its line and column.
+//! Where something stands in the bytes of a file, and what such a place is counted by: lines, characters, a last line.
 //!
 //! ```rust
 //! // crates/line_sights/src/cursor.rt
@@ -8,8 +8,8 @@
 //! It stands on nothing.
 #![tactic(auto)]
 
-ghost use Rattle.std.specs.Prelude.{◌≡◌, ◌+◌, ◌==◌, ◌≤◌, length};
-ghost use Rattle.text_places.specs.Places.{column_of, newline_count, character_count, last_line_len};
+ghost use Rattle.std.specs.Prelude.{◌≡◌, ◌≤◌, length};
+ghost use Rattle.text_places.specs.Places.{newline_count, character_count, last_line_len};
 
 /// A part of a file: from `start` up to `end`, in bytes from the file's beginning.
 #[derive(Clone, Copy, PartialEq, Eq, Debug)]
@@ -25,15 +25,15 @@ pub fn newline_count(bytes: &[u8]) -> usize
     bytes.iter().filter(|byte| **byte == b'\n').count()
 }
 
-// How many characters there are: a byte that continues none, or is no text, counts.
-fn character_count(bytes: &[u8]) -> usize
+/// How many characters there are. A byte that is no text is one, unless it is one that would continue a character. Linear.
+pub fn character_count(bytes: &[u8]) -> usize
     ensures { result ≡ character_count bytes.now }
 {
     bytes.iter().filter(|byte| **byte & 0xc0 != 0x80).count()
 }
 
-// How many bytes stand behind the last newline.
-fn last_line_len(bytes: &[u8]) -> usize
+/// How many bytes stand behind the last newline. Linear in them.
+pub fn last_line_len(bytes: &[u8]) -> usize
     ensures value { result ≡ last_line_len bytes.now }
     ensures within { result ≤ length bytes.now }
 {
@@ -42,15 +42,4 @@ fn last_line_len(bytes: &[u8]) -> usize
         .rev()
         .take_while(|byte| **byte != b'\n')
         .count()
-}
-
-/// The column of a place in a file, in bytes from its beginning: how many characters stand before it in its line, and one. A
-/// byte that is no text is a character, unless it is one that would continue a character. A place past the end counts as the
-/// end. Linear in the bytes of the line before the place.
-pub fn column_of(bytes: &[u8], at: usize) -> u64
-    ensures { result ≡ column_of bytes.now at }
-{
-    let before = &bytes[..at.min(bytes.len())];
-    let line = &before[before.len() - last_line_len(before)..];
-    character_count(line) as u64 + 1
 }
