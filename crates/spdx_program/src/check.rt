@@ -1,6 +1,7 @@
 // The command `check`.
 
 use crate::console::Console;
+use crate::left::tell_left;
 use crate::list;
 use crate::manifest::Manifest;
 use crate::meant::mode_of;
@@ -273,6 +274,7 @@ fn check_tree<R: System, O: Write + Drop, F: Write + Drop>(
     }
     console.end_progress();
     sums.left_out.append(&mut walk.left_out)?;
+    tell_left(alloc, walk.left_behind, console);
     if taken.is_all() {
         tell_owed(rt, job, &owing, sums, console)?;
     }

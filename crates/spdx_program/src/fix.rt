@@ -1,6 +1,7 @@
 // The command `fix`.
 
 use crate::console::Console;
+use crate::left::{tell_left, tell_left_beside};
 use crate::list;
 use crate::manifest::{Manifest, trouble_of};
 use crate::replace::{Held, Loss, hold, replace};
@@ -48,6 +49,9 @@ pub(crate) fn fix<R: System, O: Write + Drop, F: Write + Drop>(
             Err(trouble) => return Err(trouble),
         }
     }
+    if job.is_written {
+        tell_left_beside(rt, &request.paths, console)?;
+    }
     Ok(status)
 }
 
@@ -91,6 +95,7 @@ fn fix_tree<R: System, O: Write + Drop, F: Write + Drop>(
         }
     }
     console.end_progress();
+    tell_left(alloc, walk.left_behind, console);
     Ok(status)
 }
 

@@ -20,6 +20,7 @@ mod console;
 mod diff;
 mod fix;
 mod gate;
+mod left;
 mod list;
 mod make;
 mod manifest;

@@ -62,6 +62,8 @@ pub(crate) enum Trouble {
     Lost(String, Loss),
     /// A file was read as one of this form, which its shape told.
     Guessed(String, &'static str),
+    /// A file that a run which was killed left beside the one that it was replacing.
+    LeftBehind(String),
     /// These references stand in several documents.
     Shared(String),
     /// What is to be written is no regular file.
@@ -179,7 +181,10 @@ impl Trouble {
         match self {
             Trouble::Unwritable(..) | Trouble::Output | Trouble::Memory => 3,
             Trouble::NoChoice(..) => 1,
-            Trouble::Lost(..) | Trouble::Guessed(..) | Trouble::Shared(_) => 0,
+            Trouble::Lost(..)
+            | Trouble::Guessed(..)
+            | Trouble::LeftBehind(_)
+            | Trouble::Shared(_) => 0,
             _ => 2,
         }
     }
@@ -202,6 +207,7 @@ impl Trouble {
             | Trouble::Empty(path)
             | Trouble::Unwritable(path, _)
             | Trouble::Shared(path)
+            | Trouble::LeftBehind(path)
             | Trouble::Special(path)
             | Trouble::Outside(path)
             | Trouble::Above(path)
@@ -294,6 +300,10 @@ impl Trouble {
                 "spdx: {name}: it doesn't run as its owner or group any more\n"
             ),
             Trouble::Guessed(_, form) => write!(text, "spdx: {name}: read as {form}\n"),
+            Trouble::LeftBehind(_) => write!(
+                text,
+                "spdx: {name}: left by a run that was killed; it may be removed, unless one is at work\n"
+            ),
             Trouble::Shared(_) => write!(
                 text,
                 "spdx: {name}: in several documents, each of which may mean another licence by it\n"

@@ -1,5 +1,6 @@
 // The files of source trees.
 
+use crate::left::is_beside;
 use crate::system::System;
 use crate::trouble::Trouble;
 use std::fs;
@@ -28,6 +29,8 @@ pub struct Walk {
     entries: Vec<Entry>,
     /// The folders that were left out so far, but for those of version control.
     pub(crate) left_out: Vec<String>,
+    /// What runs that were killed left so far, which isn't visited either.
+    pub(crate) left_behind: Vec<String>,
 }
 
 impl Walk {
@@ -48,6 +51,7 @@ impl Walk {
         Ok(Walk {
             entries,
             left_out: Vec::new(alloc),
+            left_behind: Vec::new(alloc),
         })
     }
 
@@ -94,9 +98,11 @@ impl Walk {
 impl Walk {
     // Puts an entry before all else, or leaves it out; beside a `Cargo.toml` a folder `target` is what Cargo made.
     fn visit(&mut self, entry: Entry, has_cargo: bool) -> Result<(), Trouble> {
-        let is_made = entry.is_folder && is_made(entry.path.as_str(), has_cargo);
-        if is_made {
+        let name = Path::new(entry.path.as_str()).file_name().unwrap_or("");
+        if entry.is_folder && is_made(name, has_cargo) {
             self.left_out.push(entry.path)?;
+        } else if !entry.is_folder && is_beside(name) {
+            self.left_behind.push(entry.path)?;
         } else {
             self.entries.push(entry)?;
         }
@@ -141,8 +147,8 @@ fn inside_of<R: System>(rt: &R, path: &str) -> io::Result<Inside> {
     Ok(inside)
 }
 
-// The path of what is in a folder: below `.` its name alone.
-fn below<'p>(folder: &str, path: &'p str) -> &'p str {
+/// The path of what is in a folder: below `.` its name alone.
+pub(crate) fn below<'p>(folder: &str, path: &'p str) -> &'p str {
     if folder == "." {
         path.strip_prefix("./").unwrap_or(path)
     } else {
@@ -155,7 +161,6 @@ fn is_history(name: &str) -> bool {
 }
 
 // Whether a program made what the folder holds, or others wrote it.
-fn is_made(path: &str, has_cargo: bool) -> bool {
-    let name = Path::new(path).file_name().unwrap_or("");
+fn is_made(name: &str, has_cargo: bool) -> bool {
     (has_cargo && name == "target") || MADE.iter().any(|other| *other == name)
 }
