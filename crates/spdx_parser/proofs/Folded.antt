@@ -5,7 +5,7 @@ use Rattle.spdx_lexer.specs.Code.{span_of}
 use Rattle.spdx_lexer.specs.Words.{Span}
 use Rattle.spdx_parser.specs.declared.node.ExprNode.{ExprNode}
 use Rattle.spdx_parser.specs.declared.node.Operator.{Operator}
-use Rattle.spdx_parser.specs.declared.parser.Frame.{Frame}
+use Rattle.spdx_parser.specs.declared.frames.Frame.{Frame}
 use Rattle.spdx_parser.specs.Tree.{Tree, Join, Node, Op, postfix, node_of}
 use Rattle.spdx_parser.specs.Nodes.{PlacedNode, placed_node}
 use Rattle.spdx_parser.specs.Spans.{requirement_spans}

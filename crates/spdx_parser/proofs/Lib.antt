@@ -11,5 +11,8 @@ pub mod Folded
 pub mod Shown
 pub mod Seen
 pub mod Loop
+pub mod Kept
+pub mod LastOpen
+pub mod Counted
 pub mod Heard
 pub mod OneFault

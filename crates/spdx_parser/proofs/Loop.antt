@@ -1,7 +1,7 @@
 -- The words that were read so far, and what one more comes to.
-use Rattle.std.proofs.Common.{◌≡◌, ℕ, ◌+◌, ◌<◌, ◌≤◌, ◌^◌, Bool, true, false, List, [], ◌∷◌, ◌++◌, length, map, reverse, Option, Some, None, Ok, Err, refl, sym, ◌∙◌, ap, subst, arith, append_assoc, append-nil, length-append}
+use Rattle.std.proofs.Common.{◌≡◌, ℕ, ◌+◌, ◌<◌, ◌≤◌, ◌^◌, Bool, true, false, List, [], ◌∷◌, ◌++◌, length, map, Option, Some, None, Ok, Err, refl, sym, ◌∙◌, ap, subst, arith, append_assoc, append-nil, length-append}
 use Rattle.std.specs.Prelude.{◌==◌}
-use Rattle.std.proofs.lemmas.List.{map-append, length-map, length-reverse, reverse-append}
+use Rattle.std.proofs.lemmas.List.{map-append, length-map}
 use Rattle.std.proofs.lemmas.List.Sums.{fold_push}
 use Rattle.spdx_requirement.specs.Rows.{Rows}
 use Rattle.spdx_catalogue.specs.RowRules.{is_well_formed}
@@ -10,8 +10,7 @@ use Rattle.spdx_lexer.specs.Words.{Word, CloseParen, Fault, Empty, Unexpected, U
 use Rattle.spdx_lexer.specs.Code.{span_of}
 use Rattle.spdx_lexer.specs.Reading.{reading}
 use Rattle.spdx_parser.specs.declared.node.ExprNode.{ExprNode}
-use Rattle.spdx_parser.specs.declared.parser.Frame.{Frame}
-use Rattle.spdx_parser.specs.declared.parser.Opened.{Opened}
+use Rattle.spdx_parser.specs.declared.frames.Frame.{Frame}
 use Rattle.spdx_parser.specs.Tree.{Tree, postfix}
 use Rattle.spdx_parser.specs.Nodes.{placed_node}
 use Rattle.spdx_parser.specs.Last.{Due, last_of, next_last, is_license, is_closing, terms}
@@ -28,12 +27,11 @@ use Rattle.spdx_parser.proofs.Machine as machine
 use Rattle.spdx_parser.proofs.Runs as runs
 use Rattle.spdx_parser.specs.Code.{IsKnown}
 use Rattle.spdx_parser.specs.State.{State, start, step, all_joined, require, if_taken}
-use Rattle.spdx_parser.specs.ParserModel.{opened_of}
 use Rattle.spdx_parser.proofs.Complete.{complete}
 use Rattle.spdx_parser.proofs.Theorem.{run_front, viable, not_viable, the_tree, no_tree}
 use Rattle.spdx_parser.proofs.Shown.{Shows, Goes, FramesFit, add_span, spans_of, places_of, goes, ends, not_ended, ended_spans, starts}
 use Rattle.spdx_parser.proofs.Folded.{bare, places_in, bare_nodes, places_nodes}
-use Rattle.spdx_parser.proofs.Seen.{Nest, whole, nest_more, none_open_is, last_open, spans_more, words_on}
+use Rattle.spdx_parser.proofs.Seen.{Nest, whole, nest_more, nest_count, opens_bound, none_open_is, last_open, spans_more, words_on}
 use Rattle.spdx_parser.proofs.Known.{last_known, words_known, tree_known}
 
 abbrev pub is_nil : List Placed → Bool
@@ -42,17 +40,6 @@ is_nil (p ∷ read) = false
 
 pub span_is : (a b at len : ℕ) → a ≡ at → b ≡ at + len → (let s : Span = record { from = a; to = b } in s) ≡ span at len
 span_is a b at len e f = ap (λ (x : ℕ). let s : Span = record { from = x; to = b } in s) e ∙ ap (λ (x : ℕ). let s : Span = record { from = at; to = x } in s) f
-
--- the parentheses that are open, the innermost first
-pub opened_nil : (items : List Opened) → (0 < length items → false ≡ true) → map opened_of (reverse items) ≡ []
-opened_nil [] h = refl
-opened_nil (x ∷ items) h = let more : 0 < length (x ∷ items) = omega arith in let f = h more in absurd cc
-
-pub opened_cons : (all rest : List Opened) (o : Opened) → all ≡ rest ++ o ∷ [] → map opened_of (reverse all) ≡ opened_of o ∷ map opened_of (reverse rest)
-opened_cons all rest o e = ap (λ xs. map opened_of (reverse xs)) e ∙ ap (map opened_of) (reverse-append rest (o ∷ []))
-
-pub opened_length : (items : List Opened) → length (map opened_of (reverse items)) ≡ length items
-opened_length items = length-map (reverse items) opened_of ∙ length-reverse items
 
 -- ---- lists of items
 
@@ -186,11 +173,20 @@ module _ (c : Rows) (m : ParseMode) (text : List ℕ) where
     pub lexes_no_more : (f : Fault) (at : Span) (more : List Item) → left ≡ Err (f, at) ∷ more → IsFaultOf c m text f at
     lexes_no_more f at more is = at_place read more (r.so_far ∙ ap (λ xs. map Ok read ++ xs) is) is_viable
 
-    -- each left side has a word of the text, and so has the one that comes
-    pub has_room : (p : Placed) (more : List Item) → left ≡ Ok p ∷ more → length (reading c m 0 text) ≤ length text → length text < 2 ^ 64 → s.frame.ors + s.frame.ands + 1 < 2 ^ 64
-    has_room p more is long lt =
+    -- each left side and each parenthesis has a word of the text, and so has the one that comes
+    words_fit : (p : Placed) (more : List Item) → left ≡ Ok p ∷ more → length (reading c m 0 text) ≤ length text → length text < 2 ^ 64 → length read + 1 < 2 ^ 64
+    words_fit p more is long lt =
         let all = ap length (r.so_far ∙ ap (λ xs. map Ok read ++ xs) is) ∙ length-append (map Ok read) (Ok p ∷ more) in
-        omega (arith, r.frames_fit.0, all, length-map read (λ (q : Placed). let i : Item = Ok q in i), long, lt)
+        omega (arith, all, length-map read (λ (q : Placed). let i : Item = Ok q in i), long, lt)
+
+    pub has_room : (p : Placed) (more : List Item) → left ≡ Ok p ∷ more → length (reading c m 0 text) ≤ length text → length text < 2 ^ 64 → s.frame.ors + s.frame.ands + 1 < 2 ^ 64
+    has_room p more is long lt = omega (arith, r.frames_fit.0, words_fit p more is long lt)
+
+    depth_fits : length s.opened ≤ length read
+    depth_fits = omega (arith, places_long, nest_count read (places_of s) r.nest, opens_bound (words read), length-map read (λ (q : Placed). q.0))
+
+    pub has_depth : (p : Placed) (more : List Item) → left ≡ Ok p ∷ more → length (reading c m 0 text) ≤ length text → length text < 2 ^ 64 → length s.opened + 1 < 2 ^ 64
+    has_depth p more is long lt = omega (arith, depth_fits, words_fit p more is long lt)
 
     module _ (last : left ≡ []) where
       pub all_read : reading c m 0 text ≡ map Ok read
@@ -218,6 +214,9 @@ module _ (c : Rows) (m : ParseMode) (text : List ℕ) where
           go : (xs : List Placed) → reading c m 0 text ≡ map Ok xs → IsViable c m (words xs) → ((t : Tree) → Derives c m (words xs) t → ⊥) → is_nil xs ≡ false → s.last ≡ last_of (words xs) → IsFaultOf c m text (Unexpected (terms s.last)) (span (length text) 0)
           go [] reads v none is now = absurd cc
           go (x ∷ xs) reads v none is now = subst (λ last. IsFaultOf c m text (Unexpected (terms last)) (span (length text) 0)) (sym now) (at_end (x ∷ xs) reads v none (short (subst (λ last. is_closing last ≡ false) now e)))
+
+      pub ends_deep : length (reading c m 0 text) ≤ length text → length text < 2 ^ 64 → length s.opened < 2 ^ 64
+      ends_deep long lt = omega (arith, depth_fits, ap length all_read, length-map read (λ (q : Placed). let i : Item = Ok q in i), long, lt)
 
       -- a parenthesis that is left open
       pub ends_open : (o : Span) (more : List Span) → is_closing s.last ≡ true → places_of s ≡ o ∷ more → IsFaultOf c m text UnclosedParens o

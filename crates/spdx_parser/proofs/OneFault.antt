@@ -37,7 +37,7 @@ cuts (u ∷ xs) (v ∷ ys) x y more rest e =
 
 -- ---- the end
 
-one_open : (read : List Placed) (s t : Span) → IsLastOpen read s → IsLastOpen read t → s ≡ t
+pub one_open : (read : List Placed) (s t : Span) → IsLastOpen read s → IsLastOpen read t → s ≡ t
 one_open read s t h k = go (cuts h.before k.before (OpenParen, s) (OpenParen, t) h.behind k.behind (sym h.cut ∙ k.cut))
   where
     go : Cuts h.before (OpenParen, s) h.behind k.before (OpenParen, t) k.behind → s ≡ t

@@ -1,5 +1,5 @@
 -- What the definitions say of words with one more behind them, and of their parentheses.
-use Rattle.std.proofs.Common.{◌≡◌, ℕ, zero, suc, ◌+◌, ◌<◌, Bool, true, false, List, [], ◌∷◌, ◌++◌, length, Option, Some, None, refl, sym, ◌∙◌, ap, subst, arith, append_assoc, append-nil, ◌⊎◌, inl, inr}
+use Rattle.std.proofs.Common.{◌≡◌, ℕ, zero, suc, ◌+◌, ◌<◌, ◌≤◌, Bool, true, false, List, [], ◌∷◌, ◌++◌, length, Option, Some, None, refl, sym, ◌∙◌, ap, subst, arith, append_assoc, append-nil, ◌⊎◌, inl, inr}
 use Rattle.std.specs.Prelude.{if◌then◌else◌, ◌==◌}
 use Rattle.std.specs.List.{fold}
 use Rattle.std.proofs.lemmas.List.{map-append}
@@ -28,7 +28,7 @@ spans_more last (p ∷ read) w s = first (is_license last p.0) (is_license (fold
 -- ---- parentheses
 
 -- how many parentheses are open, from d on; none where one closes that is not open
-abbrev depth : ℕ → List Word → Option ℕ
+abbrev pub depth : ℕ → List Word → Option ℕ
 depth d [] = Some d
 depth d (OpenParen ∷ ws) = depth (suc d) ws
 depth zero (CloseParen ∷ ws) = None
@@ -39,14 +39,14 @@ depth d (_ ∷ ws) = depth d ws
 abbrev Even : List Word → Type 0
 Even ws = depth 0 ws ≡ Some 0
 
-depth_on : (xs ys : List Word) (d e : ℕ) → depth d xs ≡ Some e → depth d (xs ++ ys) ≡ depth e ys
+pub depth_on : (xs ys : List Word) (d e : ℕ) → depth d xs ≡ Some e → depth d (xs ++ ys) ≡ depth e ys
 depth_on [] ys d e h = let same : d ≡ e = cc in ap (λ k. depth k ys) same
 depth_on (OpenParen ∷ xs) ys d e h = depth_on xs ys (suc d) e h
 depth_on (CloseParen ∷ xs) ys zero e h = absurd cc
 depth_on (CloseParen ∷ xs) ys (suc d) e h = depth_on xs ys d e h
 depth_on (_ ∷ xs) ys d e h = depth_on xs ys d e h
 
-depth_front : (xs ys : List Word) (d e : ℕ) → depth d (xs ++ ys) ≡ Some e → (k : ℕ) × (depth d xs ≡ Some k) × (depth k ys ≡ Some e)
+pub depth_front : (xs ys : List Word) (d e : ℕ) → depth d (xs ++ ys) ≡ Some e → (k : ℕ) × (depth d xs ≡ Some k) × (depth k ys ≡ Some e)
 depth_front [] ys d e h = (d, refl, h)
 depth_front (OpenParen ∷ xs) ys d e h = depth_front xs ys (suc d) e h
 depth_front (CloseParen ∷ xs) ys zero e h = absurd cc
@@ -54,14 +54,14 @@ depth_front (CloseParen ∷ xs) ys (suc d) e h = depth_front xs ys d e h
 depth_front (_ ∷ xs) ys d e h = depth_front xs ys d e h
 
 -- one more that is open all along
-deeper : (ws : List Word) (d e : ℕ) → depth d ws ≡ Some e → depth (suc d) ws ≡ Some (suc e)
+pub deeper : (ws : List Word) (d e : ℕ) → depth d ws ≡ Some e → depth (suc d) ws ≡ Some (suc e)
 deeper [] d e h = let same : d ≡ e = cc in ap (λ k. Some (suc k)) same
 deeper (OpenParen ∷ ws) d e h = deeper ws (suc d) e h
 deeper (CloseParen ∷ ws) zero e h = absurd cc
 deeper (CloseParen ∷ ws) (suc d) e h = deeper ws d e h
 deeper (_ ∷ ws) d e h = deeper ws d e h
 
-depth_count : (ws : List Word) (d e : ℕ) → depth d ws ≡ Some e → d + opens ws ≡ e + closes ws
+pub depth_count : (ws : List Word) (d e : ℕ) → depth d ws ≡ Some e → d + opens ws ≡ e + closes ws
 depth_count [] d e h = let same : d ≡ e = cc in omega arith
 depth_count (OpenParen ∷ ws) d e h = let more = depth_count ws (suc d) e h in omega arith
 depth_count (CloseParen ∷ ws) zero e h = absurd cc
@@ -102,18 +102,23 @@ nest_more read places OpenParen s n h = inside read [] s places n refl refl refl
 nest_more read places CloseParen s n h = close_nest read places s n (h refl)
 nest_more read places w s n h = nest_on read ((w, s) ∷ []) places n refl
 
-opens_on : (xs ys : List Word) → opens (xs ++ ys) ≡ opens xs + opens ys
+pub opens_on : (xs ys : List Word) → opens (xs ++ ys) ≡ opens xs + opens ys
 opens_on [] ys = omega arith
 opens_on (OpenParen ∷ xs) ys = let more = opens_on xs ys in omega arith
 opens_on (_ ∷ xs) ys = opens_on xs ys
 
-closes_on : (xs ys : List Word) → closes (xs ++ ys) ≡ closes xs + closes ys
+pub opens_bound : (ws : List Word) → opens ws ≤ length ws
+opens_bound [] = omega arith
+opens_bound (OpenParen ∷ ws) = let more = opens_bound ws in omega arith
+opens_bound (_ ∷ ws) = let more = opens_bound ws in omega arith
+
+pub closes_on : (xs ys : List Word) → closes (xs ++ ys) ≡ closes xs + closes ys
 closes_on [] ys = omega arith
 closes_on (CloseParen ∷ xs) ys = let more = closes_on xs ys in omega arith
 closes_on (_ ∷ xs) ys = closes_on xs ys
 
 -- as many are open as have a place
-nest_count : (read : List Placed) (places : List Span) → Nest read places → opens (words read) ≡ closes (words read) + length places
+pub nest_count : (read : List Placed) (places : List Span) → Nest read places → opens (words read) ≡ closes (words read) + length places
 nest_count read places (whole e) = let n = depth_count (words read) 0 0 e in omega arith
 nest_count read all (inside before behind s places n e cut last) =
     let around = nest_count before places n in

@@ -9,7 +9,7 @@ use Rattle.spdx_requirement.specs.Items.{LicenseTerm, listed, referred, Addition
 use Rattle.spdx_lexer.specs.declared.token.ParseMode.{ParseMode}
 use Rattle.spdx_lexer.specs.Words.{Word, Spdx, LicenseRef, Exception, AdditionRef, Unknown, Plus, OpenParen, CloseParen, With, And, Or, Span}
 use Rattle.spdx_parser.specs.declared.node.Operator.{Operator}
-use Rattle.spdx_parser.specs.declared.parser.Frame.{Frame}
+use Rattle.spdx_parser.specs.declared.frames.Frame.{Frame}
 use Rattle.spdx_parser.specs.Tree.{Tree, Leaf, Op, Req, postfix}
 use Rattle.spdx_parser.specs.Nodes.{PlacedNode}
 use Rattle.spdx_parser.specs.Grammar.{may_stand, later_row}

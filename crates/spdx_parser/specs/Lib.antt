@@ -3,9 +3,13 @@ pub mod Grammar
 pub mod Last
 pub mod Spans
 pub mod Faults
+pub mod Open
 pub mod Meaning
 pub mod Code
+pub mod Frames
+pub mod FramesModel
 pub mod State
+pub mod Kept
 pub mod ParserModel
 pub mod Nodes
 pub mod Heard

@@ -1,16 +1,11 @@
 -- What a parser's fields show.
-use Rattle.std.specs.Prelude.{map, reverse, option_map}
+use Rattle.std.specs.Prelude.{map, option_map}
 use Rattle.spdx_lexer.specs.Code.{span_of}
-use Rattle.spdx_lexer.specs.Words.{Span}
-use Rattle.spdx_parser.specs.declared.parser.Frame.{Frame}
-use Rattle.spdx_parser.specs.declared.parser.Opened.{Opened}
 use Rattle.spdx_parser.specs.declared.parser.Parser.TheInside.{Inside}
 use Rattle.spdx_parser.specs.Nodes.{placed_node}
 use Rattle.spdx_parser.specs.Code.{last_in, name_license}
+use Rattle.spdx_parser.specs.Kept.{at_no_place}
 use Rattle.spdx_parser.specs.State.{State}
-
-abbrev pub opened_of : Opened → Span × Frame
-opened_of o = (span_of o.place, o.around)
 
 abbrev pub state_of : Inside → State
 state_of p = record {
@@ -19,5 +14,5 @@ state_of p = record {
   place = span_of p.place;
   nodes = map placed_node p.nodes.items;
   frame = p.frame;
-  opened = map opened_of (reverse p.opened.items);
+  opened = map at_no_place p.opened;
 }

@@ -7,7 +7,8 @@ use Rattle.spdx_requirement.specs.Items.{LicenseTerm, listed, referred, Addition
 use Rattle.spdx_lexer.specs.declared.token.ParseMode.{ParseMode}
 use Rattle.spdx_lexer.specs.Words.{Word, Spdx, LicenseRef, Exception, AdditionRef, Unknown, Plus, OpenParen, CloseParen, With, And, Or, Span, span, Placed}
 use Rattle.spdx_parser.specs.declared.node.Operator.{Operator}
-use Rattle.spdx_parser.specs.declared.parser.Frame.{Frame}
+use Rattle.spdx_parser.specs.declared.frames.Frame.{Frame}
+use Rattle.spdx_parser.specs.Frames.{empty_frame}
 use Rattle.spdx_parser.specs.Tree.{Op, Req}
 use Rattle.spdx_parser.specs.Nodes.{PlacedNode}
 use Rattle.spdx_parser.specs.Grammar.{may_stand, later_row}
@@ -27,10 +28,6 @@ pub record State : Type 0 where
   pub frame : Frame
   -- the parentheses that are open, the innermost first, each with its place and the frame that it stands in
   pub opened : List (Span × Frame)
-
--- nothing waits
-abbrev pub empty_frame : Frame
-empty_frame = record { ors = 0; ands = 0 }
 
 -- behind no word
 abbrev pub start : State

@@ -8,6 +8,7 @@
 //! It stands on the lexer.
 #![tactic(auto)]
 
+mod frames;
 mod last;
 pub mod law;
 pub mod listener;
@@ -16,6 +17,7 @@ pub mod node;
 mod nodes;
 pub mod parser;
 mod step;
+mod unclosed;
 
 pub use crate::listener::Listener;
 pub use crate::node::{ExprNode, ExpressionReq, NodeList, Operator};

@@ -13,10 +13,12 @@ ghost use Rattle.spdx_parser.specs.Spans.{requirement_spans};
 ghost use Rattle.spdx_parser.specs.State.{start};
 ghost use Rattle.spdx_parser.specs.declared.node.ExprNode.{ExprNode};
 
+use crate::frames::{Frame, Frames};
 use crate::last::{Last, is_closing, listed, reason, terms};
 use crate::listener::{Deaf, Listener};
 use crate::name::Name;
 use crate::node::NodeList;
+use crate::unclosed::last_open;
 use smallvec::SmallVec;
 use spdx_catalogue::{Catalogue, Failure};
 use spdx_lexer::error::{ParseError, Reason};
@@ -26,28 +28,13 @@ use std::alloc::Global;
 use std::marker::Model;
 use std::ops::Range;
 
-/// How many left sides of OR wait for their right side, and above them how many of AND.
-#[derive(Clone, Copy)]
-pub(crate) struct Frame {
-    pub ors: usize,
-    pub ands: usize,
-}
-
-/// A parenthesis that is open, and the frame that it stands in.
-#[derive(Drop)]
-pub(crate) struct Opened {
-    pub place: Range<usize>,
-    pub around: Frame,
-}
-
-/// The nodes so far, the parentheses that are open with the frames around them, the innermost
-/// frame, what was read last, the licence that is no requirement yet, and where the last licence
-/// stands.
+/// The nodes so far, the frames in which the open parentheses stand, the innermost frame, what was
+/// read last, the licence that is no requirement yet, and where the last licence stands.
 #[derive(Drop)]
 pub(crate) struct Parser<'c, 't> {
     pub alloc: Global,
     pub nodes: NodeList<'c>,
-    pub opened: Vec<Opened>,
+    pub opened: Frames,
     pub frame: Frame,
     pub last: Last<'c>,
     pub license: Option<Name<'c, 't>>,
@@ -108,8 +95,9 @@ impl<'c, 't> Parser<'c, 't> {
         if !is_closing(self.last) {
             return Err(refusal(text, end..end, Reason::Unexpected(terms(self.last))));
         }
-        if let Some(opened) = self.opened.pop() {
-            return Err(refusal(text, opened.place, Reason::UnclosedParens));
+        if !self.opened.is_empty() {
+            let place = last_open(catalogue, text, mode, self.opened.count());
+            return Err(refusal(text, place, Reason::UnclosedParens));
         }
         listener.hear(self.alloc, listed(self.last), None)?;
         self.finish()?;
@@ -132,7 +120,8 @@ fn refusal(text: &str, span: Range<usize>, reason: Reason) -> Failure<ParseError
 /// that of SPDX 2.1 (`docs/EXPRESSIONS.md`), with what the mode allows beyond it.
 ///
 /// The text is read once, up to its end or its first fault, in time linear in the number of its
-/// tokens besides their look-up.
+/// tokens besides their look-up. Where a parenthesis is left open, it is read once more, to find
+/// that one: no places are kept, and a `(` directly behind another takes no memory.
 ///
 /// # Errors
 ///
@@ -174,7 +163,7 @@ pub fn parse_heard<'c, 't, L: Listener>(
     let mut parser = Parser {
         alloc,
         nodes: SmallVec::new(alloc),
-        opened: Vec::new(alloc),
+        opened: Frames::new(alloc),
         frame: Frame { ors: 0, ands: 0 },
         last: Last::Due,
         license: None,

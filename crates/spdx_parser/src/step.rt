@@ -1,18 +1,20 @@
 // What a token makes of the parser. Each step says whether the token may stand where it does.
 
-ghost use Rattle.std.specs.Prelude.{◌≡◌, ◌+◌, ◌^◌, ◌<◌, option_map, None, IfOk, OnOk};
+ghost use Rattle.std.specs.Prelude.{◌≡◌, ◌+◌, ◌^◌, ◌<◌, length, option_map, None, IfOk, OnOk};
 ghost use Rattle.spdx_requirement.specs.Ids.{id_row};
 ghost use Rattle.spdx_requirement.specs.Items.{addition_of};
 ghost use Rattle.spdx_lexer.specs.Code.{word_of, span_of};
 ghost use Rattle.spdx_parser.specs.Code.{IsLicenseRow, IsKnown, last_in, name_license};
+ghost use Rattle.spdx_parser.specs.Kept.{kept_place};
 ghost use Rattle.spdx_parser.specs.State as states;
 ghost use Rattle.spdx_parser.specs.State.{if_taken, all_joined};
 
+use crate::frames::Frame;
 use crate::last::{Last, may_stand};
 use crate::name::{Name, addition_item, license_item, marked};
 use crate::node::{ExprNode, ExpressionReq, Operator};
 use crate::nodes::{make_room, put, put_operators};
-use crate::parser::{Frame, Opened, Parser};
+use crate::parser::Parser;
 use spdx_catalogue::{AdditionItem, Catalogue, LicenseId, LicenseReq};
 use spdx_lexer::token::{ParseMode, Token};
 use std::alloc::AllocError;
@@ -63,11 +65,11 @@ impl<'c, 't> Parser<'c, 't> {
                 self.last = Last::Due;
             }
             Token::CloseParen => {
-                let Some(opened) = self.opened.pop() else {
+                let Some(around) = self.opened.pop() else {
                     return Ok(false);
                 };
                 self.join_all()?;
-                self.frame = opened.around;
+                self.frame = around;
                 self.last = Last::Closed;
             }
             _ => return Ok(false),
@@ -126,9 +128,10 @@ impl<'c, 't> Parser<'c, 't> {
         token: Token<'c, 't>,
         span: Range<usize>,
     ) -> Result<bool, AllocError>
+        requires { length self.old.opened + 1 < 2 ^ 64 }
         ensures { IfOk result (λ taken.
-            states.read_due mode self.old (word_of token.entry) (span_of span)
-            ≡ if_taken taken self.new) }
+            states.read_due mode self.old (word_of token.entry)
+            (kept_place (word_of token.entry) (span_of span)) ≡ if_taken taken self.new) }
     {
         match token {
             Token::Spdx(id) => {
@@ -143,11 +146,7 @@ impl<'c, 't> Parser<'c, 't> {
             }
             Token::Unknown(text) => self.name_as(Last::Unlisted, Name::Unknown(text), span),
             Token::OpenParen => {
-                let around = self.frame;
-                self.opened.push(Opened {
-                    place: span,
-                    around,
-                })?;
+                self.opened.push(self.frame)?;
                 self.frame = Frame { ors: 0, ands: 0 };
                 self.last = Last::Due;
             }
@@ -208,9 +207,11 @@ impl<'c, 't> Parser<'c, 't> {
         span: Range<usize>,
     ) -> Result<bool, AllocError>
         requires room { self.old.frame.ors + self.old.frame.ands + 1 < 2 ^ 64 }
+        requires depth { length self.old.opened + 1 < 2 ^ 64 }
         requires known { IsKnown catalogue.now self.old.last }
         ensures { IfOk result (λ taken. states.step catalogue.now mode self.old
-            (word_of token.entry, span_of span) ≡ if_taken taken self.new) }
+            (word_of token.entry, kept_place (word_of token.entry) (span_of span))
+            ≡ if_taken taken self.new) }
     {
         match self.last {
             Last::Due => self.read_due(mode, token, span),
