@@ -1,6 +1,6 @@
 -- The line of a finding reads back, and has no newline.
-use Rattle.std.proofs.Common.{◌≡◌, ◌≤◌, [], ◌∷◌, false, Some, arith}
-use Rattle.json.specs.Token.{end_object}
+use Rattle.std.proofs.Common.{◌≡◌, ◌≤◌, [], ◌∷◌, false, Some, codes, arith}
+use Rattle.json.specs.Token.{end_object, key, string}
 use Rattle.json.specs.Lex.{tokens}
 use Rattle.json.specs.Json.{max_depth, document}
 use Rattle.json.specs.Tree.{json_tokens, members_tokens, depth, members_depth}
@@ -11,8 +11,8 @@ use Rattle.finding_forms.proofs.JsonLines.{items_depth-texts_of, document-from, 
 members_depth-aid : (aid : Aid) → members_depth (aid_members aid) ≤ 1
 members_depth-aid nothing = omega arith
 members_depth-aid (write mended) = omega arith
-members_depth-aid (names []) = omega arith
-members_depth-aid (names (first ∷ others)) = omega (arith, items_depth-texts_of others)
+members_depth-aid (names [] rule) = omega arith
+members_depth-aid (names (first ∷ others) rule) = omega (arith, items_depth-texts_of others)
 
 depth-json_of : (t : Told) → depth (json_of t) ≤ max_depth
 depth-json_of t = omega (arith, members_depth-aid t.aid)
@@ -23,8 +23,8 @@ reads_back_from t e = document-from (json_text t) (json_of t) e (depth-json_of t
 aid_one_line : (aid : Aid) → AreOneLine (members_tokens (aid_members aid))
 aid_one_line nothing = tt
 aid_one_line (write mended) = tt
-aid_one_line (names []) = tt
-aid_one_line (names (first ∷ others)) = texts_one_line others (end_object ∷ []) tt
+aid_one_line (names [] rule) = tt
+aid_one_line (names (first ∷ others) rule) = texts_one_line others (key (codes "rule") ∷ string rule ∷ end_object ∷ []) tt
 
 pub one_line-json_text : (t : Told) → HasNoNewline (json_text t)
 one_line-json_text t =

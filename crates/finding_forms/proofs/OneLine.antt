@@ -10,7 +10,7 @@ use Rattle.foreign_text.specs.Written.{text_for, char_for, visible, numbered, pe
 use Rattle.foreign_text.proofs.Bytes.{hidden_newline}
 use Rattle.finding_forms.specs.Finding.{Aid, nothing, write, names, Seen, Told}
 use Rattle.finding_forms.specs.Forms.{IsOneLine, short_text, github_place, github_text}
-use Rattle.finding_forms.specs.Message.{helps, named, other_names, help_text, message_text, place_text}
+use Rattle.finding_forms.specs.Message.{helps, named, other_names, names_text, help_text, message_text, place_text}
 use Rattle.finding_forms.proofs.JsonLines.{joined, one_line-digits_onto, one_line-decimal}
 
 when : (b : Bool) (xs ys : List ℕ) → (b ≡ true → HasNoNewline xs) → (b ≡ false → HasNoNewline ys) → HasNoNewline (cond b xs ys)
@@ -81,14 +81,17 @@ words text h rest k = joined text rest h k
 mean : HasNoNewline (codes "did you mean ")
 mean = (omega arith, (omega arith, (omega arith, (omega arith, (omega arith, (omega arith, (omega arith, (omega arith, (omega arith, (omega arith, (omega arith, (omega arith, (omega arith, tt)))))))))))))
 
+one_line-names : (how : Sink) → Clean how → (listed : List (List ℕ)) → HasNoNewline (names_text how listed)
+one_line-names how clean [] = tt
+one_line-names how clean (first ∷ others) =
+    words (codes "did you mean ") mean (named how first ++ (other_names how others ++ codes "?"))
+    (joined (named how first) (other_names how others ++ codes "?") (one_line-named how clean first) (joined (other_names how others) (codes "?") (one_line-others how clean others) (omega arith, tt)))
+
 one_line-help : (how : Sink) → Clean how → (aid : Aid) → HasNoNewline (help_text how aid)
 one_line-help how clean nothing = tt
 one_line-help how clean (write mended) =
     (omega arith, (omega arith, (omega arith, (omega arith, (omega arith, (omega arith, one_line-named how clean mended))))))
-one_line-help how clean (names []) = tt
-one_line-help how clean (names (first ∷ others)) =
-    words (codes "did you mean ") mean (named how first ++ (other_names how others ++ codes "?"))
-    (joined (named how first) (other_names how others ++ codes "?") (one_line-named how clean first) (joined (other_names how others) (codes "?") (one_line-others how clean others) (omega arith, tt)))
+one_line-help how clean (names listed rule) = one_line-names how clean listed
 
 one_line-message : (how : Sink) → Clean how → (t : Told) → HasNoNewline (message_text how t)
 one_line-message how clean t =

@@ -37,7 +37,7 @@ fixes_numbers path t nothing h k = tt
 fixes_numbers path t (write mended) h k =
     let put : HasNumbers (replacement t mended) = ((h, (k, (is_column t.column t.expression, tt))), (text_numbers mended, tt)) in
     (((((artifact_numbers path, ((put, tt), tt)), tt), tt), tt), tt)
-fixes_numbers path t (names listed) h k = tt
+fixes_numbers path t (names listed rule) h k = tt
 
 result_numbers : (t : Told) → IsNumbered t → HasNumbers (result_of t)
 result_numbers t h =
@@ -55,7 +55,7 @@ results_numbers (t ∷ ts) h = (result_numbers t h.0, results_numbers ts h.1)
 fixes_depth : (path : List ℕ) (t : Told) (aid : Aid) → members_depth (fixes_of path t aid) ≤ 12
 fixes_depth path t nothing = omega arith
 fixes_depth path t (write mended) = omega arith
-fixes_depth path t (names listed) = omega arith
+fixes_depth path t (names listed rule) = omega arith
 
 result_depth : (t : Told) → depth (result_of t) ≤ 13
 result_depth t = omega (arith, fixes_depth (text_for Path t.file) t t.aid)

@@ -6,11 +6,11 @@ use Rattle.finding_forms.specs.declared.findings.Sight.{Sight}
 use Rattle.finding_forms.specs.declared.findings.Help.{Help}
 use Rattle.finding_forms.specs.declared.findings.Help.TheVariants.{Nothing, Write, Names}
 
--- what helps: nothing, the mended text, or names that may be meant
+-- what helps: nothing, the mended text, or names that may be meant and a word for the rule that gave them
 pub data Aid : Type 0 where
   nothing : Aid
   write : List ℕ → Aid
-  names : List (List ℕ) → Aid
+  names : List (List ℕ) → List ℕ → Aid
 
 -- where a fault is seen: the number of its line, its column, and a text with the fault from `start` up to `end`
 pub record Seen : Type 0 where
@@ -70,7 +70,7 @@ fault_of t =
 abbrev pub aid_of : Help → Aid
 aid_of Nothing = nothing
 aid_of (Write mended) = write mended.now
-aid_of (Names listed) = names (map (λ (x : Bor (List ℕ)). x.now) listed.now)
+aid_of (Names listed rule) = names (map (λ (x : Bor (List ℕ)). x.now) listed.now) rule.now
 
 -- the expression stands in the file as it is
 abbrev pub seen_alone : ℕ → ℕ → List ℕ → ℕ → ℕ → Seen

@@ -7,8 +7,8 @@ use Rattle.finding_forms.specs.Finding.{Aid, nothing, write, names, Told}
 abbrev pub helps : Aid → Bool
 helps nothing = false
 helps (write mended) = true
-helps (names []) = false
-helps (names (first ∷ others)) = true
+helps (names [] rule) = false
+helps (names (first ∷ others) rule) = true
 
 -- the text between backquotes
 abbrev pub named : Sink → List ℕ → List ℕ
@@ -20,12 +20,16 @@ other_names how [] = []
 other_names how (last ∷ []) = codes " or " ++ named how last
 other_names how (name ∷ next ∷ others) = codes ", " ++ (named how name ++ other_names how (next ∷ others))
 
+-- the names as a question, where there are any
+abbrev pub names_text : Sink → List (List ℕ) → List ℕ
+names_text how [] = []
+names_text how (first ∷ others) =
+    codes "did you mean " ++ (named how first ++ (other_names how others ++ codes "?"))
+
 abbrev pub help_text : Sink → Aid → List ℕ
 help_text how nothing = []
 help_text how (write mended) = codes "write " ++ named how mended
-help_text how (names []) = []
-help_text how (names (first ∷ others)) =
-    codes "did you mean " ++ (named how first ++ (other_names how others ++ codes "?"))
+help_text how (names listed rule) = names_text how listed
 
 -- the reason, and behind it what helps
 abbrev pub message_text : Sink → Told → List ℕ

@@ -47,7 +47,7 @@ fix path t mended =
 abbrev pub fixes_of : List ℕ → Told → Aid → Members
 fixes_of path t nothing = no_members
 fixes_of path t (write mended) = member (codes "fixes") (array (item (fix path t mended) no_items)) no_members
-fixes_of path t (names listed) = no_members
+fixes_of path t (names listed rule) = no_members
 
 abbrev pub fix_members : List ℕ → Told → Members
 fix_members path t = fixes_of path t t.aid

@@ -20,8 +20,8 @@ pub enum Help<'t> {
     Nothing,
     /// The mended text of the expression.
     Write(&'t str),
-    /// Names that may be meant, the likeliest first.
-    Names(&'t [&'t str]),
+    /// Names that may be meant, the likeliest first, and a word for the rule that gave them.
+    Names { names: &'t [&'t str], rule: &'t str },
 }
 
 /// Where a fault is seen in its file: in a line, which may have more than the expression, or have it with escapes.
@@ -62,7 +62,7 @@ impl Help<'_> {
         match self {
             Help::Nothing => false,
             Help::Write(_) => true,
-            Help::Names(names) => !names.is_empty(),
+            Help::Names { names, rule: _ } => !names.is_empty(),
         }
     }
 }

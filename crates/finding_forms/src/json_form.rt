@@ -89,11 +89,13 @@ fn put_aid(writer: &mut Writer, help: &Help<'_>) -> Result<(), AllocError>
             writer.key("fix")?;
             writer.string(mended)?;
         }
-        Help::Names(names) if !names.is_empty() => {
+        Help::Names { names, rule } if !names.is_empty() => {
             writer.key("hints")?;
             put_texts(writer, names)?;
+            writer.key("rule")?;
+            writer.string(rule)?;
         }
-        Help::Nothing | Help::Names(_) => {}
+        Help::Nothing | Help::Names { names: _, rule: _ } => {}
     }
     writer.end_object()?;
     Ok(())

@@ -2,8 +2,8 @@
 
 ghost use Rattle.std.specs.Prelude.{◌≡◌, ℕ, ◌∷◌, ◌++◌, List, OnOk, decimal, map, string_bytes};
 ghost use Rattle.std.specs.Borrow.{Bor};
-ghost use Rattle.finding_forms.specs.Finding.{told, aid_of, seen_in, names as name_aid};
-ghost use Rattle.finding_forms.specs.Message.{named, other_names, help_text, message_text};
+ghost use Rattle.finding_forms.specs.Finding.{told, aid_of, seen_in};
+ghost use Rattle.finding_forms.specs.Message.{named, names_text, other_names, help_text, message_text};
 
 use crate::findings::{Finding, Help};
 use foreign_text::{Sink, put_text};
@@ -49,7 +49,7 @@ pub(crate) fn put_help(line: &mut String, how: Sink, help: &Help<'_>) -> Result<
             line.push_str("write ")?;
             put_named(line, how, mended)
         }
-        Help::Names(names) => put_names(line, how, names),
+        Help::Names { names, rule: _ } => put_names(line, how, names),
     }
 }
 
@@ -64,8 +64,7 @@ fn put_named(line: &mut String, how: Sink, name: &str) -> Result<(), AllocError>
 
 fn put_names(line: &mut String, how: Sink, names: &[&str]) -> Result<(), AllocError>
     ensures { OnOk result (string_bytes line.new ≡
-        string_bytes line.old
-        ++ help_text how (name_aid (map (λ (x : Bor (List ℕ)). x.now) names.now))) }
+        string_bytes line.old ++ names_text how (map (λ (x : Bor (List ℕ)). x.now) names.now)) }
 {
     let Some((first, others)) = names.split_first() else {
         return Ok(());

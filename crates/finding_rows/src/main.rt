@@ -2,7 +2,7 @@
 //!
 //! Rows come from standard input, each `FILE|LINE|COLUMN|EXPRESSION|START|END|REASON|HELP`, in which `\t`, `\n`, `\r`,
 //! `\e`, `\d` and `\s` stand for a tab, a newline, a carriage return, ESC, U+202E, which turns the direction of text,
-//! and a backslash. HELP is `-` for none, `=TEXT` for a mended text, and `?NAME?NAME` for names. Behind it may stand
+//! and a backslash. HELP is `-` for none, `=TEXT` for a mended text, and `RULE?NAME?NAME` for names. Behind it may stand
 //! `|LINE|COLUMN|TEXT|START|END`: where the fault is seen, in which text. Each finding is written in each form but
 //! SARIF, in which they follow as one log; at the end stand some totals.
 #![tactic(auto)]

@@ -106,12 +106,6 @@ fn names_of(alloc: Global, row: &Row) -> Result<Vec<&str>, AllocError> {
 
 // The finding that the row says.
 fn finding_of<'t>(row: &'t Row, names: &'t [&'t str]) -> Finding<'t> {
-    let told = row.field(7);
-    let help = match told.strip_prefix('=') {
-        Some(mended) => Help::Write(mended),
-        None if told.starts_with('?') => Help::Names(names),
-        None => Help::Nothing,
-    };
     Finding {
         place: Place {
             file: row.field(0),
@@ -122,8 +116,19 @@ fn finding_of<'t>(row: &'t Row, names: &'t [&'t str]) -> Finding<'t> {
         start: row.number(4),
         end: row.number(5),
         reason: row.field(6),
-        help,
+        help: help_of(row, names),
         sight: sight_of(row),
+    }
+}
+
+fn help_of<'t>(row: &'t Row, names: &'t [&'t str]) -> Help<'t> {
+    let told = row.field(7);
+    if let Some(mended) = told.strip_prefix('=') {
+        return Help::Write(mended);
+    }
+    match told.split_once('?') {
+        Some((rule, _)) => Help::Names { names, rule },
+        None => Help::Nothing,
     }
 }
 

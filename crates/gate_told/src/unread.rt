@@ -102,8 +102,8 @@ fn put_help(
     match mended {
         Some(mended) => put_mended(told, mended.as_str()),
         None if wants_name(fault.reason) => {
-            let names = hints(alloc, catalogue, phrase(text.as_bytes(), fault.span.start))?;
-            put_names(told, catalogue, &names)
+            let meant = hints(alloc, catalogue, phrase(text.as_bytes(), fault.span.start))?;
+            put_names(told, catalogue, &meant.names)
         }
         None => Ok(()),
     }

@@ -7,7 +7,9 @@ use Rattle.spdx_lexer.specs.Words.{Fault, UnknownLicense, UnknownTerm, InvalidCh
 use Rattle.spdx_lexer.specs.Faults.{fault_text}
 use Rattle.spdx_parser.specs.Faults.{IsFaultOf}
 use Rattle.spdx_fix.specs.Fix.{Reads, IsFixOf}
-use Rattle.spdx_hints.specs.Hints.{hints_of}
+use Rattle.spdx_hints.specs.declared.rule.Rule.{Rule}
+use Rattle.spdx_hints.specs.Rules.{rule_word}
+use Rattle.spdx_hints.specs.Hints.{hints_of, rule_of}
 use Rattle.spdx_hints.specs.Phrase.{phrase_of}
 use Rattle.spdx_list.specs.Files.{InsteadRow}
 use Rattle.finding_forms.specs.Finding.{Aid, nothing, write, names}
@@ -40,13 +42,22 @@ abbrev pub heir_of : List InsteadRow → List ℕ → Fault → Span → Option 
 heir_of heirs text DeprecatedLicenseId s = heir_in heirs (name_at text s)
 heir_of heirs text fault s = None
 
--- the licences that the phrase at the fault may mean, where a name is wanted
-abbrev pub hint_by : Rows → List ℕ → Fault → Span → Aid
-hint_by c text fault s = if wants_name fault then names (hints_of c (phrase_of text s.from)) else nothing
+-- the names that this rule gave; nothing where no rule gave any
+abbrev pub hinted : List (List ℕ) → Option Rule → Aid
+hinted listed None = nothing
+hinted listed (Some rule) = names listed (rule_word rule)
 
--- the heir, where there is one; else hints
+-- the licences that the phrase may mean
+abbrev pub hints_for : Rows → List ℕ → Aid
+hints_for c phrase = hinted (hints_of c phrase) (rule_of c phrase)
+
+-- those that the phrase at the fault may mean, where a name is wanted
+abbrev pub hint_by : Rows → List ℕ → Fault → Span → Aid
+hint_by c text fault s = if wants_name fault then hints_for c (phrase_of text s.from) else nothing
+
+-- the heir, where there is one, which isn't a hint but replaces the name; else hints
 abbrev pub name_by : Rows → List ℕ → Fault → Span → Option (List ℕ) → Aid
-name_by c text fault s (Some heir) = names (heir ∷ [])
+name_by c text fault s (Some heir) = names (heir ∷ []) (codes "replaced-by")
 name_by c text fault s None = hint_by c text fault s
 
 -- the fix, where there is one; else names

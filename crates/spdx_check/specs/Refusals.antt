@@ -10,7 +10,7 @@ use Rattle.spdx_check.specs.Finding.{Wrong}
 abbrev pub aid_in : Remedy → Aid
 aid_in Nothing = nothing
 aid_in (Write mended) = write (string_bytes mended)
-aid_in (Names listed) = names (nows listed.items)
+aid_in (Names listed rule) = names (nows listed.items) rule.now
 
 abbrev pub wrong_of : Refusal → Wrong
 wrong_of r = record {

@@ -8,10 +8,11 @@ ghost use Rattle.spdx_lexer.specs.Faults.{fault_of};
 ghost use Rattle.spdx_parser.specs.Meaning.{IsRefused};
 ghost use Rattle.spdx_fix.specs.Fix.{Reads};
 ghost use Rattle.finding_forms.specs.Finding.{aid_of, told};
+ghost use Rattle.spdx_hints.specs.Borrowed.{nows};
 ghost use Rattle.spdx_list.specs.Shown.{instead_of};
 ghost use Rattle.spdx_list.specs.declared.extras.Instead.{Instead};
 ghost use Rattle.spdx_check.specs.Checking.{heirs_in, seen_by, spot_of, told_by};
-ghost use Rattle.spdx_check.specs.Finding.{IsTheFinding, aid_by, heir_in, heir_of, hint_by, name_at, wants_name, wrong_in, no_text};
+ghost use Rattle.spdx_check.specs.Finding.{IsTheFinding, aid_by, heir_in, heir_of, hint_by, hinted, name_at, wants_name, wrong_in, no_text};
 ghost use Rattle.spdx_check.specs.Found.{finding_of, fix_of};
 ghost use Rattle.spdx_check.specs.Refusals.{aid_in, wrong_of};
 
@@ -19,18 +20,21 @@ use crate::check::Check;
 use finding_forms::{Finding, Help, Place, Sight};
 use spdx_catalogue::{Catalogue, Failure};
 use spdx_fix::fix;
-use spdx_hints::{hints, phrase};
+use spdx_hints::{Meant, hints, phrase};
 use spdx_lexer::error::{ParseError, Reason};
 use spdx_list::Instead;
 use spdx_parser::parse_nodes;
 use std::alloc::{AllocError, Global};
 
-/// What helps: the fix, or names that the catalogue lends.
+/// What helps: the fix, or names that the catalogue lends, and how that is called which gave them.
 #[derive(Drop)]
 pub(crate) enum Remedy<'c> {
     Nothing,
     Write(String),
-    Names(Vec<&'c str>),
+    Names {
+        names: Vec<&'c str>,
+        rule: &'static str,
+    },
 }
 
 /// What is wrong with an expression, in texts of its own.
@@ -82,7 +86,10 @@ impl Refusal<'_> {
         match &self.remedy {
             Remedy::Nothing => Help::Nothing,
             Remedy::Write(mended) => Help::Write(mended.as_str()),
-            Remedy::Names(names) => Help::Names(names.as_slice()),
+            Remedy::Names { names, rule } => Help::Names {
+                names: names.as_slice(),
+                rule,
+            },
         }
     }
 }
@@ -209,7 +216,10 @@ fn names_for<'c>(
     };
     let mut names = Vec::new(alloc);
     names.push(heir)?;
-    Ok(Remedy::Names(names))
+    Ok(Remedy::Names {
+        names,
+        rule: "replaced-by",
+    })
 }
 
 // What is to be written in place of the deprecated name at the fault.
@@ -259,7 +269,20 @@ fn hints_for<'c>(
         return Ok(Remedy::Nothing);
     }
     let phrase = phrase(error.original.as_bytes(), error.span.start);
-    Ok(Remedy::Names(hints(alloc, catalogue, phrase)?))
+    let meant = hints(alloc, catalogue, phrase)?;
+    Ok(remedy_by(meant))
+}
+
+fn remedy_by(meant: Meant<'_>) -> Remedy<'_>
+    ensures { aid_in result ≡ hinted (nows meant.entry.names.items) meant.entry.rule }
+{
+    match meant.rule {
+        Some(rule) => Remedy::Names {
+            names: meant.names,
+            rule: rule.word(),
+        },
+        None => Remedy::Nothing,
+    }
 }
 
 fn wants_name(reason: Reason) -> bool

@@ -1,8 +1,9 @@
 //! The worked rows of hints, over the list in the file of its argument, and of the phrases that they are asked of.
 //!
-//! Standard input has the rows. A row is `PHRASE => NAMES`, the names that a phrase may mean with a blank between them,
-//! or `@ TEXT => PHRASE`, where a `|` in the text says which place is asked. A line that begins with `#` says something
-//! to readers. Each row that doesn't hold is printed with what was answered, and at last how many hold.
+//! Standard input has the rows. A row is `PHRASE => NAMES by RULE`, the names that a phrase may mean with a blank between
+//! them, and the rule that gave them, or `PHRASE =>` of one that means none. `@ TEXT => PHRASE` is a row of phrases, where
+//! a `|` in the text says which place is asked. A line that begins with `#` says something to readers. Each row that
+//! doesn't hold is printed with what was answered, and at last how many hold.
 #![tactic(auto)]
 
 use row_texts::written_out;
@@ -12,14 +13,17 @@ use std::alloc::{AllocError, Global};
 use std::process::ExitCode;
 use std::{env, fs, io};
 
-// The names that the phrase may mean, with a blank between them.
+// The names that the phrase may mean, with a blank between them, and the rule.
 fn named(alloc: Global, catalogue: &Catalogue, given: &str) -> Result<String, AllocError> {
     let mut shown = String::new(alloc);
-    for name in hints(alloc, catalogue, given.as_bytes())? {
-        if !shown.is_empty() {
-            shown.push(' ')?;
-        }
+    let meant = hints(alloc, catalogue, given.as_bytes())?;
+    for name in meant.names {
         shown.push_str(name)?;
+        shown.push(' ')?;
+    }
+    if let Some(rule) = meant.rule {
+        shown.push_str("by ")?;
+        shown.push_str(rule.word())?;
     }
     Ok(shown)
 }

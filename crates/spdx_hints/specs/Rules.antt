@@ -1,5 +1,5 @@
 -- The rules by which a licence may be meant by a phrase.
-use Rattle.std.specs.Prelude.{ℕ, ◌-◌, ◌*◌, Bool, not, ◌||◌, ◌&&◌, nat_eq, nat_le, min, max, List, [], length, filter, bytes_eq}
+use Rattle.std.specs.Prelude.{ℕ, ◌-◌, ◌*◌, Bool, not, ◌||◌, ◌&&◌, nat_eq, nat_le, min, max, List, [], length, filter, bytes_eq, codes}
 use Rattle.std.specs.List.{list_any}
 use Rattle.std.specs.Str.{str_to_ascii_lowercase}
 use Rattle.strsim.specs.Edits.{levenshtein_row}
@@ -8,7 +8,16 @@ use Rattle.spdx_requirement.specs.Flags.{is_deprecated, is_osi_approved, is_fsf_
 use Rattle.spdx_requirement.specs.Versions.{base}
 use Rattle.spdx_hints.specs.Words.{word, has_word, has_words, has_numbers, keeps_telling}
 use Rattle.spdx_hints.specs.declared.rule.Rule.{Rule}
-use Rattle.spdx_hints.specs.declared.rule.Rule.TheVariants.{SameWords, SameTitle, SameFamily, OtherNumbers, OneEdit, TwoEdits}
+use Rattle.spdx_hints.specs.declared.rule.Rule.TheVariants.{SameWords, SameTitle, SameFamily, OtherVersion, OneEdit, TwoEdits}
+
+-- how a rule is called where its hints are told
+abbrev pub rule_word : Rule → List ℕ
+rule_word SameWords = codes "same-words"
+rule_word SameTitle = codes "same-title"
+rule_word SameFamily = codes "same-family"
+rule_word OtherVersion = codes "other-version"
+rule_word OneEdit = codes "one-edit"
+rule_word TwoEdits = codes "two-edits"
 
 -- each has the other's numbers
 abbrev pub same_numbers : List ℕ → List ℕ → Bool
@@ -76,7 +85,7 @@ abbrev pub holds : Rule → List ImpreciseRow → List ℕ → LicenseRow → Bo
 holds SameWords found phrase r = has_same_words found phrase r
 holds SameTitle found phrase r = has_same_title phrase r
 holds SameFamily found phrase r = has_same_family phrase r
-holds OtherNumbers found phrase r = has_other_numbers phrase r
+holds OtherVersion found phrase r = has_other_numbers phrase r
 holds OneEdit found phrase r = is_near 1 phrase r.name
 holds TwoEdits found phrase r = is_near 2 phrase r.name
 

@@ -1,10 +1,11 @@
 // The licences that a phrase may mean, by the first rule that gives any.
 
-ghost use Rattle.std.specs.Prelude.{◌≡◌, ◌≤◌, All, IfOk, map, filter, vec_len};
+ghost use Rattle.std.specs.Prelude.{◌≡◌, ◌≤◌, [], All, IfOk, map, filter, find, vec_len};
+ghost use Rattle.std.specs.Option.{option_map_or};
 ghost use Rattle.spdx_requirement.specs.Rows.{row_of, imprecise_of, license_name};
 ghost use Rattle.spdx_hints.specs.Borrowed.{nows};
 ghost use Rattle.spdx_hints.specs.Hints as spec;
-ghost use Rattle.spdx_hints.specs.Hints.{hints_of, IsGoodName};
+ghost use Rattle.spdx_hints.specs.Hints.{AreOfRule, IsGoodName, hints_of, rule_of};
 ghost use Rattle.spdx_hints.specs.Rules as rules;
 
 use crate::plain::plain_of;
@@ -21,17 +22,19 @@ const MOST: usize = 6;
 // No longer phrase has a meaning, so that one costs no more than a walk over the rows.
 const LONGEST: usize = 128;
 
+/// What a phrase may mean.
+#[derive(Drop)]
+pub struct Meant<'c> {
+    /// Names of listed licences, in the catalogue's order.
+    pub names: Vec<&'c str>,
+    /// The rule that gave them; `None` exactly where there are none.
+    pub rule: Option<Rule>,
+}
+
 /// The names of the listed licences that the phrase may mean, none of them deprecated and at most
-/// six: those that the first rule gives which gives any.
-///
-/// The rules, in their order: the licence's name, full name or imprecise name has the same words
-/// and numbers; its name or full name has the same words, and the phrase's numbers; the word of
-/// its family is in the phrase, the phrase's numbers are in its name, its telling words, as `Affero`
-/// or `Clear`, are in its name or full name, and the Open Source Initiative or the Free Software
-/// Foundation recognises it; the phrase has a word, and its name or
-/// full name has the same words and other numbers, as of a version that isn't listed; one edit leads
-/// to its name, or two, and the numbers are the same. Where a rule finds more than six it gives those that the Open
-/// Source Initiative has approved, or none if these are more than six too.
+/// six: those that the first rule gives which gives any, and which that is. The rules are asked in
+/// the order of `Rule`, whose variants say them. Where one finds more than six it gives those that
+/// the Open Source Initiative has approved, or none if these are more than six too.
 ///
 /// A phrase with a link is what stands before it, unless nothing does, and initials are read without
 /// their dots, `M.I.T.` as `MIT`. A phrase without a word, or of more than 128 bytes, means none.
@@ -44,28 +47,54 @@ pub fn hints<'c>(
     alloc: Global,
     catalogue: &'c Catalogue,
     phrase: &[u8],
-) -> Result<Vec<&'c str>, AllocError>
-    ensures names { IfOk result (λ names. nows names.items
+) -> Result<Meant<'c>, AllocError>
+    ensures names { IfOk result (λ meant. nows meant.names.items
         ≡ hints_of catalogue.entry.now phrase.now) }
-    ensures few { IfOk result (λ names. vec_len names ≤ 6) }
-    ensures good { IfOk result (λ names.
-        All (IsGoodName catalogue.entry.now) (nows names.items)) }
+    ensures rule { IfOk result (λ meant. meant.rule ≡ rule_of catalogue.entry.now phrase.now) }
+    ensures first { IfOk result (λ meant. AreOfRule catalogue.entry.now phrase.now
+        (nows meant.names.items) meant.rule) }
+    ensures few { IfOk result (λ meant. vec_len meant.names ≤ 6) }
+    ensures good { IfOk result (λ meant.
+        All (IsGoodName catalogue.entry.now) (nows meant.names.items)) }
 {
     let plain = plain_of(alloc, phrase)?;
-    let rows = meant(alloc, catalogue, &plain)?;
-    names_of(alloc, rows.as_slice())
+    let given = given_for(alloc, catalogue, &plain)?;
+    let names = names_of(alloc, given.rows.as_slice())?;
+    Ok(Meant {
+        names,
+        rule: given.rule,
+    })
 }
 
-fn meant<'c>(
+// The licences that the first rule gives which gives any, and that rule.
+#[derive(Drop)]
+struct Given<'c> {
+    rows: Vec<&'c License>,
+    rule: Option<Rule>,
+}
+
+fn nothing<'c>(alloc: Global) -> Given<'c>
+    ensures rows { result.rows.items ≡ [] }
+    ensures rule { result.rule ≡ None }
+{
+    Given {
+        rows: Vec::new(alloc),
+        rule: None,
+    }
+}
+
+fn given_for<'c>(
     alloc: Global,
     catalogue: &'c Catalogue,
     phrase: &[u8],
-) -> Result<Vec<&'c License>, AllocError>
-    ensures { IfOk result (λ rows. map row_of (nows rows.items)
-        ≡ spec.meant catalogue.entry.now phrase.now) }
+) -> Result<Given<'c>, AllocError>
+    ensures rows { IfOk result (λ given. map row_of (nows given.rows.items)
+        ≡ option_map_or (spec.meant_by catalogue.entry.now phrase.now) given.rule []) }
+    ensures rule { IfOk result (λ given. given.rule
+        ≡ find (spec.means_by catalogue.entry.now phrase.now) spec.rules_asked) }
 {
     if !can_mean(phrase) {
-        return Ok(Vec::new(alloc));
+        return Ok(nothing(alloc));
     }
     let found = spellings(alloc, catalogue.imprecise_names(), phrase)?;
     first_given(alloc, catalogue.licenses(), found.as_slice(), phrase)
@@ -93,26 +122,32 @@ fn first_given<'c>(
     licenses: &'c [License],
     found: &[&ImpreciseName],
     phrase: &[u8],
-) -> Result<Vec<&'c License>, AllocError>
-    ensures { IfOk result (λ rows. map row_of (nows rows.items)
-        ≡ spec.first_given (map imprecise_of (nows found.now)) phrase.now
-        (map row_of licenses.entry.now) spec.rules_asked) }
+) -> Result<Given<'c>, AllocError>
+    ensures rows { IfOk result (λ given. map row_of (nows given.rows.items)
+        ≡ option_map_or (spec.given_by (map imprecise_of (nows found.now)) phrase.now
+        (map row_of licenses.entry.now)) given.rule []) }
+    ensures rule { IfOk result (λ given. given.rule
+        ≡ find (spec.gives (map imprecise_of (nows found.now)) phrase.now
+        (map row_of licenses.entry.now)) spec.rules_asked) }
 {
     let rules = [
         Rule::SameWords,
         Rule::SameTitle,
         Rule::SameFamily,
-        Rule::OtherNumbers,
+        Rule::OtherVersion,
         Rule::OneEdit,
         Rule::TwoEdits,
     ];
     for rule in rules {
         let rows = given_by(alloc, licenses, found, phrase, rule)?;
         if !rows.is_empty() {
-            return Ok(rows);
+            return Ok(Given {
+                rows,
+                rule: Some(rule),
+            });
         }
     }
-    Ok(Vec::new(alloc))
+    Ok(nothing(alloc))
 }
 
 fn given_by<'c>(

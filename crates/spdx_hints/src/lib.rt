@@ -2,7 +2,7 @@
 //!
 //! ```rust
 //! // crates/spdx_hint_rows/src/main.rt
-//! for name in hints(alloc, catalogue, given.as_bytes())? {
+//! let meant = hints(alloc, catalogue, given.as_bytes())?;
 //! ```
 //!
 //! It stands on `spdx_catalogue` and `strsim`.
@@ -15,4 +15,5 @@ mod rule;
 mod words;
 
 pub use crate::around::phrase;
-pub use crate::hint::hints;
+pub use crate::hint::{Meant, hints};
+pub use crate::rule::Rule;

@@ -12,9 +12,10 @@ use spdx_requirement::row::{ImpreciseName, License};
 use std::alloc::{AllocError, Global};
 use strsim::generic_levenshtein;
 
-/// How a licence may be meant by a phrase.
-#[derive(Clone, Copy)]
-pub(crate) enum Rule {
+/// How a licence may be meant by a phrase, in the order in which the rules are asked. Words and numbers are compared in any
+/// order, the case of ASCII letters and words as `the`, `license` and `version` aside.
+#[derive(Clone, Copy, Debug, PartialEq, Eq)]
+pub enum Rule {
     /// Its name, its full name or an imprecise name for it has the same words and numbers.
     SameWords,
     /// Its name or full name has the same words, and the phrase's numbers among others.
@@ -25,11 +26,29 @@ pub(crate) enum Rule {
     SameFamily,
     /// Its name or full name has the same words, of which there is one at least, whatever the numbers: the licence is
     /// listed, and this version isn't.
-    OtherNumbers,
-    /// One edit leads from the phrase to its name, and the numbers are the same.
+    OtherVersion,
+    /// One edit leads from the phrase to its name, and the numbers are the same. An edit puts in, takes out or changes a
+    /// byte.
     OneEdit,
     /// Two edits do.
     TwoEdits,
+}
+
+impl Rule {
+    /// How the rule is called where its hints are told: `same-words`, `same-title`, `same-family`, `other-version`,
+    /// `one-edit` or `two-edits`.
+    pub fn word(self) -> &'static str
+        ensures { result.now ≡ spec.rule_word self }
+    {
+        match self {
+            Rule::SameWords => "same-words",
+            Rule::SameTitle => "same-title",
+            Rule::SameFamily => "same-family",
+            Rule::OtherVersion => "other-version",
+            Rule::OneEdit => "one-edit",
+            Rule::TwoEdits => "two-edits",
+        }
+    }
 }
 
 fn same_numbers(a: &[u8], b: &[u8]) -> bool
@@ -174,7 +193,7 @@ fn holds(
         Rule::SameWords => Ok(has_same_words(found, phrase, row)),
         Rule::SameTitle => Ok(has_same_title(phrase, row)),
         Rule::SameFamily => Ok(has_same_family(phrase, row)),
-        Rule::OtherNumbers => Ok(has_other_numbers(phrase, row)),
+        Rule::OtherVersion => Ok(has_other_numbers(phrase, row)),
         Rule::OneEdit => is_near(alloc, 1, phrase, row.name.as_bytes()),
         Rule::TwoEdits => is_near(alloc, 2, phrase, row.name.as_bytes()),
     }

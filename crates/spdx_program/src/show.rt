@@ -40,7 +40,7 @@ pub(crate) fn show<R: System, O: Write + Drop, F: Write + Drop>(
 // A name that the list hasn't, with those that may be meant; where none may, how a newer list is taken.
 fn unlisted(alloc: Global, catalogue: &Catalogue, name: &str) -> Result<Trouble, AllocError> {
     let mut meant = String::new(alloc);
-    for other in hints(alloc, catalogue, name.as_bytes())? {
+    for other in hints(alloc, catalogue, name.as_bytes())?.names {
         meant.push_str(if meant.is_empty() {
             "; did you mean "
         } else {

@@ -1,4 +1,4 @@
-use Rattle.std.proofs.Common.{◌≡◌, map, drop}
+use Rattle.std.proofs.Common.{◌≡◌, map, drop, find}
 use Rattle.spdx_requirement.specs.Rows.{row_of, imprecise_of}
 use Rattle.spdx_hints.specs.Borrowed.{nows}
 use Rattle.spdx_hints.specs.Hints as spec
@@ -6,5 +6,5 @@ use Rattle.spdx_hints.proofs.hint.first_given.Given as goal
 
 abbrev pub invariant-loop-rule : goal.invariant-loop-rule
 invariant-loop-rule l =
-    spec.first_given (map imprecise_of (nows l.found)) l.phrase (map row_of l.licenses) (drop l.rule-index l.rule-items)
-    ≡ spec.first_given (map imprecise_of (nows l.found)) l.phrase (map row_of l.licenses) spec.rules_asked
+    let gives = spec.gives (map imprecise_of (nows l.found)) l.phrase (map row_of l.licenses) in
+    find gives (drop l.rule-index l.rule-items) ≡ find gives spec.rules_asked
