@@ -1,0 +1,17 @@
+//! Which list a program reads, and what `spdx list make` writes, over a shelf of files.
+//!
+//! ```rust
+//! // crates/spdx_program/src/list.rt
+//! let found = named_list(rt.alloc(), &Told::of(rt), INSIDE, path);
+//! ```
+//!
+//! It stands on `shelves`, `spdx_list`, `spdx_catalogue` and `line_engine`.
+#![tactic(auto)]
+
+pub mod made;
+pub mod named;
+pub mod trouble;
+
+pub use crate::made::{MadeOf, put_made_list};
+pub use crate::named::{Inside, list_at, named_list};
+pub use crate::trouble::ListTrouble;

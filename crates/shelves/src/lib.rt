@@ -1,0 +1,18 @@
+//! What a program reads besides its words and its input: files, folders and variables, as a trait.
+//!
+//! ```rust
+//! // crates/list_program/src/named.rt
+//! let bytes = shelf.read(alloc, path)?;
+//! ```
+//!
+//! A shelf tells what a path holds, and what a program then says of it is proved for every shelf. `SystemShelf` is the
+//! system's, whose word is trusted; `Held` is a shelf of values, for rows. It stands on nothing.
+#![tactic(auto)]
+
+mod held;
+pub mod shelf;
+mod system;
+
+pub use crate::held::{Held, HeldFile, HeldFolder, HeldVariable};
+pub use crate::shelf::{Shelf, VariableFault};
+pub use crate::system::SystemShelf;
