@@ -40,7 +40,7 @@ impl Listener for Draft<'_> {
 
 /// The nodes of [`spdx_parser::parse_nodes`], and the canonical text of the tokens; `None` where that is the text
 /// itself. The tokens are those of the mode, so in `STRICT` and `LAX` it is the answer of
-/// [`crate::canonical`]. The text is read once.
+/// [`crate::canonical`]. One reading serves both.
 ///
 /// # Errors
 ///

@@ -4,6 +4,7 @@ use crate::replace::{Loss, Obstacle};
 use foreign_text::{Sink, text_for};
 use line_engine::device::Failed;
 use line_engine::lines::RunFault;
+use list_program::ListTrouble;
 use package_sources::SourceFault;
 use spdx::ReadFault;
 use spdx_list::ListFault;
@@ -28,6 +29,10 @@ pub(crate) enum Trouble {
     List(String, ReadFault),
     /// SPDX's two files in a folder make no list.
     Made(String, ListFault),
+    /// `SPDX_LIST` is empty, or no UTF-8.
+    Nameless,
+    /// What this project says besides SPDX's files isn't readable.
+    NoExtras(ListFault),
     /// A file isn't what it was called.
     Source(String, SourceFault),
     /// A manifest isn't what it is called: why, and on which line.
@@ -97,17 +102,37 @@ impl From<Failed> for Trouble {
     }
 }
 
+impl From<ListTrouble> for Trouble {
+    fn from(trouble: ListTrouble) -> Trouble {
+        match trouble {
+            ListTrouble::Unreadable(path, error) => Trouble::of_path(path, error),
+            ListTrouble::Nameless => Trouble::Nameless,
+            ListTrouble::NoList(name, fault) => Trouble::List(name, fault),
+            ListTrouble::NotMade(name, fault) => Trouble::Made(name, fault),
+            ListTrouble::NoExtras(fault) => Trouble::NoExtras(fault),
+            ListTrouble::Output => Trouble::Output,
+            ListTrouble::Memory => Trouble::Memory,
+        }
+    }
+}
+
 impl Trouble {
     /// Of a path that gave this error. A NUL in it stands for what is no UTF-8 in an argument.
     pub(crate) fn unreadable(alloc: Global, path: &str, error: io::Error) -> Trouble {
+        match String::from_str(alloc, path) {
+            Ok(path) => Trouble::of_path(path, error),
+            Err(AllocError) => Trouble::Memory,
+        }
+    }
+
+    fn of_path(path: String, error: io::Error) -> Trouble {
         if error.kind() == ErrorKind::OutOfMemory {
             return Trouble::Memory;
         }
-        match String::from_str(alloc, path) {
-            Ok(path) if path.as_str().contains('\0') => Trouble::NotUtf8(path),
-            Ok(path) => Trouble::Unreadable(path, error),
-            Err(AllocError) => Trouble::Memory,
+        if path.as_str().contains('\0') {
+            return Trouble::NotUtf8(path);
         }
+        Trouble::Unreadable(path, error)
     }
 
     /// Of a path that could not be written.
@@ -221,6 +246,8 @@ impl Trouble {
             | Trouble::NoChoice(name, why)
             | Trouble::Text(name, why)
             | Trouble::Unlisted(name, why) => (name.as_str(), why.as_str()),
+            Trouble::Nameless => ("SPDX_LIST", ""),
+            Trouble::NoExtras(_) => ("the extras inside", ""),
             Trouble::Several(_) | Trouble::Output | Trouble::Memory => ("", ""),
         }
     }
@@ -253,7 +280,13 @@ impl Trouble {
             Trouble::Folder(_) => write!(text, "spdx: {name}: a folder, where a file is wanted\n"),
             Trouble::Broken(_) => write!(text, "spdx: {name}: read fault\n"),
             Trouble::List(_, fault) => write!(text, "spdx: {name}: no list: {fault}\n"),
-            Trouble::Made(_, fault) => write!(text, "spdx: {name}: no list: {fault}\n"),
+            Trouble::Made(_, fault) | Trouble::NoExtras(fault) => {
+                write!(text, "spdx: {name}: no list: {fault}\n")
+            }
+            Trouble::Nameless => {
+                let error = io::Error::from(ErrorKind::InvalidFilename);
+                write!(text, "spdx: {name}: {error}\n")
+            }
             Trouble::Source(_, fault) => write!(text, "spdx: {name}: {fault}\n"),
             Trouble::Manifest(_, why, line) => {
                 write!(text, "spdx: {name}: line {line}: {why}; left as it is\n")

@@ -70,7 +70,7 @@ impl<'c> Expression<'c> {
 
     /// The expression of [`Expression::parse_mode`], and the canonical text of its tokens, or `None`
     /// where that is the text itself. By `STRICT` and `LAX` it is what [`Expression::canonicalize`]
-    /// answers; the text is read once for both.
+    /// answers; one reading serves both.
     ///
     /// # Errors
     ///
