@@ -46,7 +46,7 @@ pub(crate) fn check<R: System, O: Write + Drop, F: Write + Drop>(
     console: &mut Console<O, F>,
 ) -> Result<u8, Trouble> {
     let catalogue = list::catalogue(rt, request.list)?;
-    let extras = list::extras(rt.alloc())?;
+    let extras = list::heirs(rt.alloc())?;
     let check = Check {
         catalogue: &catalogue,
         heirs: extras.instead.as_slice(),

@@ -21,7 +21,7 @@ pub(crate) fn diff<R: System, O: Write + Drop, F: Write + Drop>(
     let alloc = rt.alloc();
     let old = list::catalogue(rt, request.old)?;
     let new = list::catalogue_at(rt, request.new)?;
-    let extras = list::extras(alloc)?;
+    let extras = list::heirs(alloc)?;
     let mut text = Vec::new(alloc);
     put(
         &mut text,

@@ -5,7 +5,7 @@ use crate::trouble::Trouble;
 use list_program::{Inside, list_at, named_list};
 use shelves::SystemShelf;
 use spdx::{Catalogue, Failure};
-use spdx_known::{EXTRAS, LIST, VERSION};
+use spdx_known::{EXTRAS, HEIRS, LIST, VERSION};
 use spdx_list::Extras;
 use std::alloc::Global;
 
@@ -33,9 +33,9 @@ pub(crate) fn catalogue_at<R: System>(rt: &R, path: &str) -> Result<Catalogue, T
     Ok(list_at(rt.alloc(), &SystemShelf::new(rt), EXTRAS.as_bytes(), path)?)
 }
 
-/// What this project says besides the list inside the program.
-pub(crate) fn extras(alloc: Global) -> Result<Extras, Trouble> {
-    match Extras::from_json(alloc, EXTRAS.as_bytes()) {
+/// What to write in place of deprecated names, without the other extras, which few commands ask for.
+pub(crate) fn heirs(alloc: Global) -> Result<Extras, Trouble> {
+    match Extras::from_json(alloc, HEIRS.as_bytes()) {
         Ok(extras) => Ok(extras),
         Err(Failure::Refused(fault)) => Err(Trouble::NoExtras(fault)),
         Err(Failure::Memory(error)) => Err(Trouble::from(error)),

@@ -23,7 +23,7 @@ pub(crate) fn show<R: System, O: Write + Drop, F: Write + Drop>(
     if request.names.is_empty() {
         return show_names(alloc, &catalogue, console);
     }
-    let extras = list::extras(alloc)?;
+    let extras = list::heirs(alloc)?;
     let mut status = 0;
     for name in &request.names {
         let mut text = Vec::new(alloc);
