@@ -19,6 +19,7 @@ pub mod evaluate;
 mod fix;
 pub mod iterators;
 pub mod judge;
+mod meaning;
 pub mod minimize;
 mod normal;
 mod parser;

@@ -32,5 +32,6 @@ pub use spdx_catalogue::{
 };
 pub use spdx_lexer::token::ParseMode;
 pub use spdx_licensee::Licensee;
+pub use spdx_meaning::TooManySets;
 pub use spdx_minimize::AcceptedLicensees;
 pub use sufficiency::{Sufficiency, least_selection};

@@ -9,6 +9,7 @@
 mod choosing;
 mod end;
 mod lines;
+mod meaning;
 mod reading;
 mod trees;
 
@@ -33,6 +34,10 @@ minimized_requirements
 minimized_among
 minimized_for_all
 normal_text
+minimal_sets
+meaning_text
+asks_at_least
+is_equivalent
 run
 run_all";
 
@@ -52,6 +57,10 @@ fn answer(alloc: Global, json: &[u8], call: &str) -> Answer {
         "evaluate" => trees::evaluate(alloc, &catalogue),
         "evaluate_with_failures" => trees::evaluate_with_failures(alloc, &catalogue),
         "normal_text" => trees::normal_text(alloc, &catalogue),
+        "minimal_sets" => meaning::minimal_sets(alloc, &catalogue),
+        "meaning_text" => meaning::meaning_text(alloc, &catalogue),
+        "asks_at_least" => meaning::asks_at_least(alloc, &catalogue),
+        "is_equivalent" => meaning::is_equivalent(alloc, &catalogue),
         "run" => lines::run(alloc, &catalogue),
         "run_all" => lines::run_all(alloc, &catalogue),
         _ => choosing::answer(alloc, &catalogue, call),

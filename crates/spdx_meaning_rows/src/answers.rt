@@ -1,15 +1,6 @@
 // What a row is answered.
 
-ghost use Rattle.std.specs.Prelude.{IfOk, IfSome, map};
-ghost use Rattle.spdx_parser.specs.Tree.{node_of};
-ghost use Rattle.spdx_evaluation.specs.Postfix.{IsPostfix};
-
-use spdx_catalogue::{Catalogue, Failure};
-use spdx_lexer::ParseMode;
-use spdx_meaning::{Relation, TooManySets, asks_at_least, compare, is_equivalent, minimal_sets};
-use spdx_meaning_text::meaning_text;
-use spdx_parser::node::{ExprNode, NodeList};
-use spdx_parser::parse_nodes;
+use spdx::{Catalogue, Expression, Failure, ParseMode, TooManySets};
 use std::alloc::{AllocError, Global};
 
 /// The answer to what stands before the arrow of a row.
@@ -23,17 +14,20 @@ pub(crate) fn answer(
     let Some(one) = read(alloc, catalogue, first)? else {
         return String::from_str(alloc, "no expression");
     };
-    match form {
-        "sets" => return sets_text(alloc, one.as_slice()),
-        "text" => return text_of(alloc, one.as_slice()),
-        _ => {}
-    }
-    let Some(other) = read(alloc, catalogue, second)? else {
-        return String::from_str(alloc, "no expression");
+    let told = match form {
+        "sets" => sets_text(alloc, &one),
+        "text" => one.meaning_text(alloc),
+        _ => {
+            let Some(other) = read(alloc, catalogue, second)? else {
+                return String::from_str(alloc, "no expression");
+            };
+            relation(alloc, &one, &other)
+        }
     };
-    match relation(alloc, one.as_slice(), other.as_slice()) {
-        Ok(relation) => String::from_str(alloc, relation),
-        Err(failure) => refusal_text(alloc, failure),
+    match told {
+        Ok(text) => Ok(text),
+        Err(Failure::Refused(refusal)) => format!(in alloc; "{refusal}"),
+        Err(Failure::Memory(error)) => Err(error),
     }
 }
 
@@ -41,101 +35,60 @@ fn read<'c>(
     alloc: Global,
     catalogue: &'c Catalogue,
     text: &str,
-) -> Result<Option<NodeList<'c>>, AllocError>
-    ensures { IfOk result (λ read. IfSome read (λ nodes. IsPostfix (map node_of nodes.items))) }
-{
-    match parse_nodes(alloc, catalogue, text, ParseMode::LAX) {
-        Ok(nodes) => Ok(Some(nodes)),
+) -> Result<Option<Expression<'c>>, AllocError> {
+    match Expression::parse_mode(alloc, catalogue, text, ParseMode::LAX) {
+        Ok(expression) => Ok(Some(expression)),
         Err(Failure::Refused(_)) => Ok(None),
         Err(Failure::Memory(error)) => Err(error),
     }
 }
 
-fn refusal_text(alloc: Global, failure: Failure<TooManySets>) -> Result<String, AllocError> {
-    match failure {
-        Failure::Refused(refusal) => format!(in alloc; "{refusal}"),
-        Failure::Memory(error) => Err(error),
-    }
-}
-
 // How what the one asks compares with what the other one asks.
-fn relation(
+fn relation<'c>(
     alloc: Global,
-    one: &[ExprNode<'_>],
-    other: &[ExprNode<'_>],
-) -> Result<&'static str, Failure<TooManySets>>
-    requires tree { IsPostfix (map node_of one.now) }
-    requires other { IsPostfix (map node_of other.now) }
-{
-    let same = is_equivalent(alloc, one, other)?;
-    let forth = asks_at_least(alloc, one, other)?;
-    let back = asks_at_least(alloc, other, one)?;
-    Ok(match (compare(alloc, one, other)?, same, forth, back) {
-        (Relation::Same, true, true, true) => "same",
-        (Relation::More, false, true, false) => "more",
-        (Relation::Less, false, false, true) => "less",
-        (Relation::Neither, false, false, false) => "neither",
+    one: &Expression<'c>,
+    other: &Expression<'c>,
+) -> Result<String, Failure<TooManySets>> {
+    let same = one.is_equivalent(alloc, other)?;
+    let forth = one.asks_at_least(alloc, other)?;
+    let back = other.asks_at_least(alloc, one)?;
+    let told = match (same, forth, back) {
+        (true, true, true) => "same",
+        (false, true, false) => "more",
+        (false, false, true) => "less",
+        (false, false, false) => "neither",
         _ => "unlike",
-    })
-}
-
-// The meaning text.
-fn text_of(alloc: Global, nodes: &[ExprNode<'_>]) -> Result<String, AllocError>
-    requires { IsPostfix (map node_of nodes.now) }
-{
-    match meaning_text(alloc, nodes) {
-        Ok(text) => Ok(text),
-        Err(failure) => refusal_text(alloc, failure),
-    }
+    };
+    Ok(String::from_str(alloc, told)?)
 }
 
 // The minimal sets, each in brackets.
-fn sets_text(alloc: Global, nodes: &[ExprNode<'_>]) -> Result<String, AllocError>
-    requires { IsPostfix (map node_of nodes.now) }
-{
-    let sets = match minimal_sets(alloc, nodes) {
-        Ok(sets) => sets,
-        Err(failure) => return refusal_text(alloc, failure),
-    };
+fn sets_text(alloc: Global, expression: &Expression<'_>) -> Result<String, Failure<TooManySets>> {
+    let sets = expression.minimal_sets(alloc)?;
     let mut text = String::new(alloc);
     for set in &sets {
         if !text.is_empty() {
             text.push(' ')?;
         }
-        put_set(&mut text, alloc, nodes, set.as_slice())?;
+        put_set(alloc, &mut text, expression, set)?;
     }
     Ok(text)
 }
 
 fn put_set(
-    text: &mut String,
     alloc: Global,
-    nodes: &[ExprNode<'_>],
+    text: &mut String,
+    expression: &Expression<'_>,
     set: &[usize],
 ) -> Result<(), AllocError> {
     let mut mark = "[";
     for place in set {
         text.push_str(mark)?;
-        text.push_str(requirement_text(alloc, nodes, *place)?.as_str())?;
+        if let Some(requirement) = expression.requirements().nth(*place) {
+            let req = &requirement.req;
+            text.push_str(format!(in alloc; "{req}")?.as_str())?;
+        }
         mark = ", ";
     }
     text.push(']')
-}
-
-// The requirement at a place among the requirements.
-fn requirement_text(
-    alloc: Global,
-    nodes: &[ExprNode<'_>],
-    place: usize,
-) -> Result<String, AllocError> {
-    let mut left = place;
-    for node in nodes {
-        if let ExprNode::Req(requirement) = node {
-            if left == 0 {
-                return format!(in alloc; "{}", requirement.req);
-            }
-            left -= 1;
-        }
-    }
-    Ok(String::new(alloc))
 }

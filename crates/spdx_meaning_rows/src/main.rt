@@ -14,7 +14,7 @@
 mod answers;
 
 use crate::answers::answer;
-use spdx_catalogue::Catalogue;
+use spdx::Catalogue;
 use std::process::ExitCode;
 use std::{env, fs, io};
 
