@@ -3,7 +3,6 @@ pub mod Items
 pub mod Files
 pub mod Shown
 pub mod Made
-pub mod Written
 pub mod Names
 pub mod FullNames
 pub mod Diff

@@ -1,32 +1,16 @@
 -- The list that files make: their rows, put in order.
-use Rattle.std.specs.Prelude.{◌≡◌, ℕ, suc, ◌⊎◌, List, [], ◌∷◌, Some, Ok, Err, option_map}
+use Rattle.std.specs.Prelude.{◌≡◌, ℕ, ◌⊎◌, List, Some, Ok, Err, option_map}
 use Rattle.std.specs.Ordering.{nat_cmp}
 use Rattle.std.specs.Cmp.Lexicographic.{slice_cmp}
 use Rattle.std.specs.List.Sorted.{IsPermutation, IsSortedByKey}
-use Rattle.spdx_requirement.specs.Rows.{Rows, LicenseRow, ExceptionRow, license_name, exception_name}
+use Rattle.spdx_requirement.specs.Rows.{Rows, license_name, exception_name}
+use Rattle.spdx_tables.specs.Places.{license_at, exception_at, numbered}
 use Rattle.spdx_catalogue.specs.RowRules.{first_fault}
 use Rattle.spdx_catalogue.specs.Reading.{catalogue_in}
 use Rattle.spdx_list.specs.declared.error.ListFault.{ListFault}
 use Rattle.spdx_list.specs.declared.error.ListFault.TheVariants as fault
 use Rattle.spdx_list.specs.Files.{ExtraRows, gathered}
 use Rattle.spdx_list.specs.FullNames.{with_full_names}
-
--- the licence at that place of its list
-abbrev pub license_at : ℕ → LicenseRow → LicenseRow
-license_at index r = record r { index = index }
-
--- the exception at that place of its list
-abbrev pub exception_at : ℕ → ExceptionRow → ExceptionRow
-exception_at index r = record r { index = index }
-
--- each row with its place, counted from the given one, as its index
-abbrev pub numbered : {A : Type 0} → (ℕ → A → A) → ℕ → List A → List A
-numbered place index [] = []
-numbered place index (r ∷ rs) = place index r ∷ numbered place (suc index) rs
-
--- the same rows, each with its place as its index
-abbrev pub renumbered : Rows → Rows
-renumbered c = record { version = c.version; licenses = numbered license_at 0 c.licenses; exceptions = numbered exception_at 0 c.exceptions; imprecise = c.imprecise }
 
 -- the same rows, rearranged so that no name is less, by bytes, than the one before; each with its place
 pub record Arranges {A : Type 0} (name_of : A → List ℕ) (place : ℕ → A → A) (rows arranged : List A) : Type 0 where

@@ -2,7 +2,8 @@
 
 ghost use Rattle.std.specs.Prelude.{◌≡◌, ℕ, List, IfOk, map};
 ghost use Rattle.spdx_requirement.specs.Rows.{LicenseRow, ExceptionRow, row_of, exception_of, license_name, exception_name};
-ghost use Rattle.spdx_list.specs.Made.{license_at, exception_at, numbered, Arranges};
+ghost use Rattle.spdx_tables.specs.Places.{license_at, exception_at, numbered};
+ghost use Rattle.spdx_list.specs.Made.{Arranges};
 
 use spdx_requirement::row::{Exception, License};
 use std::alloc::{AllocError, Global};

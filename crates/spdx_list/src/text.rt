@@ -6,10 +6,11 @@ ghost use Rattle.serde_json.specs.Data.{Data};
 ghost use Rattle.serde_json.specs.View.{view};
 ghost use Rattle.spdx_requirement.specs.Rows.{LicenseRow, ExceptionRow, ImpreciseRow, row_of, exception_of, imprecise_of};
 ghost use Rattle.spdx_tables.specs.TableReading.{rows_of, tables_in};
-ghost use Rattle.spdx_list.specs.Made.{renumbered, IsRefused, IsTextOf};
+ghost use Rattle.spdx_tables.specs.Places.{renumbered};
+ghost use Rattle.spdx_tables.specs.Written.{license_data, exception_data, imprecise_data, tables_data, license_fits, exception_fits, imprecise_fits, Fit};
+ghost use Rattle.spdx_list.specs.Made.{IsRefused, IsTextOf};
 ghost use Rattle.spdx_requirement.specs.Failures.{IfRefused};
 ghost use Rattle.spdx_list.specs.Shown.{shown_extras};
-ghost use Rattle.spdx_list.specs.Written.{license_data, exception_data, imprecise_data, tables_data, license_fits, exception_fits, imprecise_fits, Fit};
 
 use crate::error::ListFault;
 use crate::extras::Extras;

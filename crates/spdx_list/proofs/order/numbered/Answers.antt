@@ -1,8 +1,8 @@
 use Rattle.std.proofs.Common.{arith, ◌≡◌, ◌∙◌, ◌++◌, ◌∷◌, [], length, map, ap, sym}
 use Rattle.std.proofs.lemmas.List.{map-append}
 use Rattle.std.proofs.lemmas.Grind.{common_steps}
-use Rattle.spdx_list.specs.Made.{numbered}
-use Rattle.spdx_list.proofs.Ordered.{numbered-shown}
+use Rattle.spdx_tables.specs.Places.{numbered}
+use Rattle.spdx_tables.proofs.Numbered.{numbered-shown}
 use Rattle.spdx_list.proofs.order.numbered.Goals as goal
 
 pub loop-row-preserved : goal.loop-row-preserved

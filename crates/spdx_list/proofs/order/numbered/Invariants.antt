@@ -1,5 +1,5 @@
 use Rattle.std.proofs.Common.{◌≡◌, map, length, vec_len}
-use Rattle.spdx_list.specs.Made.{numbered}
+use Rattle.spdx_tables.specs.Places.{numbered}
 use Rattle.spdx_list.proofs.order.numbered.Given as goal
 
 abbrev pub invariant-loop-row : goal.invariant-loop-row

@@ -5,8 +5,8 @@ use Rattle.serde_json.specs.Data.{Data, depth}
 use Rattle.serde_json.specs.Read.{max_depth}
 use Rattle.serde_json.specs.View.{view}
 use Rattle.spdx_tables.specs.TableReading.{rows_of}
-use Rattle.spdx_list.specs.Written.{tables_data}
-use Rattle.spdx_list.proofs.Back.{shallow, text_back}
+use Rattle.spdx_tables.specs.Written.{tables_data}
+use Rattle.spdx_tables.proofs.Back.{shallow, text_back}
 use Rattle.spdx_list.proofs.text.text_of.Goals as goal
 
 pub returns : goal.returns
