@@ -12,11 +12,11 @@ use Rattle.spdx_tables.specs.TableReading.{tables_in}
 use Rattle.spdx_tables.specs.Places.{license_at, exception_at, numbered, renumbered}
 use Rattle.spdx_tables.specs.Written.{license_data, exception_data, imprecise_data, tables_data, license_fits, exception_fits, imprecise_fits, Fit}
 
-front : (a b : Bool) → (a && b) ≡ true → a ≡ true
+pub front : (a b : Bool) → (a && b) ≡ true → a ≡ true
 front true b h = refl
 front false b h = h
 
-back : (a b : Bool) → (a && b) ≡ true → b ≡ true
+pub back : (a b : Bool) → (a && b) ≡ true → b ≡ true
 back true b h = h
 back false true h = refl
 back false false h = h
@@ -49,7 +49,7 @@ none_left : (rs : List ImpreciseRow) (n : ℕ) → numbered (λ (_ : ℕ) (r : I
 none_left [] n = refl
 none_left (r ∷ rs) n = ap (λ xs. r ∷ xs) (none_left rs (suc n))
 
-all_fit : (rs : List ImpreciseRow) → list_all imprecise_fits rs ≡ true
+pub all_fit : (rs : List ImpreciseRow) → list_all imprecise_fits rs ≡ true
 all_fit [] = refl
 all_fit (r ∷ rs) = all_fit rs
 

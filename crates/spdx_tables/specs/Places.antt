@@ -1,6 +1,6 @@
 -- Rows whose indices are their places.
 use Rattle.std.specs.Prelude.{ℕ, suc, List, [], ◌∷◌}
-use Rattle.spdx_requirement.specs.Rows.{Rows, LicenseRow, ExceptionRow}
+use Rattle.spdx_requirement.specs.Rows.{Rows, LicenseRow, ExceptionRow, ImpreciseRow}
 
 -- the licence at that place of its list
 abbrev pub license_at : ℕ → LicenseRow → LicenseRow
@@ -9,6 +9,10 @@ license_at index r = record r { index = index }
 -- the exception at that place of its list
 abbrev pub exception_at : ℕ → ExceptionRow → ExceptionRow
 exception_at index r = record r { index = index }
+
+-- an imprecise name has no index
+abbrev pub imprecise_at : ℕ → ImpreciseRow → ImpreciseRow
+imprecise_at index r = r
 
 -- each row with its place, counted from the given one, as its index
 abbrev pub numbered : {A : Type 0} → (ℕ → A → A) → ℕ → List A → List A

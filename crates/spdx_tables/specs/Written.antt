@@ -1,8 +1,11 @@
--- The JSON value of tables. The members of an object stand in the order of their keys.
+-- The JSON value of tables, and its tokens. The members of an object stand in the order of their keys.
 use Rattle.std.specs.Prelude.{◌≡◌, Bool, true, List, nat_le, map, codes}
 use Rattle.std.specs.List.{list_all}
 use Rattle.serde_json.specs.Data.{Data, unsigned, number, string, array, object, no_members, member}
 use Rattle.serde_json.specs.View.{items_of}
+use Rattle.serde_json.specs.Written.{outline}
+use Rattle.json.specs.Token.{Token}
+use Rattle.json.specs.Tree.{json_tokens}
 use Rattle.spdx_requirement.specs.Rows.{Rows, LicenseRow, ExceptionRow, ImpreciseRow}
 
 -- a licence as an object
@@ -45,3 +48,7 @@ imprecise_fits r = true
 pub record Fit (c : Rows) : Type 0 where
   pub licenses : list_all license_fits c.licenses ≡ true
   pub exceptions : list_all exception_fits c.exceptions ≡ true
+
+-- the tokens of a value as it is written
+abbrev pub data_tokens : Data → List Token
+data_tokens d = json_tokens (outline d)

@@ -5,13 +5,15 @@
 //! let tables = match Tables::from_json(alloc, bytes) {
 //! ```
 //!
-//! It stands on `spdx_requirement` and `serde_json`.
+//! It stands on `spdx_requirement`, `json`, `serde_json` and `itoa`.
 #![tactic(auto)]
 
 pub mod error;
-mod json;
 mod table_row;
 pub mod tables;
+mod take;
+mod values;
+mod written;
 
 pub use crate::error::{Field, TableFault};
 pub use crate::tables::Tables;

@@ -9,8 +9,9 @@ ghost use Rattle.spdx_tables.specs.declared.error.TableFault.TheVariants.{Shape}
 ghost use Rattle.spdx_tables.specs.TableReading.{rows_of, tables_in};
 
 use crate::error::{Field, TableFault};
-use crate::json::{has_float, text_at, value_of};
 use crate::table_row::rows_at;
+use crate::values::{has_float, text_at, value_of};
+use crate::written::written_tables;
 use serde_json::Value;
 use spdx_requirement::failure::Failure;
 use spdx_requirement::row::{Exception, ImpreciseName, License};
@@ -43,6 +44,9 @@ impl Tables {
         ensures ok { IfOk result (λ t. tables_in bytes.now ≡ Ok (rows_of t)) }
         ensures err { IfErr result (IfRefused (λ f. tables_in bytes.now ≡ Err f)) }
     {
+        if let Some(tables) = written_tables(alloc, bytes)? {
+            return Ok(tables);
+        }
         let value = value_of(alloc, bytes)?;
         if has_float(&value) {
             return Err(Failure::Refused(TableFault::Float));

@@ -3,7 +3,7 @@ use Rattle.std.specs.Str.{IsUtf8, is_utf8}
 use Rattle.std.proofs.lemmas.Str.{IsUtf8-from_is_utf8, is_utf8-from_IsUtf8}
 use Rattle.serde_json.specs.Read.{read}
 use Rattle.spdx_tables.specs.TableReading.{value_in}
-use Rattle.spdx_tables.proofs.json.value_of.Goals as goal
+use Rattle.spdx_tables.proofs.values.value_of.Goals as goal
 
 no_value : (bytes : List ℕ) → (IsUtf8 bytes → read bytes ≡ None) → value_in bytes ≡ None
 no_value bytes none = by (is_utf8 bytes) (IsUtf8-from_is_utf8 bytes)

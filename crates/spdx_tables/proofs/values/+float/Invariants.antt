@@ -1,7 +1,7 @@
 use Rattle.std.proofs.Common.{◌≡◌, drop}
 use Rattle.serde_json.specs.View.{items_view, members_view}
 use Rattle.serde_json.specs.Written as spec
-use Rattle.spdx_tables.proofs.json.+float.Given as goal
+use Rattle.spdx_tables.proofs.values.+float.Given as goal
 
 abbrev pub invariant-items_have_float-loop-item : goal.invariant-items_have_float-loop-item
 invariant-items_have_float-loop-item l = spec.items_have_float (items_view l.item-items) ≡ spec.items_have_float (items_view (drop l.item-index l.item-items))
