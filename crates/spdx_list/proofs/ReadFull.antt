@@ -1,5 +1,5 @@
 -- Full names that are taken are read as their licences, and hide no imprecise name.
-use Rattle.std.proofs.Common.{◌≡◌, ℕ, zero, suc, ◌+◌, ◌<◌, Result, Ok, Err, Bool, true, false, cond, List, [], ◌∷◌, ◌++◌, length, map, filter, take, get_or, refl, sym, ◌∙◌, ap, subst, arith, All, Contains, Some, option_map}
+use Rattle.std.proofs.Common.{◌≡◌, ℕ, suc, Bool, true, false, List, [], ◌∷◌, ◌++◌, map, filter, get_or, refl, sym, ◌∙◌, ap, arith, All, Contains, Some, option_map}
 use Rattle.std.specs.Prelude.{not, ◌&&◌}
 use Rattle.std.specs.List.{list_any}
 use Rattle.std.proofs.Math.Seq.{take-length}
@@ -8,33 +8,29 @@ use Rattle.std.proofs.lemmas.List.Elements.{All-map, All-contains, filter_passes
 use Rattle.std.proofs.lemmas.Map.Made.{Contains-tail}
 use Rattle.std.proofs.lemmas.Slice.Eq.{bytes_eq-Decides}
 use Rattle.std.specs.Str.{str_to_ascii_lowercase, bytes_eq}
-use Rattle.spdx_requirement.specs.Rows.{Rows, LicenseRow, ExceptionRow, ImpreciseRow}
+use Rattle.spdx_requirement.specs.Rows.{LicenseRow, ExceptionRow, ImpreciseRow}
 use Rattle.spdx_requirement.specs.Flags.{is_deprecated}
 use Rattle.spdx_catalogue.specs.Names.{begins_caseless}
-use Rattle.spdx_list.specs.declared.error.ListFault.{ListFault}
-use Rattle.spdx_list.specs.Items.{on_ok}
-use Rattle.spdx_list.specs.Files.{ExtraRows, StatedRows, stated_in, exceptions_in, license_of, is_listed, gathered}
-use Rattle.spdx_list.specs.Made.{Makes}
 use Rattle.spdx_list.specs.FullNames.{begins_unlisted, fits_other, fits_row, is_taken, full_row, full_names, with_full_names, first_fit, ReadsFullNames}
 
 -- ---- tests
-left : (a b : Bool) → (a && b) ≡ true → a ≡ true
+pub left : (a b : Bool) → (a && b) ≡ true → a ≡ true
 left true b e = refl
 left false b e = absurd cc
 
-right : (a b : Bool) → (a && b) ≡ true → b ≡ true
+pub right : (a b : Bool) → (a && b) ≡ true → b ≡ true
 right true b e = e
 right false b e = absurd cc
 
-isnt : (a : Bool) → not a ≡ true → a ≡ false
+pub isnt : (a : Bool) → not a ≡ true → a ≡ false
 isnt true e = absurd cc
 isnt false e = refl
 
-never : {A : Type 0} → true ≡ false → A
+pub never : {A : Type 0} → true ≡ false → A
 never e = absurd cc
 
 -- a test that no element passes
-none_passes : {X : Type 0} (p : X → Bool) (xs : List X) → list_any p xs ≡ false → All (λ x. p x ≡ false) xs
+pub none_passes : {X : Type 0} (p : X → Bool) (xs : List X) → list_any p xs ≡ false → All (λ x. p x ≡ false) xs
 none_passes p xs none k d lt = by (p (get_or xs k d)) refl
   where
     by : (b : Bool) → p (get_or xs k d) ≡ b → p (get_or xs k d) ≡ false
@@ -42,13 +38,13 @@ none_passes p xs none k d lt = by (p (get_or xs k d)) refl
     by false e = e
 
 -- ---- texts
-begins_itself : (text : List ℕ) → begins_caseless text text ≡ true
+pub begins_itself : (text : List ℕ) → begins_caseless text text ≡ true
 begins_itself text =
     ap (λ (t : List ℕ). bytes_eq (str_to_ascii_lowercase text) (str_to_ascii_lowercase t)) (take-length text)
     ∙ (bytes_eq-Decides (str_to_ascii_lowercase text) (str_to_ascii_lowercase text)).1 refl
 
 -- rows that don't fit are passed over
-passed : (fs rest : List ImpreciseRow) (text : List ℕ) → All (λ (f : ImpreciseRow). begins_caseless f.prefix text ≡ false) fs → first_fit (fs ++ rest) text ≡ first_fit rest text
+pub passed : (fs rest : List ImpreciseRow) (text : List ℕ) → All (λ (f : ImpreciseRow). begins_caseless f.prefix text ≡ false) fs → first_fit (fs ++ rest) text ≡ first_fit rest text
 passed [] rest text none = refl
 passed (f ∷ fs) rest text none =
     let here : begins_caseless f.prefix text ≡ false = none 0 f (omega arith) in
@@ -112,24 +108,3 @@ module _ (licenses : List LicenseRow) (exceptions : List ExceptionRow) (rows : L
     full = λ r has taken. found licenses r has taken (λ x t begins. one_name x r has taken t begins);
     kept = λ m has. passed (full_names licenses exceptions rows) rows m.prefix (hidden_none m has);
   }
-
--- ---- of files
-abbrev imprecise_or : List ImpreciseRow → Result Rows ListFault → List ImpreciseRow
-imprecise_or others (Ok c) = c.imprecise
-imprecise_or others (Err f) = others
-
-pub gathered_imprecise : (licenses exceptions : List ℕ) (x : ExtraRows) (c : Rows) → gathered licenses exceptions x ≡ Ok c → c.imprecise ≡ x.imprecise
-unfolding gathered
-gathered_imprecise licenses exceptions x c is = sym (by (stated_in licenses) (exceptions_in exceptions) ∙ ap (imprecise_or x.imprecise) is)
-  where
-    by : (s : Result StatedRows ListFault) (e : Result (List ExceptionRow) ListFault) → x.imprecise ≡ imprecise_or x.imprecise (on_ok s (λ stated. on_ok e (λ excepted. Ok (record { version = stated.version; licenses = map (license_of x.copyleft) (filter is_listed stated.entries); exceptions = excepted; imprecise = x.imprecise }))))
-    by (Err f) e = refl
-    by (Ok s) (Err f) = refl
-    by (Ok s) (Ok e) = refl
-
--- the rows that files make read their full names
-pub made_reads : (licenses exceptions : List ℕ) (x : ExtraRows) (made : Rows) → Makes licenses exceptions x made → ReadsFullNames made.licenses made.exceptions x.imprecise made.imprecise
-made_reads licenses exceptions x made makes =
-    let same : makes.0.imprecise ≡ x.imprecise = gathered_imprecise licenses exceptions x makes.0 makes.1 in
-    let all : made.imprecise ≡ with_full_names made.licenses made.exceptions x.imprecise = makes.2.imprecise ∙ ap (with_full_names made.licenses made.exceptions) same in
-    subst (ReadsFullNames made.licenses made.exceptions x.imprecise) (sym all) (reads_full made.licenses made.exceptions x.imprecise)

@@ -5,5 +5,6 @@ pub mod Shown
 pub mod Made
 pub mod Names
 pub mod FullNames
+pub mod Forms
 pub mod Diff
 pub mod DiffShown

@@ -10,7 +10,7 @@ use Rattle.spdx_catalogue.specs.Reading.{catalogue_in}
 use Rattle.spdx_list.specs.declared.error.ListFault.{ListFault}
 use Rattle.spdx_list.specs.declared.error.ListFault.TheVariants as fault
 use Rattle.spdx_list.specs.Files.{ExtraRows, gathered}
-use Rattle.spdx_list.specs.FullNames.{with_full_names}
+use Rattle.spdx_list.specs.Forms.{with_forms}
 
 -- the same rows, rearranged so that no name is less, by bytes, than the one before; each with its place
 pub record Arranges {A : Type 0} (name_of : A → List ℕ) (place : ℕ → A → A) (rows arranged : List A) : Type 0 where
@@ -19,12 +19,12 @@ pub record Arranges {A : Type 0} (name_of : A → List ℕ) (place : ℕ → A �
   pub ascends : IsSortedByKey name_of (slice_cmp nat_cmp) ordered
   pub places : arranged ≡ numbered place 0 ordered
 
--- the version as it is, the licences and exceptions in order, and the full names before the imprecise names
+-- the version as it is, the licences and exceptions in order, the full names before the imprecise names, their forms behind
 pub record IsInOrder (rows made : Rows) : Type 0 where
   pub version : made.version ≡ rows.version
   pub licenses : Arranges license_name license_at rows.licenses made.licenses
   pub exceptions : Arranges exception_name exception_at rows.exceptions made.exceptions
-  pub imprecise : made.imprecise ≡ with_full_names made.licenses made.exceptions rows.imprecise
+  pub imprecise : made.imprecise ≡ with_forms made.licenses made.exceptions rows.imprecise
 
 -- the files make these rows
 abbrev pub Makes : List ℕ → List ℕ → ExtraRows → Rows → Type 0

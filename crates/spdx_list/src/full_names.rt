@@ -26,7 +26,7 @@ fn first_word(text: &[u8]) -> &[u8]
 }
 
 // Whether the text begins with the prefix, the case of ASCII letters aside.
-fn begins_with(prefix: &[u8], text: &[u8]) -> bool
+pub(crate) fn begins_with(prefix: &[u8], text: &[u8]) -> bool
     ensures { result ≡ begins_caseless prefix.now text.now }
 {
     text.len() >= prefix.len() && text[..prefix.len()].eq_ignore_ascii_case(prefix)
@@ -50,7 +50,7 @@ fn is_exception_word(exceptions: &[Exception], word: &[u8]) -> bool
         .any(|row| row.name.as_bytes().eq_ignore_ascii_case(word))
 }
 
-fn begins_unlisted(licenses: &[License], exceptions: &[Exception], text: &[u8]) -> bool
+pub(crate) fn begins_unlisted(licenses: &[License], exceptions: &[Exception], text: &[u8]) -> bool
     ensures { result ≡ spec.begins_unlisted (map row_of licenses.now)
         (map exception_of exceptions.now) text.now }
 {
@@ -72,7 +72,7 @@ fn fits_another(licenses: &[License], row: &License) -> bool
     licenses.iter().any(|other| fits_other(row, other))
 }
 
-fn fits_row(rows: &[ImpreciseName], text: &[u8]) -> bool
+pub(crate) fn fits_row(rows: &[ImpreciseName], text: &[u8]) -> bool
     ensures { result ≡ spec.fits_row (map imprecise_of rows.now) text.now }
 {
     rows.iter()
@@ -103,7 +103,10 @@ fn full_row(alloc: Global, row: &License) -> Result<ImpreciseName, AllocError>
     })
 }
 
-fn full_names(
+/// The full names of the licences as imprecise names. A full name is taken unless its licence is deprecated, it begins with
+/// the name of a listed licence or exception, or it begins the full name of another undeprecated licence or one of the
+/// given imprecise names. Quadratic in the licences.
+pub(crate) fn full_names(
     alloc: Global,
     licenses: &[License],
     exceptions: &[Exception],
@@ -121,7 +124,7 @@ fn full_names(
     Ok(full)
 }
 
-fn joined(
+pub(crate) fn joined(
     mut all: Vec<ImpreciseName>,
     rows: Vec<ImpreciseName>,
 ) -> Result<Vec<ImpreciseName>, AllocError>
@@ -131,21 +134,4 @@ fn joined(
         all.push(row)?;
     }
     Ok(all)
-}
-
-/// The full names of the licences as imprecise names, and the given ones behind them. A full name
-/// is taken unless its licence is deprecated, it begins with the name of a listed licence or
-/// exception, or it begins the full name of another undeprecated licence or one of the given
-/// imprecise names. Quadratic in the licences.
-pub(crate) fn with_full_names(
-    alloc: Global,
-    licenses: &[License],
-    exceptions: &[Exception],
-    rows: Vec<ImpreciseName>,
-) -> Result<Vec<ImpreciseName>, AllocError>
-    ensures { IfOk result (λ all. map imprecise_of all.items ≡ spec.with_full_names
-        (map row_of licenses.now) (map exception_of exceptions.now) (map imprecise_of rows.items)) }
-{
-    let full = full_names(alloc, licenses, exceptions, &rows)?;
-    joined(full, rows)
 }

@@ -4,6 +4,7 @@
 pub mod diff;
 pub mod error;
 pub mod extras;
+mod forms;
 mod full_names;
 mod item;
 mod json;

@@ -9,11 +9,12 @@ ghost use Rattle.spdx_list.specs.Files as spec;
 ghost use Rattle.spdx_list.specs.Made.{IsInOrder, Makes, IsRefused};
 ghost use Rattle.spdx_list.specs.Names.{Has};
 ghost use Rattle.spdx_list.specs.FullNames.{ReadsFullNames};
+ghost use Rattle.spdx_list.specs.Forms.{ReadsForms};
 ghost use Rattle.spdx_list.specs.Shown.{entry_of, shown_stated, shown_extras};
 
 use crate::error::{File, ListFault, Table};
 use crate::extras::Extras;
-use crate::full_names::with_full_names;
+use crate::forms::with_forms;
 use crate::item::{Entry, table_at};
 use crate::json::{text_at, value_of};
 use crate::names::{ends_in_plus, is_gnu_name, license_flags};
@@ -163,7 +164,7 @@ fn arranged(alloc: Global, tables: Tables) -> Result<Tables, AllocError>
 {
     let licenses = in_order(alloc, tables.licenses)?;
     let exceptions = in_order(alloc, tables.exceptions)?;
-    let imprecise = with_full_names(alloc, &licenses, &exceptions, tables.imprecise)?;
+    let imprecise = with_forms(alloc, &licenses, &exceptions, tables.imprecise)?;
     Ok(Tables {
         version: tables.version,
         licenses,
@@ -179,10 +180,13 @@ fn arranged(alloc: Global, tables: Tables) -> Result<Tables, AllocError>
 /// it. Other keys are ignored, and numbers there may be floats; of a key that stands twice the last
 /// value counts.
 ///
-/// The imprecise names are full names of licences, in the order of these, and behind them those of
-/// the extras. A full name is left out where its licence is deprecated, where it begins with the name
-/// of a listed licence or exception, as `MIT License`, and where it begins the full name of another
-/// licence that isn't deprecated, or one of the extras' imprecise names.
+/// The imprecise names are full names of licences, in the order of these, behind them those of the
+/// extras, and at last forms of full names: the version as `2.0` and as `v2.0`, with the word `License`
+/// before it and without, and a full name without that word at the end. A full name or a form is left
+/// out where its licence is deprecated, where it begins with the name of a listed licence or exception,
+/// as `MIT License`, and where it begins the full name of another licence that isn't deprecated, or one
+/// of the extras' imprecise names; a form, too, where it begins a form of another licence, or where one
+/// of the names in front of it begins it.
 ///
 /// # Errors
 ///
@@ -203,7 +207,8 @@ pub fn tables_of(
 }
 
 /// The catalogue that SPDX's files make: that of `tables_of`. By its imprecise names each full name
-/// that stands among them is its licence's, and each of the extras' is what it was.
+/// that stands among them is its licence's, and so is each form of one; each of the extras' is what it
+/// was, and so is any text that one of the names before the forms begins.
 ///
 /// # Errors
 ///
@@ -217,6 +222,8 @@ pub fn catalogue_of(
     ensures ok { IfOk result (λ c.
         Makes licenses.now exceptions.now (shown_extras extras.now) c) }
     ensures full { IfOk result (λ c. ReadsFullNames c.licenses c.exceptions
+        (shown_extras extras.now).imprecise c.imprecise) }
+    ensures forms { IfOk result (λ c. ReadsForms c.licenses c.exceptions
         (shown_extras extras.now).imprecise c.imprecise) }
     ensures err { IfErr result (IfRefused (
         IsRefused licenses.now exceptions.now (shown_extras extras.now))) }
