@@ -2,7 +2,7 @@
 //!
 //! ```rust
 //! // crates/spdx_program/src/list.rt
-//! let found = named_list(rt.alloc(), &Told::of(rt), INSIDE, path);
+//! Ok(named_list(rt.alloc(), &SystemShelf::new(rt), inside(), path)?)
 //! ```
 //!
 //! It stands on `shelves`, `spdx_list`, `spdx_catalogue` and `line_engine`.

@@ -2,7 +2,7 @@
 //!
 //! ```rust
 //! // crates/list_program/src/named.rt
-//! let bytes = shelf.read(alloc, path)?;
+//! match shelf.read(alloc, path) {
 //! ```
 //!
 //! A shelf tells what a path holds, and what a program then says of it is proved for every shelf. `SystemShelf` is the

@@ -2,8 +2,8 @@
 //! least what another one asks, and whether two are equivalent.
 //!
 //! ```rust
-//! // crates/spdx_meaning_rows/src/answers.rt
-//! let same = is_equivalent(alloc, one, other)?;
+//! // crates/spdx/src/expression/meaning.rt
+//! spdx_meaning::is_equivalent(alloc, self.nodes(), other.nodes())
 //! ```
 //!
 //! It stands on the parser, on the evaluation and on `least_sets`.

@@ -2,8 +2,8 @@
 //! text exactly if they are equivalent.
 //!
 //! ```rust
-//! // crates/spdx_meaning_rows/src/answers.rt
-//! match meaning_text(alloc, nodes) {
+//! // crates/spdx/src/expression/meaning.rt
+//! spdx_meaning_text::meaning_text(alloc, self.nodes())
 //! ```
 //!
 //! It stands on `spdx_meaning`, and its laws on those of `spdx_normal`.
