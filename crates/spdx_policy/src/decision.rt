@@ -22,7 +22,7 @@ pub enum Flag {
 }
 
 /// An entry of a policy: which list it stands in, and its place there, counted from 0.
-#[derive(Clone, Copy, Debug, PartialEq, Eq)]
+#[derive(Clone, Copy, Debug, PartialEq, Eq, PartialOrd, Ord)]
 pub enum Entry {
     /// Of `allow`.
     Allow(usize),
