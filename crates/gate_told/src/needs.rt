@@ -13,6 +13,8 @@ use std::alloc::{AllocError, Global};
 /// nothing makes pass that may be allowed, and for how many that wasn't sought. With the entries that are told in `allow`
 /// each refused package passes that something helps.
 ///
+/// Takes `n log n` comparisons of texts, for `n` entries of the advice on all packages.
+///
 /// # Errors
 ///
 /// Memory was refused, and the text is as it was.

@@ -10,3 +10,4 @@ pub mod Order
 pub mod Normal
 pub mod OneReport
 mod Needing
+mod Counted

@@ -12,3 +12,4 @@ pub mod Rearranged
 pub mod Alike
 pub mod Normal
 pub mod OneReport
+pub mod Counts

@@ -1,7 +1,20 @@
 //! What would make all refused packages pass.
 
-ghost use Rattle.std.specs.Prelude.{◌≡◌, IfOk, fold, map, string_bytes, count_by};
+ghost use Rattle.std.specs.Prelude.{
+  ◌≡◌,
+  ◌^◌,
+  ℕ,
+  List,
+  IfOk,
+  OnOk,
+  fold,
+  length,
+  map,
+  string_bytes,
+  count_by,
+};
 ghost use Rattle.std.specs.Option.{option_copied};
+ghost use Rattle.spdx_gate.specs.Counts.{CountsDifferent, CountsEach, Has, HasRoom, count_in};
 ghost use Rattle.spdx_gate.specs.Needs as spec;
 ghost use Rattle.spdx_gate.specs.Needs.{NeedsWork, need_entry, need_packages, texts_of};
 
@@ -9,6 +22,7 @@ use crate::advice::Advice;
 use crate::package::Verdict;
 use crate::report::{Report, Row};
 use std::alloc::{AllocError, Global};
+use std::collections::{BTreeMap, BTreeSet};
 
 /// An entry that refused packages need in `allow` to pass.
 #[derive(Debug, Drop)]
@@ -21,7 +35,8 @@ pub struct Need {
 impl Report<'_> {
     /// The entries that would make refused packages pass: those of each one's advice, each once, in
     /// the order of the packages that need them first, and how many need each. With all of them in
-    /// `allow` each refused package passes that something helps.
+    /// `allow` each refused package passes that something helps. Takes `n log n` comparisons of
+    /// texts, for `n` entries of all advice together.
     pub fn needs(&self, alloc: Global) -> Result<Vec<Need>, AllocError>
         ensures entries { IfOk result (λ needs.
             map need_entry needs.items ≡ spec.entries_needed self.now) }
@@ -30,24 +45,8 @@ impl Report<'_> {
         ensures works { IfOk result (λ needs. NeedsWork self.now needs.items) }
     {
         let entries = self.entries_needed(alloc)?;
-        let needs = self.counted(alloc, entries.as_slice())?;
-        Ok(needs)
-    }
-
-    // The entries with how many packages need each.
-    fn counted(&self, alloc: Global, entries: &[&str]) -> Result<Vec<Need>, AllocError>
-        ensures entries { IfOk result (λ needs.
-            map need_entry needs.items ≡ texts_of entries.now) }
-        ensures packages { IfOk result (λ needs. map need_packages needs.items
-            ≡ map (spec.packages_needing self.now) (texts_of entries.now)) }
-    {
-        let mut needs = Vec::new(alloc);
-        for entry in entries {
-            needs.push(Need {
-                entry: String::from_str(alloc, entry)?,
-                packages: self.packages_needing(entry),
-            })?;
-        }
+        let packages = self.packages_needing(alloc)?;
+        let needs = counted(alloc, entries.as_slice(), &packages)?;
         Ok(needs)
     }
 
@@ -56,22 +55,26 @@ impl Report<'_> {
         ensures { IfOk result (λ entries.
             texts_of entries.items ≡ spec.entries_needed self.now) }
     {
+        let mut met = BTreeSet::new(alloc);
         let mut entries = Vec::new(alloc);
         let rows = self.rows.as_slice();
         for row in rows {
-            add_new(self.needed_by(row), &mut entries)?;
+            add_new(self.needed_by(row), &mut met, &mut entries)?;
         }
         Ok(entries)
     }
 
-    // How many packages need that entry.
-    fn packages_needing(&self, entry: &str) -> usize
-        ensures { result ≡ spec.packages_needing self.now entry.now }
+    // How many packages need each entry.
+    fn packages_needing(&self, alloc: Global) -> Result<BTreeMap<&str, usize>, AllocError>
+        ensures { IfOk result (λ packages. (q : List ℕ) →
+            count_in packages q ≡ spec.packages_needing self.now q) }
     {
-        self.rows
-            .iter()
-            .filter(|row| is_among(self.needed_by(row), entry))
-            .count()
+        let mut packages = BTreeMap::new(alloc);
+        let rows = self.rows.as_slice();
+        for row in rows {
+            count_different(alloc, &mut packages, self.needed_by(row))?;
+        }
+        Ok(packages)
     }
 
     // The entries that a package needs.
@@ -122,48 +125,96 @@ impl Report<'_> {
     }
 }
 
-// Adds each of the texts that is new.
-fn add_new<'r>(texts: &'r [String], entries: &mut Vec<&'r str>) -> Result<(), AllocError>
-    ensures { IfOk result (λ _. texts_of entries.new.items
-        ≡ fold spec.with_text (texts_of entries.old.items) (map string_bytes texts.now)) }
+// The entries, each with how many packages need it.
+fn counted(
+    alloc: Global,
+    entries: &[&str],
+    packages: &BTreeMap<&str, usize>,
+) -> Result<Vec<Need>, AllocError>
+    ensures entries { IfOk result (λ needs.
+        map need_entry needs.items ≡ texts_of entries.now) }
+    ensures packages { IfOk result (λ needs.
+        map need_packages needs.items ≡ map (count_in packages.now) (texts_of entries.now)) }
+{
+    let mut needs = Vec::new(alloc);
+    for entry in entries {
+        needs.push(Need {
+            entry: String::from_str(alloc, entry)?,
+            packages: count_of(packages, entry),
+        })?;
+    }
+    Ok(needs)
+}
+
+fn count_of(counts: &BTreeMap<&str, usize>, text: &str) -> usize
+    ensures { result ≡ count_in counts.now text.now }
+{
+    counts.get(text).copied().unwrap_or(0)
+}
+
+// Counts each different one of the texts once more.
+fn count_different<'r>(
+    alloc: Global,
+    counts: &mut BTreeMap<&'r str, usize>,
+    texts: &'r [String],
+) -> Result<(), AllocError>
+    requires { HasRoom counts.old (2 ^ 63) }
+    ensures { OnOk result (CountsDifferent counts.old (map string_bytes texts.now) counts.new) }
+{
+    let mut met = BTreeSet::new(alloc);
+    let mut once = Vec::new(alloc);
+    add_new(texts, &mut met, &mut once)?;
+    count_each(counts, once.as_slice())?;
+    Ok(())
+}
+
+// Counts each of the texts once more.
+fn count_each<'r>(
+    counts: &mut BTreeMap<&'r str, usize>,
+    texts: &[&'r str],
+) -> Result<(), AllocError>
+    requires { HasRoom counts.old (length texts.now) }
+    ensures { OnOk result (CountsEach counts.old (texts_of texts.now) counts.new) }
 {
     for text in texts {
-        add_one(text.as_str(), entries)?;
+        *counts.entry(*text)?.or_insert(0) += 1;
     }
     Ok(())
 }
 
-fn add_one<'r>(text: &'r str, entries: &mut Vec<&'r str>) -> Result<(), AllocError>
-    ensures { IfOk result (λ _. texts_of entries.new.items
-        ≡ spec.with_text (texts_of entries.old.items) text.now) }
+// Adds each of the texts that is new. `met` has those that are there.
+fn add_new<'r>(
+    texts: &'r [String],
+    met: &mut BTreeSet<&'r str>,
+    once: &mut Vec<&'r str>,
+) -> Result<(), AllocError>
+    requires { Has met.old (texts_of once.old.items) }
+    ensures once { OnOk result (texts_of once.new.items
+        ≡ fold spec.with_text (texts_of once.old.items) (map string_bytes texts.now)) }
+    ensures met { OnOk result (Has met.new (texts_of once.new.items)) }
 {
-    if is_listed(entries.as_slice(), text) {
+    for text in texts {
+        add_one(text.as_str(), met, once)?;
+    }
+    Ok(())
+}
+
+fn add_one<'r>(
+    text: &'r str,
+    met: &mut BTreeSet<&'r str>,
+    once: &mut Vec<&'r str>,
+) -> Result<(), AllocError>
+    requires { Has met.old (texts_of once.old.items) }
+    ensures once { OnOk result (
+        texts_of once.new.items ≡ spec.with_text (texts_of once.old.items) text.now) }
+    ensures met { OnOk result (Has met.new (texts_of once.new.items)) }
+{
+    if met.contains(&text) {
         return Ok(());
     }
-    entries.push(text)?;
+    met.insert(text)?;
+    once.push(text)?;
     Ok(())
-}
-
-fn is_listed(entries: &[&str], text: &str) -> bool
-    ensures { result ≡ spec.is_among (texts_of entries.now) text.now }
-{
-    for other in entries {
-        if *other == text {
-            return true;
-        }
-    }
-    false
-}
-
-fn is_among(texts: &[String], text: &str) -> bool
-    ensures { result ≡ spec.is_among (map string_bytes texts.now) text.now }
-{
-    for other in texts {
-        if other.as_str() == text {
-            return true;
-        }
-    }
-    false
 }
 
 fn is_unmet(advice: Option<&Advice>) -> bool
