@@ -18,7 +18,7 @@ ghost use Rattle.gate_told.specs.Unused.{
 
 use crate::entries::{entry_text, exception_text, text_or_none};
 use gate_forms::put_unused;
-use spdx_gate::Report;
+use spdx_gate::{Report, Uses};
 use spdx_policy::{Entry, Policy};
 use std::alloc::{AllocError, Global};
 
@@ -38,7 +38,8 @@ pub(crate) enum EntryList {
 /// list in its own order. In the place of an exception that holds stand its entries that decided nothing. Where all is
 /// used nothing is said.
 ///
-/// Looks at each judgement for each entry, and at each package for each exception and clarification.
+/// Takes `n log n` steps, for `n` decisions of the report's judgements, exceptions of its packages and entries of the
+/// policy.
 ///
 /// # Errors
 ///
@@ -56,7 +57,8 @@ pub fn put_all_unused(
     ensures err { OnErr result (text.new.items ≡ text.old.items) }
     ensures silent { IsAllUsed policy.now report.now → text.new.items ≡ text.old.items }
 {
-    let unused = all_unused(alloc, policy, report)?;
+    let uses = Uses::of(alloc, report)?;
+    let unused = all_unused(alloc, policy, &uses)?;
     let names = names_of(alloc, &unused)?;
     put_unused(alloc, text, path, &names)
 }
@@ -75,18 +77,18 @@ pub(crate) fn names_of<'t>(alloc: Global, texts: &'t [String]) -> Result<Vec<&'t
 fn all_unused(
     alloc: Global,
     policy: &Policy<'_>,
-    report: &Report<'_>,
+    uses: &Uses<'_, '_>,
 ) -> Result<Vec<String>, AllocError>
     ensures { IfOk result (λ unused.
-        map string_bytes unused.items ≡ unused_of policy.now report.now) }
+        map string_bytes unused.items ≡ unused_of policy.now uses.now) }
 {
     let mut unused = Vec::new(alloc);
-    add_unused(alloc, &mut unused, policy, report, EntryList::Deny)?;
-    add_unused(alloc, &mut unused, policy, report, EntryList::DenyIf)?;
-    add_unused(alloc, &mut unused, policy, report, EntryList::Allow)?;
-    add_unused(alloc, &mut unused, policy, report, EntryList::AllowIf)?;
-    add_exceptions(alloc, &mut unused, policy, report)?;
-    add_clarifications(alloc, &mut unused, policy, report)?;
+    add_unused(alloc, &mut unused, policy, uses, EntryList::Deny)?;
+    add_unused(alloc, &mut unused, policy, uses, EntryList::DenyIf)?;
+    add_unused(alloc, &mut unused, policy, uses, EntryList::Allow)?;
+    add_unused(alloc, &mut unused, policy, uses, EntryList::AllowIf)?;
+    add_exceptions(alloc, &mut unused, policy, uses)?;
+    add_clarifications(alloc, &mut unused, policy, uses)?;
     Ok(unused)
 }
 
@@ -96,14 +98,14 @@ fn add_unused(
     alloc: Global,
     unused: &mut Vec<String>,
     policy: &Policy<'_>,
-    report: &Report<'_>,
+    uses: &Uses<'_, '_>,
     list: EntryList,
 ) -> Result<(), AllocError>
     ensures { OnOk result (map string_bytes unused.new.items
-        ≡ map string_bytes unused.old.items ++ unused_in policy.now report.now list) }
+        ≡ map string_bytes unused.old.items ++ unused_in policy.now uses.now list) }
 {
     for place in 0..list.len(policy) {
-        add_if_unused(alloc, unused, policy, report, list.entry(place))?;
+        add_if_unused(alloc, unused, policy, uses, list.entry(place))?;
     }
     Ok(())
 }
@@ -112,13 +114,13 @@ fn add_if_unused(
     alloc: Global,
     unused: &mut Vec<String>,
     policy: &Policy<'_>,
-    report: &Report<'_>,
+    uses: &Uses<'_, '_>,
     entry: Entry,
 ) -> Result<(), AllocError>
     ensures { OnOk result (map string_bytes unused.new.items
-        ≡ map string_bytes unused.old.items ++ unused_entry policy.now report.now entry) }
+        ≡ map string_bytes unused.old.items ++ unused_entry policy.now uses.now entry) }
 {
-    if report.is_entry_used(entry) {
+    if uses.is_entry_used(entry) {
         return Ok(());
     }
     unused.push(entry_text(alloc, policy, entry)?)?;
@@ -130,13 +132,13 @@ fn add_exceptions(
     alloc: Global,
     unused: &mut Vec<String>,
     policy: &Policy<'_>,
-    report: &Report<'_>,
+    uses: &Uses<'_, '_>,
 ) -> Result<(), AllocError>
     ensures { OnOk result (map string_bytes unused.new.items
-        ≡ map string_bytes unused.old.items ++ unused_exceptions policy.now report.now) }
+        ≡ map string_bytes unused.old.items ++ unused_exceptions policy.now uses.now) }
 {
     for table in 0..policy.exceptions_len() {
-        add_exception(alloc, unused, policy, report, table)?;
+        add_exception(alloc, unused, policy, uses, table)?;
     }
     Ok(())
 }
@@ -145,14 +147,14 @@ fn add_exception(
     alloc: Global,
     unused: &mut Vec<String>,
     policy: &Policy<'_>,
-    report: &Report<'_>,
+    uses: &Uses<'_, '_>,
     table: usize,
 ) -> Result<(), AllocError>
     ensures { OnOk result (map string_bytes unused.new.items
-        ≡ map string_bytes unused.old.items ++ unused_exception policy.now report.now table) }
+        ≡ map string_bytes unused.old.items ++ unused_exception policy.now uses.now table) }
 {
-    if report.is_exception_used(table) {
-        return add_unused(alloc, unused, policy, report, EntryList::Exception(table));
+    if uses.is_exception_used(table) {
+        return add_unused(alloc, unused, policy, uses, EntryList::Exception(table));
     }
     unused.push(exception_text(alloc, policy, table)?)?;
     Ok(())
@@ -163,13 +165,13 @@ fn add_clarifications(
     alloc: Global,
     unused: &mut Vec<String>,
     policy: &Policy<'_>,
-    report: &Report<'_>,
+    uses: &Uses<'_, '_>,
 ) -> Result<(), AllocError>
     ensures { OnOk result (map string_bytes unused.new.items
-        ≡ map string_bytes unused.old.items ++ unused_clarifications policy.now report.now) }
+        ≡ map string_bytes unused.old.items ++ unused_clarifications policy.now uses.now) }
 {
     for table in 0..policy.clarifications_len() {
-        add_clarification(alloc, unused, policy, report, table)?;
+        add_clarification(alloc, unused, policy, uses, table)?;
     }
     Ok(())
 }
@@ -178,13 +180,13 @@ fn add_clarification(
     alloc: Global,
     unused: &mut Vec<String>,
     policy: &Policy<'_>,
-    report: &Report<'_>,
+    uses: &Uses<'_, '_>,
     table: usize,
 ) -> Result<(), AllocError>
     ensures { OnOk result (map string_bytes unused.new.items
-        ≡ map string_bytes unused.old.items ++ unused_clarification policy.now report.now table) }
+        ≡ map string_bytes unused.old.items ++ unused_clarification policy.now uses.now table) }
 {
-    if report.is_clarification_used(table) {
+    if uses.is_clarification_used(table) {
         return Ok(());
     }
     unused.push(clarification_text(alloc, policy, table)?)?;

@@ -10,4 +10,5 @@ pub mod Order
 pub mod Normal
 pub mod OneReport
 mod Needing
+mod Sets
 mod Counted

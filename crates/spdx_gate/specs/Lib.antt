@@ -12,4 +12,6 @@ pub mod Rearranged
 pub mod Alike
 pub mod Normal
 pub mod OneReport
+pub mod Used
+pub mod UsesModel
 pub mod Counts

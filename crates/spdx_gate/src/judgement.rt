@@ -1,13 +1,11 @@
 //! What a policy says of one text.
 
 ghost use Rattle.std.specs.Prelude.{◌≡◌, [], IfOk, map};
-ghost use Rattle.std.specs.List.{list_any};
 ghost use Rattle.spdx_parser.specs.Tree.{leaves, node_of};
 ghost use Rattle.spdx_evaluation.specs.Postfix.{IsPostfix, tree_in};
 ghost use Rattle.spdx_evaluation.specs.Truth.{holds};
 ghost use Rattle.spdx_policy.specs.Decisions.{decision_of};
 ghost use Rattle.spdx_gate.specs.Judging as spec;
-ghost use Rattle.spdx_gate.specs.Reports as reports;
 ghost use Rattle.spdx_gate.specs.Allowing.{mark_of, allowed_in};
 ghost use Rattle.spdx_gate.specs.Advising.{IsAdvised};
 ghost use Rattle.spdx_gate.specs.Judging.{mode_of, IsOutcome};
@@ -24,7 +22,7 @@ use spdx_lexer::error::Reason;
 use spdx_lexer::token::ParseMode;
 use spdx_parser::node::{ExprNode, NodeList};
 use spdx_parser::parse_nodes;
-use spdx_policy::{Decision, Entry, Policy};
+use spdx_policy::{Decision, Policy};
 use spdx_why::{Mark, Remedy, is_accepted, least_allowed, missing};
 use std::alloc::{AllocError, Global};
 use std::ops::Range;
@@ -54,7 +52,6 @@ pub struct Judgement<'c> {
 
 impl Judgement<'_> {
     ghost use Rattle.std.specs.Prelude.{◌≡◌, true};
-    ghost use Rattle.spdx_gate.specs.Reports as reports;
     ghost use Rattle.spdx_gate.specs.Reports.{outcome_verdict, IsOf};
     ghost use Rattle.std.specs.Option.{option_copied};
     ghost use Rattle.spdx_gate.specs.Needs.{advice_of};
@@ -85,47 +82,6 @@ impl Judgement<'_> {
             Outcome::Judged(judged) => Some(&judged.advice),
             Outcome::Unreadable(_) => None,
         }
-    }
-
-    /// Whether the entry decided one of its requirements.
-    pub fn is_decided_by(&self, entry: Entry) -> bool
-        ensures { result ≡ reports.decided_in entry self.now.outcome }
-    {
-        match &self.outcome {
-            Outcome::Judged(judged) => is_among(entry, judged.decisions.as_slice()),
-            Outcome::Unreadable(_) => false,
-        }
-    }
-}
-
-// Whether the entry is the one that decided among these.
-fn is_among(entry: Entry, decisions: &[Decision]) -> bool
-    ensures { result ≡ list_any (reports.is_by entry) decisions.now }
-{
-    decisions.iter().any(|d| is_by(entry, *d))
-}
-
-// Whether the entry is the one that decided.
-fn is_by(entry: Entry, decision: Decision) -> bool
-    ensures { result ≡ reports.is_by entry decision }
-{
-    match decision {
-        Decision::Allowed(other) | Decision::Denied(other) => is_same(entry, other),
-        Decision::Open => false,
-    }
-}
-
-// Whether two entries are one.
-fn is_same(one: Entry, other: Entry) -> bool
-    ensures { result ≡ reports.same_entry one other }
-{
-    match (one, other) {
-        (Entry::Allow(i), Entry::Allow(j)) => i == j,
-        (Entry::AllowIf(i), Entry::AllowIf(j)) => i == j,
-        (Entry::Deny(i), Entry::Deny(j)) => i == j,
-        (Entry::DenyIf(i), Entry::DenyIf(j)) => i == j,
-        (Entry::Exception(s, i), Entry::Exception(t, j)) => s == t && i == j,
-        _ => false,
     }
 }
 

@@ -10,6 +10,7 @@ mod needs;
 mod package;
 mod report;
 mod totals;
+mod uses;
 
 pub use crate::advice::Advice;
 pub use crate::judged::Judged;
@@ -18,3 +19,4 @@ pub use crate::needs::Need;
 pub use crate::package::{Package, Verdict};
 pub use crate::report::{Report, Row, judge};
 pub use crate::totals::Totals;
+pub use crate::uses::Uses;

@@ -1,11 +1,11 @@
 //! What a policy says of packages.
 
 ghost use Rattle.std.specs.Prelude.{◌≡◌, ◌+◌, All, IfOk, length, count_by};
-ghost use Rattle.std.specs.List.{list_any, list_all};
+ghost use Rattle.std.specs.List.{list_all};
 ghost use Rattle.std.specs.Option.{option_copied};
 ghost use Rattle.spdx_gate.specs.Verdicts.{passes};
 ghost use Rattle.spdx_gate.specs.Reports as spec;
-ghost use Rattle.spdx_gate.specs.Reports.{IsRight, IsRow, IsReport, decided_in};
+ghost use Rattle.spdx_gate.specs.Reports.{IsRight, IsRow, IsReport};
 ghost use Rattle.spdx_gate.specs.Benches.{AddsFor, IsIndex};
 
 use crate::bench::place_of;
@@ -13,7 +13,7 @@ use crate::judgement::Judgement;
 use crate::package::{Package, Verdict};
 use crate::totals::Totals;
 use spdx_catalogue::Catalogue;
-use spdx_policy::{Entry, Policy};
+use spdx_policy::Policy;
 use std::alloc::{AllocError, Global};
 use std::collections::BTreeMap;
 
@@ -149,46 +149,5 @@ impl Report<'_> {
         ensures { result ≡ list_all (λ row. passes row.verdict) self.now.rows.items }
     {
         self.rows.iter().all(|row| row.verdict.is_allowed())
-    }
-
-    /// Whether the entry decided a requirement of some package. Looks at each judgement.
-    pub fn is_entry_used(&self, entry: Entry) -> bool
-        ensures { result ≡ list_any (λ j. decided_in entry j.outcome) self.now.judgements.items }
-    {
-        self.judgements.iter().any(|j| j.is_decided_by(entry))
-    }
-
-    /// Whether the exception holds for some package. Looks at each row.
-    pub fn is_exception_used(&self, table: usize) -> bool
-        ensures { result ≡ list_any (λ row. spec.has_exception table row) self.now.rows.items }
-    {
-        self.rows.iter().any(|row| row.has_exception(table))
-    }
-
-    /// Whether the clarification holds for some package, as the first that does. Looks at each row.
-    pub fn is_clarification_used(&self, table: usize) -> bool
-        ensures { result ≡ list_any (λ row. spec.has_clarification table row)
-            self.now.rows.items }
-    {
-        self.rows.iter().any(|row| row.has_clarification(table))
-    }
-}
-
-impl Row {
-    /// Whether the exception holds for the package.
-    pub fn has_exception(&self, table: usize) -> bool
-        ensures { result ≡ spec.has_exception table self.now }
-    {
-        self.exceptions.iter().any(|other| *other == table)
-    }
-
-    /// Whether the clarification stands for the package's licence.
-    pub fn has_clarification(&self, table: usize) -> bool
-        ensures { result ≡ spec.has_clarification table self.now }
-    {
-        match self.clarification {
-            Some(other) => other == table,
-            None => false,
-        }
     }
 }

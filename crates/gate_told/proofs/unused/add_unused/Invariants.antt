@@ -5,4 +5,4 @@ use Rattle.gate_told.proofs.unused.add_unused.Given as goal
 
 abbrev pub invariant-loop-place : goal.invariant-loop-place
 invariant-loop-place l =
-    map string_bytes l.unused.items ≡ map string_bytes l.initial.unused.items ++ flat_map (λ place. unused_entry l.policy l.report (entry_in l.list place)) (range_with_len 0 l.place)
+    map string_bytes l.unused.items ≡ map string_bytes l.initial.unused.items ++ flat_map (λ place. unused_entry l.policy l.uses (entry_in l.list place)) (range_with_len 0 l.place)
