@@ -1,6 +1,6 @@
 // The policy that packages are judged by.
 
-use crate::list::heirs;
+use crate::list;
 use crate::system::{System, bytes_of};
 use crate::trouble::Trouble;
 use spdx::{Catalogue, Failure};
@@ -26,7 +26,7 @@ pub(crate) fn policy<'c, R: System>(
 
 // What stands in the place of the list's deprecated names.
 fn heirs<'c>(alloc: Global, catalogue: &'c Catalogue) -> Result<Heirs<'c>, Trouble> {
-    let extras = heirs(alloc)?;
+    let extras = list::heirs(alloc)?;
     let mut rows = Vec::new(alloc);
     for row in &extras.instead {
         rows.push(Restated {
