@@ -16,9 +16,11 @@ pub record Source : Type 0 where
 -- nothing is written of an expression with nothing wrong
 abbrev pub found_text : Form → Bool → Source → Written → Option Wrong → List ℕ
 found_text form is_first source w None = []
-found_text form is_first source w (Some wrong) = finding_text form is_first (told_in source.path source.bytes w wrong)
+found_text form is_first source w (Some wrong) =
+    finding_text form is_first (told_in source.path source.bytes w wrong)
 
--- what is written of these: the finding of each that has one, of which the first may be the first of all
+-- what is written of these: the finding of each that has one, of which the first may be the first
+-- of all
 abbrev pub findings_text : (List ℕ → Option Wrong) → Form → Bool → Source → List Written → List ℕ
 findings_text finding form is_first source [] = []
 findings_text finding form is_first source (w ∷ ws) =
@@ -35,13 +37,16 @@ TellsEach finding form source ws text =
     (before : List Written) (w : Written) (behind : List Written) (wrong : Wrong) →
     ws ≡ before ++ w ∷ behind → finding w.text ≡ Some wrong →
     (front : List ℕ) × (is_first : Bool) × (back : List ℕ) ×
-    (text ≡ front ++ (finding_text form is_first (told_in source.path source.bytes w wrong) ++ back))
+    (text ≡ front ++ (finding_text form is_first (told_in source.path source.bytes w wrong) ++
+    back))
 
--- each of these expressions that has something wrong is told at its place in the file, in their order, and nothing else is;
--- how many they are, and how many have something wrong, is counted
-pub record ChecksWritten (check : Check) (is_first : Bool) (source : Source) (ws : List Written) (text : List ℕ) (summary : Summary) : Type 0 where
+-- each of these expressions that has something wrong is told at its place in the file, in their
+-- order, and nothing else is; how many they are, and how many have something wrong, is counted
+pub record ChecksWritten (check : Check) (is_first : Bool) (source : Source) (ws : List Written)
+    (text : List ℕ) (summary : Summary) : Type 0 where
   pub finding : List ℕ → Option Wrong
-  pub findings : (bytes : List ℕ) → IsTheFinding check.catalogue.now (heirs_in check) check.mode bytes (finding bytes)
+  pub findings : (bytes : List ℕ) →
+      IsTheFinding check.catalogue.now (heirs_in check) check.mode bytes (finding bytes)
   pub written : text ≡ findings_text finding check.form is_first source ws
   pub lines : summary.lines ≡ length ws
   pub refused : summary.refused ≡ refused_count finding ws

@@ -81,10 +81,19 @@ spot_at source at = record {
 -- what is told of a file that is no manifest of its form
 abbrev pub told_of_file : Source → Fault → Told
 told_of_file source fault =
-    told_whole (spot_at source fault.offset) (reason_text fault.reason) (part_seen source.bytes (fault_part source.bytes fault.offset))
+    told_whole (spot_at source fault.offset) (reason_text fault.reason)
+    (part_seen source.bytes (fault_part source.bytes fault.offset))
 
--- each expression that the manifest declares is checked at its place, in the order of their places; a file that isn't what
--- its form is written in is told itself, at the place of its fault, and counts as one expression
-pub data ChecksManifest (check : Check) (is_first : Bool) (form : Form) (source : Source) (text : List ℕ) (summary : Summary) : Type 0 where
-  declares : (sites ordered : List Site) → AreSites form source.bytes sites → AreOrdered sites ordered → ChecksWritten (check_in form check) is_first source (map declared_at ordered) text summary → ChecksManifest check is_first form source text summary
-  is_none : (fault : Fault) → IsReason source.bytes fault.reason → text ≡ finding_text check.form is_first (told_of_file source fault) → summary ≡ record { lines = 1; refused = 1 } → ChecksManifest check is_first form source text summary
+-- each expression that the manifest declares is checked at its place, in the order of their places;
+-- a file that isn't what its form is written in is told itself, at the place of its fault, and
+-- counts as one expression
+pub data ChecksManifest (check : Check) (is_first : Bool) (form : Form) (source : Source)
+    (text : List ℕ) (summary : Summary) : Type 0 where
+  declares : (sites ordered : List Site) → AreSites form source.bytes sites →
+      AreOrdered sites ordered →
+      ChecksWritten (check_in form check) is_first source (map declared_at ordered) text summary →
+      ChecksManifest check is_first form source text summary
+  is_none : (fault : Fault) → IsReason source.bytes fault.reason →
+      text ≡ finding_text check.form is_first (told_of_file source fault) →
+      summary ≡ record { lines = 1; refused = 1 } →
+      ChecksManifest check is_first form source text summary

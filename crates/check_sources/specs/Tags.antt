@@ -13,9 +13,11 @@ is_binary bytes = list_any (λ b. b == 0) (take 8192 bytes)
 
 -- the expression behind a tag, which is written as it is
 abbrev pub tagged_at : List ℕ → Tag → Written
-tagged_at bytes tag = record { start = tag.start; end = tag.end; text = slice_in bytes tag.start tag.end }
+tagged_at bytes tag =
+    record { start = tag.start; end = tag.end; text = slice_in bytes tag.start tag.end }
 
 -- those of a file; what is no text has none
 abbrev pub tagged : Source → List Written
 tagged source =
-    if is_binary source.bytes then [] else map (tagged_at source.bytes) (tags_of (comment_of source.path) source.bytes)
+    if is_binary source.bytes then []
+    else map (tagged_at source.bytes) (tags_of (comment_of source.path) source.bytes)

@@ -38,9 +38,11 @@ fault_in w fault =
     let from = min fault.from size in
     record { from = w.start + from; len = min fault.to size - from }
 
--- the fault is marked where the expression is written as it is; with escapes it isn't known where it stands, and all is marked
+-- the fault is marked where the expression is written as it is; with escapes it isn't known where
+-- it stands, and all is marked
 abbrev pub marked_part : List ℕ → Written → Span → Part
-marked_part bytes w fault = if bytes_eq (raw_of bytes w) w.text then fault_in w fault else whole_of w
+marked_part bytes w fault =
+    if bytes_eq (raw_of bytes w) w.text then fault_in w fault else whole_of w
 
 -- how a part of the file is seen
 abbrev pub part_seen : List ℕ → Part → Seen
@@ -56,4 +58,5 @@ spot_in path bytes w = record {
 
 -- what is told of an expression with something wrong in it
 abbrev pub told_in : List ℕ → List ℕ → Written → Wrong → Told
-told_in path bytes w wrong = told_by (spot_in path bytes w) wrong (part_seen bytes (marked_part bytes w wrong.place))
+told_in path bytes w wrong =
+    told_by (spot_in path bytes w) wrong (part_seen bytes (marked_part bytes w wrong.place))

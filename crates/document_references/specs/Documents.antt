@@ -31,8 +31,11 @@ documents_of documents = map document_of documents
 
 -- whether the document of that number has the reference
 abbrev pub Has : List (List PackageRow) → ℕ → List ℕ → Type 0
-Has documents number reference = (number < length documents) × Contains (references_of (slice_index_or documents number [])) reference
+Has documents number reference =
+    (number < length documents) ×
+    Contains (references_of (slice_index_or documents number [])) reference
 
 -- whether two documents have it
 abbrev pub Shared : List (List PackageRow) → List ℕ → Type 0
-Shared documents reference = (i : ℕ) × ((j : ℕ) × ((i < j) × Has documents i reference × Has documents j reference))
+Shared documents reference =
+    (i : ℕ) × ((j : ℕ) × ((i < j) × Has documents i reference × Has documents j reference))

@@ -1,4 +1,5 @@
--- References with the numbers of their documents, as the program holds them. Only private clauses cite them.
+-- References with the numbers of their documents, as the program holds them. Only private clauses
+-- cite them.
 use Rattle.std.specs.Prelude.{ℕ, suc, ◌≡◌, ◌≢◌, ◌⊎◌, Option, Some, List, [], ◌∷◌, ◌++◌, map, Contains}
 use Rattle.std.specs.Borrow.{Bor}
 use Rattle.std.specs.BTreeMap.{BTreeMap, get_by}
@@ -29,14 +30,17 @@ mentions_from document (d ∷ ds) = mentions_in document d ++ mentions_from (suc
 -- whether two documents mention it
 abbrev pub Twice : List MentionRow → List ℕ → Type 0
 Twice ms reference =
-    (d : ℕ) × ((e : ℕ) × ((d ≢ e) × Contains ms (mention d reference) × Contains ms (mention e reference)))
+    (d : ℕ) × ((e : ℕ) ×
+    ((d ≢ e) × Contains ms (mention d reference) × Contains ms (mention e reference)))
 
 -- the document that the map has for a reference
 abbrev pub first_of : BTreeMap (Bor (List ℕ)) ℕ → List ℕ → Option ℕ
 first_of documents reference = get_by (λ k. slice_cmp nat_cmp reference k.now) documents
 
--- what is noted of these mentions: for each reference a document that has it, and those references that two documents have
-pub record AreNoted (ms : List MentionRow) (first : List ℕ → Option ℕ) (told : List (List ℕ)) : Type 0 where
+-- what is noted of these mentions: for each reference a document that has it, and those references
+-- that two documents have
+pub record AreNoted (ms : List MentionRow) (first : List ℕ → Option ℕ)
+    (told : List (List ℕ)) : Type 0 where
   pub seen : (r : List ℕ) (d : ℕ) → Contains ms (mention d r) → (first r ≡ Some d) ⊎ Contains told r
   pub known : (r : List ℕ) (d : ℕ) → first r ≡ Some d → Contains ms (mention d r)
   pub only : (r : List ℕ) → Contains told r → Twice ms r

@@ -7,10 +7,12 @@ use Rattle.std.specs.Char.{is_ascii_alphanumeric}
 abbrev pub is_name_byte : ℕ → Bool
 is_name_byte b = is_ascii_alphanumeric b || ((b == 46) || (b == 45))
 
--- whether a reference begins where the text goes on so, behind that byte; behind a colon it is of a document that is named
+-- whether a reference begins where the text goes on so, behind that byte; behind a colon it is of a
+-- document that is named
 abbrev pub begins_behind : ℕ → List ℕ → Bool
 begins_behind before text =
-    starts_with nat_eq text (codes "LicenseRef-") && (not (is_name_byte before) && not (before == 58))
+    starts_with nat_eq text (codes "LicenseRef-") &&
+    (not (is_name_byte before) && not (before == 58))
 
 -- the references of a text that stands behind that byte: each is a whole name
 abbrev pub references_behind : ℕ → List ℕ → List (List ℕ)

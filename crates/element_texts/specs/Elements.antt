@@ -21,7 +21,8 @@ name_step name end text (Some behind) = element_step text (element_behind name e
 -- what stands at the front of a text that is not empty and goes up to the file's end
 abbrev pub step_at : List ℕ → ℕ → List ℕ → Step
 step_at name end text =
-    if comment_len text == 0 then name_step name end text (name_end name text) else record { element = None; read = comment_len text }
+    if comment_len text == 0 then name_step name end text (name_end name text)
+    else record { element = None; read = comment_len text }
 
 -- the elements in a text that goes up to the file's end, of which so many bytes are read already
 abbrev pub elements_from : List ℕ → ℕ → ℕ → List ℕ → List Element
@@ -34,9 +35,11 @@ elements_from name end zero (b ∷ bs) =
 abbrev pub elements_of : List ℕ → List ℕ → List Element
 elements_of name bytes = elements_from name (length bytes) 0 bytes
 
--- the elements lie between these places, in order and apart from one another, each text behind its attributes
+-- the elements lie between these places, in order and apart from one another, each text behind its
+-- attributes
 abbrev pub AreInOrder : ℕ → List Element → ℕ → Type 0
 AreInOrder low [] high = low ≤ high
 AreInOrder low (e ∷ elements) high =
-    (low ≤ e.attributes.start) × (e.attributes.start ≤ e.attributes.end) × (e.attributes.end ≤ e.text.start)
+    (low ≤ e.attributes.start) × (e.attributes.start ≤ e.attributes.end) ×
+    (e.attributes.end ≤ e.text.start)
     × (e.text.start ≤ e.text.end) × AreInOrder e.text.end elements high

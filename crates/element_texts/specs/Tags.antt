@@ -8,18 +8,21 @@ use Rattle.element_texts.specs.declared.Element.{Element}
 -- how many bytes there are up to the end of the mark; all of them where it doesn't occur
 abbrev pub through : List ℕ → List ℕ → ℕ
 through mark [] = 0
-through mark (b ∷ bs) = if starts_with nat_eq (b ∷ bs) mark then length mark else 1 + through mark bs
+through mark (b ∷ bs) =
+    if starts_with nat_eq (b ∷ bs) mark then length mark else 1 + through mark bs
 
 -- how long the comment or CDATA is that the text begins with, or 0
 abbrev pub comment_len : List ℕ → ℕ
 comment_len text =
     if starts_with nat_eq text (codes "<!--") then 4 + through (codes "-->") (drop 4 text)
-    else (if starts_with nat_eq text (codes "<![CDATA[") then 9 + through (codes "]]>") (drop 9 text) else 0)
+    else (if starts_with nat_eq text (codes "<![CDATA[") then 9 +
+    through (codes "]]>") (drop 9 text) else 0)
 
 -- what stands behind `<` and the name at the front of the text
 abbrev pub name_end : List ℕ → List ℕ → Option (List ℕ)
 name_end name [] = None
-name_end name (b ∷ bs) = if b == 60 && starts_with nat_eq bs name then Some (drop (length name) bs) else None
+name_end name (b ∷ bs) =
+    if b == 60 && starts_with nat_eq bs name then Some (drop (length name) bs) else None
 
 -- how long it is without the blanks at its end
 abbrev pub trimmed_len : List ℕ → ℕ
@@ -51,7 +54,8 @@ ends_element name (b ∷ c ∷ bs) =
     && (let rest = drop (length name) bs in starts_with nat_eq (drop (prefix_len is_ascii_whitespace rest) rest) (codes ">"))
 ends_element name bytes = false
 
--- the element with this tag and these bytes behind its `>`, and how many bytes are left behind its text
+-- the element with this tag and these bytes behind its `>`, and how many bytes are left behind its
+-- text
 abbrev pub element_in : List ℕ → ℕ → List ℕ → List ℕ → Option (Element × ℕ)
 element_in name end behind [] = None
 element_in name end behind (b ∷ inner) =

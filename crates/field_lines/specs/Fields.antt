@@ -27,7 +27,11 @@ list_read g end text =
 -- the one value that a text which ends at this place may begin with
 abbrev pub scalar_read : Grammar → ℕ → List ℕ → Place → Read
 scalar_read g end text place =
-    record { values = option_to_list (option_map (span_at (end - length text)) (scalar g false text)); place = place }
+    record {
+      values = option_to_list
+          (option_map (span_at (end - length text)) (scalar g false text));
+      place = place;
+    }
 
 -- only YAML has items
 abbrev pub has_items : Notation → Bool
@@ -41,13 +45,15 @@ begins_list notation (b ∷ bs) = has_quotes notation && b == opening notation
 
 -- nothing stands on the line but a comment
 abbrev pub is_passed : Grammar → List ℕ → Bool
-is_passed g line = length (behind_blanks line) == 0 || begins_comment g.comment.now (behind_blanks line)
+is_passed g line =
+    length (behind_blanks line) == 0 || begins_comment g.comment.now (behind_blanks line)
 
 -- the text behind a field's separator, which ends at this place
 abbrev pub text_read : Grammar → ℕ → List ℕ → Read
 text_read g end text =
     if begins_list g.notation text then list_read g end (drop 1 text)
-    else (if has_items g.notation && is_passed g text then record { values = []; place = Items } else scalar_read g end text Fields)
+    else (if has_items g.notation && is_passed g text then record { values = []; place = Items }
+    else scalar_read g end text Fields)
 
 -- a line of the field, or one that has nothing to do with it
 abbrev pub field_read : Grammar → ℕ → Option (List ℕ) → Read
@@ -80,8 +86,13 @@ begins_section section line = not (length section == 0) && starts_with nat_eq li
 abbrev pub line_read : Grammar → Place → ℕ → List ℕ → Read
 line_read g place end line =
     if g.is_header && is_empty_line line then record { values = []; place = Outside }
-    else (if begins_section g.section.now line then record { values = []; place = if starts_with nat_eq line g.section.now then Fields else Outside }
-    else (if is_passed g line then record { values = []; place = place } else place_read g place end line))
+    else (if begins_section g.section.now line
+    then record {
+      values = [];
+      place = if starts_with nat_eq line g.section.now then Fields else Outside;
+    }
+    else (if is_passed g line then record { values = []; place = place }
+    else place_read g place end line))
 
 -- the values in these lines, the first of which stands at this place and begins at this offset
 abbrev pub fields_from : Grammar → Place → ℕ → List (List ℕ) → List Span

@@ -19,12 +19,14 @@ begins_comment mark text = not (length mark == 0) && starts_with nat_eq text mar
 -- the text begins with this name, whose letters may be in either case if the flag says so
 abbrev pub begins_with_name : List ℕ → Bool → List ℕ → Bool
 begins_with_name name is_any_case text =
-    if is_any_case then str_eq_ignore_ascii_case (take (length name) text) name else starts_with nat_eq text name
+    if is_any_case then str_eq_ignore_ascii_case (take (length name) text) name
+    else starts_with nat_eq text name
 
 -- what stands behind a separator and blanks
 abbrev pub behind_separator : List ℕ → List ℕ → Option (List ℕ)
 behind_separator separators [] = None
-behind_separator separators (b ∷ bs) = if is_one_of separators b then Some (behind_blanks bs) else None
+behind_separator separators (b ∷ bs) =
+    if is_one_of separators b then Some (behind_blanks bs) else None
 
 -- where these bytes begin with the name: what stands behind it, blanks, a separator and blanks
 abbrev pub behind_name : Grammar → List ℕ → Option (List ℕ)
@@ -39,7 +41,8 @@ field_text g line = behind_name g (drop (prefix_len (is_one_of g.before.now) lin
 
 -- what stands behind a dash, a blank and more blanks
 abbrev pub behind_dash : List ℕ → Option (List ℕ)
-behind_dash (dash ∷ blank ∷ bs) = if dash == 45 && is_ascii_whitespace blank then Some (behind_blanks bs) else None
+behind_dash (dash ∷ blank ∷ bs) =
+    if dash == 45 && is_ascii_whitespace blank then Some (behind_blanks bs) else None
 behind_dash bytes = None
 
 -- where the line is an item `- TEXT`: its text

@@ -30,25 +30,29 @@ has_quotes _ = true
 abbrev pub is_quote : ℕ → Bool
 is_quote b = b == 34 || b == 39
 
--- a value without quotes may begin with this byte; in YAML not with `|`, `>`, `&`, `*`, `!`, `{` and `[`
+-- a value without quotes may begin with this byte; in YAML not with `|`, `>`, `&`, `*`, `!`, `{`
+-- and `[`
 abbrev pub is_plain : Notation → ℕ → Bool
 is_plain Line b = true
 is_plain Yaml b = not (b == 124 || b == 62 || b == 38 || b == 42 || b == 33 || b == 123 || b == 91)
 is_plain Shell b = true
 is_plain Quoted b = false
 
--- a value without quotes ends before this byte, behind which these stand: in YAML before a blank and a comment, and in a
--- list before `,` and `]`; in a shell before a blank, `)`, `;` and a backslash
+-- a value without quotes ends before this byte, behind which these stand: in YAML before a blank
+-- and a comment, and in a list before `,` and `]`; in a shell before a blank, `)`, `;` and a
+-- backslash
 abbrev pub ends_plain : Notation → List ℕ → Bool → ℕ → List ℕ → Bool
 ends_plain Line mark is_listed b bs = false
-ends_plain Yaml mark is_listed b bs = (is_listed && (b == 44 || b == 93)) || (is_ascii_whitespace b && begins_comment mark bs)
+ends_plain Yaml mark is_listed b bs =
+    (is_listed && (b == 44 || b == 93)) || (is_ascii_whitespace b && begins_comment mark bs)
 ends_plain Shell mark is_listed b bs = is_ascii_whitespace b || b == 41 || b == 59 || b == 92
 ends_plain Quoted mark is_listed b bs = false
 
 -- how many bytes stand before the end of a value without quotes
 abbrev pub plain_len : Grammar → Bool → List ℕ → ℕ
 plain_len g is_listed [] = 0
-plain_len g is_listed (b ∷ bs) = if ends_plain g.notation g.comment.now is_listed b bs then 0 else 1 + plain_len g is_listed bs
+plain_len g is_listed (b ∷ bs) =
+    if ends_plain g.notation g.comment.now is_listed b bs then 0 else 1 + plain_len g is_listed bs
 
 -- how long it is without the blanks at its end
 abbrev pub trimmed_len : List ℕ → ℕ
@@ -58,11 +62,13 @@ trimmed_len text = length text - suffix_len is_ascii_whitespace text
 abbrev pub quoted_len : ℕ → List ℕ → ℕ
 quoted_len quote bs = prefix_len (λ b. not (b == quote) && not (b == 92)) bs
 
--- the value behind a quote, up to the next such quote; none without one, or with a backslash before it
+-- the value behind a quote, up to the next such quote; none without one, or with a backslash before
+-- it
 abbrev pub quoted : ℕ → List ℕ → Option Extent
 quoted quote bs =
     let len = quoted_len quote bs in
-    if starts_with nat_eq (drop len bs) (quote ∷ []) then Some (record { before = 1; len = len; read = len + 2 }) else None
+    if starts_with nat_eq (drop len bs) (quote ∷ [])
+    then Some (record { before = 1; len = len; read = len + 2 }) else None
 
 -- the value without quotes that this text is or begins with, of its first byte and those behind it
 abbrev pub plain : Grammar → Bool → List ℕ → List ℕ → Extent
@@ -75,7 +81,8 @@ abbrev pub scalar : Grammar → Bool → List ℕ → Option Extent
 scalar g is_listed [] = None
 scalar g is_listed (b ∷ bs) =
     if has_quotes g.notation && is_quote b then quoted b bs
-    else (if is_plain g.notation b && not (begins_comment g.comment.now (b ∷ bs)) then Some (plain g is_listed (b ∷ bs) bs) else None)
+    else (if is_plain g.notation b && not (begins_comment g.comment.now (b ∷ bs))
+    then Some (plain g is_listed (b ∷ bs) bs) else None)
 
 -- a value and what is read of the text lie within so many bytes
 pub record IsWithin (len : ℕ) (s : Extent) : Type 0 where
@@ -116,14 +123,20 @@ pub record Listed : Type 0 where
   pub values : List Span
   pub is_open : Bool
 
--- the values from a piece on that stands there, by what is listed behind its first byte where so many more are read
+-- the values from a piece on that stands there, by what is listed behind its first byte where so
+-- many more are read
 abbrev pub listed_by : ℕ → (ℕ → Listed) → Piece → Listed
 listed_by start later Gap = later 0
-listed_by start later (Value s) = record { values = span_at start s ∷ (later (s.read - 1)).values; is_open = (later (s.read - 1)).is_open }
+listed_by start later (Value s) =
+    record {
+      values = span_at start s ∷ (later (s.read - 1)).values;
+      is_open = (later (s.read - 1)).is_open;
+    }
 listed_by start later (End is_open) = record { values = []; is_open = is_open }
 
 -- the values in the text of a list that ends at this place, of which so many bytes are read already
 abbrev pub listed : Grammar → ℕ → ℕ → List ℕ → Listed
 listed g end skip [] = record { values = []; is_open = true }
 listed g end (suc skip) (b ∷ bs) = listed g end skip bs
-listed g end zero (b ∷ bs) = listed_by (end - length (b ∷ bs)) (λ skip. listed g end skip bs) (next_piece g b (b ∷ bs))
+listed g end zero (b ∷ bs) =
+    listed_by (end - length (b ∷ bs)) (λ skip. listed g end skip bs) (next_piece g b (b ∷ bs))

@@ -1,4 +1,5 @@
--- A text that is shown round a place in it: a short one whole, and of a long one the characters near the place.
+-- A text that is shown round a place in it: a short one whole, and of a long one the characters
+-- near the place.
 use Rattle.std.specs.Prelude.{◌≡◌, ℕ, zero, suc, ◌+◌, ◌-◌, ◌≤◌, min, max, List, [], ◌∷◌, ◌++◌, Bool, false, ◌&&◌, nat_lt, nat_le, if◌then◌else◌, chars, codes, drop, length, replicate, slice_index, slice_range, take, IsCharBoundary}
 use Rattle.unicode_width.specs.Width.{str_width}
 use Rattle.foreign_text.specs.declared.sinks.Sink.TheVariants.{Line}
@@ -34,7 +35,8 @@ shown_from text start =
 
 abbrev pub shown_to : List ℕ → ℕ → ℕ
 shown_to text start =
-    if is_long text then last_place text (min (place_in text start + 120) (length text)) else length text
+    if is_long text then last_place text (min (place_in text start + 120) (length text))
+    else length text
 
 -- what is left out in front, what is shown, and what is left out behind
 abbrev pub front_of : List ℕ → ℕ → List ℕ
@@ -56,7 +58,8 @@ dots (b ∷ bs) = codes ".."
 -- the line stands two columns in
 abbrev pub excerpt_line : List ℕ → ℕ → List ℕ
 excerpt_line text start =
-    codes "  " ++ (dots (front_of text start) ++ (text_for Line (excerpt text start) ++ (dots (behind_of text start) ++ 10 ∷ [])))
+    codes "  " ++ (dots (front_of text start) ++
+    (text_for Line (excerpt text start) ++ (dots (behind_of text start) ++ 10 ∷ [])))
 
 -- ---- carets under the fault
 
@@ -70,7 +73,8 @@ shown_width text = width (text_for Line text)
 -- the line up to the fault
 abbrev pub head_of : List ℕ → ℕ → List ℕ
 head_of text start =
-    codes "  " ++ (dots (front_of text start) ++ text_for Line (slice_range text (shown_from text start) (place_in text start)))
+    codes "  " ++ (dots (front_of text start) ++
+    text_for Line (slice_range text (shown_from text start) (place_in text start)))
 
 -- where the fault ends, which is not before it begins, and the fault
 abbrev pub fault_end : List ℕ → ℕ → ℕ → ℕ
@@ -81,11 +85,13 @@ fault_in text start end = slice_range text (place_in text start) (fault_end text
 
 -- what is shown of the fault
 abbrev pub marked_of : List ℕ → ℕ → ℕ → List ℕ
-marked_of text start end = slice_range text (place_in text start) (min (fault_end text start end) (shown_to text start))
+marked_of text start end =
+    slice_range text (place_in text start) (min (fault_end text start end) (shown_to text start))
 
 -- so many carets, one at least, behind so many blanks
 abbrev pub carets_behind : Style → ℕ → ℕ → List ℕ
-carets_behind style blanks carets = replicate blanks 32 ++ painted style red (replicate (max 1 carets) 94)
+carets_behind style blanks carets =
+    replicate blanks 32 ++ painted style red (replicate (max 1 carets) 94)
 
 -- a blank for each column before the fault, and a caret for each of what is shown of it
 abbrev pub carets_under : Style → List ℕ → ℕ → ℕ → List ℕ
@@ -102,7 +108,8 @@ pub record IsPart (text : List ℕ) (start : ℕ) : Type 0 where
 
 -- a text of at most 200 bytes is shown whole
 abbrev pub IsShownWhole : List ℕ → ℕ → Type 0
-IsShownWhole text start = length text ≤ 200 → excerpt_line text start ≡ codes "  " ++ (text_for Line text ++ 10 ∷ [])
+IsShownWhole text start =
+    length text ≤ 200 → excerpt_line text start ≡ codes "  " ++ (text_for Line text ++ 10 ∷ [])
 
 -- a part that begins at the place and has at most 120 bytes is within what is shown
 abbrev pub ShowsFault : List ℕ → ℕ → Type 0
@@ -113,9 +120,11 @@ ShowsFault text start =
 -- the columns of the carets are those of what is shown of the fault
 abbrev pub StandsUnder : List ℕ → ℕ → ℕ → Type 0
 StandsUnder text start end =
-    (rest : List ℕ) × (excerpt_line text start ≡ head_of text start ++ (text_for Line (marked_of text start end) ++ rest))
+    (rest : List ℕ) × (excerpt_line text start ≡ head_of text start ++
+    (text_for Line (marked_of text start end) ++ rest))
 
 -- of a fault of at most 120 bytes all is marked
 abbrev pub MarksAll : List ℕ → ℕ → ℕ → Type 0
 MarksAll text start end =
-    fault_end text start end ≤ place_in text start + 120 → marked_of text start end ≡ fault_in text start end
+    fault_end text start end ≤ place_in text start + 120 →
+    marked_of text start end ≡ fault_in text start end

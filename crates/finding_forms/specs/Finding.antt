@@ -6,13 +6,15 @@ use Rattle.finding_forms.specs.declared.findings.Sight.{Sight}
 use Rattle.finding_forms.specs.declared.findings.Help.{Help}
 use Rattle.finding_forms.specs.declared.findings.Help.TheVariants.{Nothing, Write, Names}
 
--- what helps: nothing, the mended text, or names that may be meant and a word for the rule that gave them
+-- what helps: nothing, the mended text, or names that may be meant and a word for the rule that
+-- gave them
 pub data Aid : Type 0 where
   nothing : Aid
   write : List ℕ → Aid
   names : List (List ℕ) → List ℕ → Aid
 
--- where a fault is seen: the number of its line, its column, and a text with the fault from `start` up to `end`
+-- where a fault is seen: the number of its line, its column, and a text with the fault from `start`
+-- up to `end`
 pub record Seen : Type 0 where
   pub line : ℕ
   pub column : ℕ
@@ -20,7 +22,8 @@ pub record Seen : Type 0 where
   pub start : ℕ
   pub end : ℕ
 
--- what is told of an expression that is refused: where it begins, what is wrong in it, and where its fault is seen
+-- what is told of an expression that is refused: where it begins, what is wrong in it, and where
+-- its fault is seen
 pub record Told : Type 0 where
   pub file : List ℕ
   pub line : ℕ
@@ -39,7 +42,8 @@ begins_character b = nat_lt b 128 || nat_le 192 b
 
 -- the place in the text; one that is within a character or past the end stands for the end
 abbrev pub place_in : List ℕ → ℕ → ℕ
-place_in text at = if nat_le at (length text) && begins_character (slice_index text at) then at else length text
+place_in text at =
+    if nat_le at (length text) && begins_character (slice_index text at) then at else length text
 
 -- where a fault ends, which is not before it begins
 abbrev pub end_in : List ℕ → ℕ → ℕ → ℕ

@@ -17,7 +17,9 @@ use Rattle.finding_forms.specs.Sarif.{sarif_result}
 
 -- what is wrong, to the end of its line
 abbrev pub reason_text : Style → Told → List ℕ
-reason_text style t = codes ": " ++ (painted style red (codes "error") ++ (codes ": " ++ (text_for Line t.reason ++ 10 ∷ [])))
+reason_text style t =
+    codes ": " ++ (painted style red (codes "error") ++
+    (codes ": " ++ (text_for Line t.reason ++ 10 ∷ [])))
 
 -- the place, and what is wrong
 abbrev pub reason_line : Style → Told → List ℕ
@@ -29,11 +31,15 @@ caret_line style s = carets_under style s.text s.start s.end ++ 10 ∷ []
 
 abbrev pub help_line : Style → Aid → List ℕ
 help_line style aid =
-    if helps aid then codes "  " ++ (painted style cyan (codes "help") ++ (codes ": " ++ (help_text Line aid ++ 10 ∷ []))) else []
+    if helps aid then codes "  " ++
+    (painted style cyan (codes "help") ++ (codes ": " ++ (help_text Line aid ++ 10 ∷ [])))
+    else []
 
 abbrev pub human_text : Style → Told → List ℕ
 human_text style t =
-    reason_line style t ++ (excerpt_line t.seen.text t.seen.start ++ (caret_line style t.seen ++ help_line style t.aid))
+    reason_line style t ++
+    (excerpt_line t.seen.text t.seen.start ++
+    (caret_line style t.seen ++ help_line style t.aid))
 
 -- ---- a line each
 
@@ -46,12 +52,14 @@ short_text t = place_text Line t ++ (codes ": " ++ (message_text Line t ++ 10 �
 
 -- the line and the column of an error of a workflow
 abbrev pub github_place : Seen → List ℕ
-github_place s = codes ",line=" ++ (decimal s.line ++ (codes ",col=" ++ (decimal s.column ++ codes "::")))
+github_place s =
+    codes ",line=" ++ (decimal s.line ++ (codes ",col=" ++ (decimal s.column ++ codes "::")))
 
 -- an error of a workflow
 abbrev pub github_text : Told → List ℕ
 github_text t =
-    codes "::error file=" ++ (text_for Property t.file ++ (github_place t.seen ++ (message_text Command t ++ 10 ∷ [])))
+    codes "::error file=" ++
+    (text_for Property t.file ++ (github_place t.seen ++ (message_text Command t ++ 10 ∷ [])))
 
 -- ---- any form
 

@@ -1,4 +1,5 @@
--- A finding's text round the number of its line, which alone differs between the findings of one expression in one file.
+-- A finding's text round the number of its line, which alone differs between the findings of one
+-- expression in one file.
 use Rattle.std.specs.Prelude.{◌≡◌, ℕ, List, [], ◌∷◌, ◌++◌, Bool, true, false, codes, decimal, string_bytes}
 use Rattle.foreign_text.specs.declared.sinks.Sink.TheVariants.{Line}
 use Rattle.finding_forms.specs.declared.forms.Style.{Style}
@@ -22,7 +23,8 @@ framed frame line = string_bytes frame.before ++ (decimal line ++ string_bytes f
 
 -- with the number of any line in it the frame is the finding's text in that line
 abbrev pub IsFrame : Form → Told → Frame → Type 0
-IsFrame form t frame = (is_first : Bool) (line : ℕ) → finding_text form is_first (on_line t line) ≡ framed frame line
+IsFrame form t frame =
+    (is_first : Bool) (line : ℕ) → finding_text form is_first (on_line t line) ≡ framed frame line
 
 -- the forms whose findings have a frame
 abbrev pub has_frame : Form → Bool
@@ -43,7 +45,10 @@ column_human style t = 58 ∷ (decimal t.seen.column ++ paint_ends style)
 
 abbrev pub behind_human : Style → Told → List ℕ
 behind_human style t =
-    column_human style t ++ (reason_text style t ++ (excerpt_line t.seen.text t.seen.start ++ (caret_line style t.seen ++ help_line style t.aid)))
+    column_human style t ++
+    (reason_text style t ++
+    (excerpt_line t.seen.text t.seen.start ++
+    (caret_line style t.seen ++ help_line style t.aid)))
 
 abbrev pub before_short : List ℕ → List ℕ
 before_short file = text_for Line file ++ 58 ∷ []

@@ -9,13 +9,15 @@ abbrev pub texts_of : List (List ℕ) → Items
 texts_of [] = no_items
 texts_of (text ∷ texts) = item (string text) (texts_of texts)
 
--- the mended text as `fix`; or the names as `hints`, where there are any, and as `rule` what gave them
+-- the mended text as `fix`; or the names as `hints`, where there are any, and as `rule` what gave
+-- them
 abbrev pub aid_members : Aid → Members
 aid_members nothing = no_members
 aid_members (write mended) = member (codes "fix") (string mended) no_members
 aid_members (names [] rule) = no_members
 aid_members (names (first ∷ others) rule) =
-    member (codes "hints") (array (texts_of (first ∷ others))) (member (codes "rule") (string rule) no_members)
+    member (codes "hints") (array (texts_of (first ∷ others)))
+    (member (codes "rule") (string rule) no_members)
 
 -- the line and the column are those of the fault, `start` and `end` its bytes in the expression
 abbrev pub json_of : Told → Json

@@ -18,7 +18,8 @@ named how text = codes "`" ++ (text_for how text ++ codes "`")
 abbrev pub other_names : Sink → List (List ℕ) → List ℕ
 other_names how [] = []
 other_names how (last ∷ []) = codes " or " ++ named how last
-other_names how (name ∷ next ∷ others) = codes ", " ++ (named how name ++ other_names how (next ∷ others))
+other_names how (name ∷ next ∷ others) =
+    codes ", " ++ (named how name ++ other_names how (next ∷ others))
 
 -- the names as a question, where there are any
 abbrev pub names_text : Sink → List (List ℕ) → List ℕ
@@ -33,8 +34,10 @@ help_text how (names listed rule) = names_text how listed
 
 -- the reason, and behind it what helps
 abbrev pub message_text : Sink → Told → List ℕ
-message_text how t = text_for how t.reason ++ (if helps t.aid then codes "; " ++ help_text how t.aid else [])
+message_text how t =
+    text_for how t.reason ++ (if helps t.aid then codes "; " ++ help_text how t.aid else [])
 
 -- the file, the line and the column of the fault
 abbrev pub place_text : Sink → Told → List ℕ
-place_text how t = text_for how t.file ++ (58 ∷ (decimal t.seen.line ++ (58 ∷ decimal t.seen.column)))
+place_text how t =
+    text_for how t.file ++ (58 ∷ (decimal t.seen.line ++ (58 ∷ decimal t.seen.column)))

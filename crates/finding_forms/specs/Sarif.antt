@@ -21,7 +21,8 @@ region_members line column text more =
 -- that part, with its text
 abbrev pub region : ℕ → ℕ → List ℕ → Json
 region line column text =
-    object (region_members line column text (member (codes "snippet") (text_object text) no_members))
+    object (region_members line column text
+    (member (codes "snippet") (text_object text) no_members))
 
 -- the fault where it is seen, and the whole expression
 abbrev pub location : List ℕ → Told → Json
@@ -35,18 +36,21 @@ location path t =
 abbrev pub replacement : Told → List ℕ → Json
 replacement t mended =
     object
-    (member (codes "deletedRegion") (object (region_members t.line t.column t.expression no_members))
+    (member (codes "deletedRegion")
+    (object (region_members t.line t.column t.expression no_members))
     (member (codes "insertedContent") (text_object mended) no_members))
 
 abbrev pub fix : List ℕ → Told → List ℕ → Json
 fix path t mended =
     object (member (codes "artifactChanges") (array (item (object
     (member (codes "artifactLocation") (artifact path)
-    (member (codes "replacements") (array (item (replacement t mended) no_items)) no_members))) no_items)) no_members)
+    (member (codes "replacements") (array (item (replacement t mended) no_items)) no_members)))
+    no_items)) no_members)
 
 abbrev pub fixes_of : List ℕ → Told → Aid → Members
 fixes_of path t nothing = no_members
-fixes_of path t (write mended) = member (codes "fixes") (array (item (fix path t mended) no_items)) no_members
+fixes_of path t (write mended) =
+    member (codes "fixes") (array (item (fix path t mended) no_items)) no_members
 fixes_of path t (names listed rule) = no_members
 
 abbrev pub fix_members : List ℕ → Told → Members
@@ -69,7 +73,8 @@ sarif_result t = print (json_tokens (result_of t))
 
 abbrev pub region_tokens : ℕ → ℕ → List ℕ → List Token
 region_tokens line column text =
-    Token.key (codes "startLine") ∷ Token.number (decimal line) ∷ Token.key (codes "startColumn") ∷ Token.number (decimal column) ∷
+    Token.key (codes "startLine") ∷ Token.number (decimal line) ∷ Token.key (codes "startColumn") ∷
+    Token.number (decimal column) ∷
     Token.key (codes "endColumn") ∷ Token.number (decimal (column_behind column text)) ∷ []
 
 -- ---- the log as a whole
@@ -89,4 +94,5 @@ AreNumbered (t ∷ ts) = IsNumbered t × AreNumbered ts
 abbrev pub LogReadsBack : Type 0
 LogReadsBack =
     (version : List ℕ) (findings : List Told) → AreNumbered findings →
-    document (log_text version (map result_of findings)) ≡ Some (log_of version (map result_of findings))
+    document (log_text version (map result_of findings)) ≡ Some
+    (log_of version (map result_of findings))

@@ -16,7 +16,8 @@ artifact path = object (member (codes "uri") (string path) no_members)
 abbrev pub tool : List ℕ → Json
 tool version =
     object (member (codes "driver") (object
-    (member (codes "name") (string (codes "spdx")) (member (codes "version") (string version) no_members))) no_members)
+    (member (codes "name") (string (codes "spdx"))
+    (member (codes "version") (string version) no_members))) no_members)
 
 abbrev pub items_of : List Json → Items
 items_of [] = no_items
@@ -37,15 +38,21 @@ log_of version results =
 
 abbrev pub tool_tokens : List ℕ → List Token
 tool_tokens version =
-    Token.key (codes "tool") ∷ Token.begin_object ∷ Token.key (codes "driver") ∷ Token.begin_object ∷
-    Token.key (codes "name") ∷ Token.string (codes "spdx") ∷ Token.key (codes "version") ∷ Token.string version ∷ Token.end_object ∷ Token.end_object ∷ []
+    Token.key (codes "tool") ∷ Token.begin_object ∷ Token.key (codes "driver") ∷
+    Token.begin_object ∷
+    Token.key (codes "name") ∷ Token.string (codes "spdx") ∷ Token.key (codes "version") ∷
+    Token.string version ∷ Token.end_object ∷ Token.end_object ∷ []
 
 -- up to the first result; columns count characters
 abbrev pub beginning_tokens : List ℕ → List Token
 beginning_tokens version =
-    (Token.begin_object ∷ Token.key (codes "$schema") ∷ Token.string (codes "https://json.schemastore.org/sarif-2.1.0.json") ∷ Token.key (codes "version") ∷ Token.string (codes "2.1.0") ∷
-    Token.key (codes "runs") ∷ Token.begin_array ∷ Token.begin_object ∷ []) ++ (tool_tokens version ++
-    (Token.key (codes "columnKind") ∷ Token.string (codes "unicodeCodePoints") ∷ Token.key (codes "results") ∷ Token.begin_array ∷ []))
+    (Token.begin_object ∷ Token.key (codes "$schema") ∷
+    Token.string (codes "https://json.schemastore.org/sarif-2.1.0.json") ∷
+    Token.key (codes "version") ∷ Token.string (codes "2.1.0") ∷
+    Token.key (codes "runs") ∷ Token.begin_array ∷ Token.begin_object ∷ []) ++
+    (tool_tokens version ++
+    (Token.key (codes "columnKind") ∷ Token.string (codes "unicodeCodePoints") ∷
+    Token.key (codes "results") ∷ Token.begin_array ∷ []))
 
 abbrev pub sarif_beginning : List ℕ → List ℕ
 sarif_beginning version = print (beginning_tokens version)
@@ -60,7 +67,8 @@ sarif_ending = sarif_closing ++ 10 ∷ []
 -- the results, one behind the other
 abbrev pub results_text : Bool → List Json → List ℕ
 results_text is_first [] = []
-results_text is_first (j ∷ js) = ((if is_first then [] else 44 ∷ []) ++ print (json_tokens j)) ++ results_text false js
+results_text is_first (j ∷ js) =
+    ((if is_first then [] else 44 ∷ []) ++ print (json_tokens j)) ++ results_text false js
 
 -- all of it but for the newline
 abbrev pub log_text : List ℕ → List Json → List ℕ

@@ -7,4 +7,6 @@ counted count noun = decimal count ++ (32 ∷ (noun ++ (if count == 1 then [] el
 
 abbrev pub totals_text : ℕ → ℕ → ℕ → List ℕ
 totals_text expressions files refused =
-    counted expressions (codes "expression") ++ (codes " in " ++ (counted files (codes "file") ++ (codes ", " ++ (decimal refused ++ codes " refused\n"))))
+    counted expressions (codes "expression") ++
+    (codes " in " ++ (counted files (codes "file") ++
+    (codes ", " ++ (decimal refused ++ codes " refused\n"))))

@@ -31,8 +31,8 @@ abbrev pub IsGiven : List ℕ → ℕ → Option (Vec ℕ) → Type 0
 IsGiven new count (Some bytes) = (0 < count) × (bytes.items ≡ new)
 IsGiven new count None = count ≡ 0
 
--- each expression that has a fix is replaced by it, and something is left exactly if an expression that stands there then is
--- refused
+-- each expression that has a fix is replaced by it, and something is left exactly if an expression
+-- that stands there then is refused
 pub record IsFixed (c : Rows) (old : Marked) (fixed : FixedText) : Type 0 where
   pub new : Marked
   pub count : ℕ
@@ -55,10 +55,14 @@ pub record FixLaws (c : Rows) (old : Marked) (fixed : FixedText) : Type 0 where
   -- where its expressions stand then
   pub spans : List Span
   -- each expression stays or is replaced by its fix
-  pub each : AllZip (IsTextAfter c) (texts_in old) (texts_in (marked (bytes_after old.bytes fixed.bytes) spans))
+  pub each : AllZip (IsTextAfter c) (texts_in old)
+      (texts_in (marked (bytes_after old.bytes fixed.bytes) spans))
   -- where every expression reads, the text stays, and nothing is left
   pub needless : All (IsRead c) (texts_in old) → (fixed.bytes ≡ None) × (fixed.is_left ≡ false)
   -- where nothing is left, every expression reads that stands there then
-  pub whole : fixed.is_left ≡ false → All (IsRead c) (texts_in (marked (bytes_after old.bytes fixed.bytes) spans))
+  pub whole : fixed.is_left ≡ false →
+      All (IsRead c) (texts_in (marked (bytes_after old.bytes fixed.bytes) spans))
   -- fixed again, it stays, and the same is left
-  pub settled : (again : FixedText) → IsFixed c (marked (bytes_after old.bytes fixed.bytes) spans) again → (again.bytes ≡ None) × (again.is_left ≡ fixed.is_left)
+  pub settled : (again : FixedText) →
+      IsFixed c (marked (bytes_after old.bytes fixed.bytes) spans) again →
+      (again.bytes ≡ None) × (again.is_left ≡ fixed.is_left)

@@ -12,12 +12,14 @@ use Rattle.spdx_mend.specs.declared.Span.{Span}
 abbrev pub line_span : ℕ → List ℕ → List Span
 line_span offset line =
     let expression = expression_of line in
-    if is_blank expression then [] else record { start = offset; end = offset + length expression } ∷ []
+    if is_blank expression then []
+    else record { start = offset; end = offset + length expression } ∷ []
 
 -- the same of lines, the first of which begins at this offset
 abbrev pub spans_from : ℕ → List (List ℕ) → List Span
 spans_from offset [] = []
-spans_from offset (line ∷ lines) = line_span offset line ++ spans_from (offset + (length line + 1)) lines
+spans_from offset (line ∷ lines) =
+    line_span offset line ++ spans_from (offset + (length line + 1)) lines
 
 -- those of the lines of a text
 abbrev pub line_spans : List ℕ → List Span

@@ -17,15 +17,18 @@ is_blank b = b == 32
 -- the letter of C for a byte, or `"` and the backslash themselves; 0 where there is none
 abbrev pub letter_for : ℕ → ℕ
 letter_for b =
-    if b == 7 then 97 else if b == 8 then 98 else if b == 9 then 116 else if b == 10 then 110 else if b == 11 then 118
-    else if b == 12 then 102 else if b == 13 then 114 else if b == 34 then 34 else if b == 92 then 92 else 0
+    if b == 7 then 97 else if b == 8 then 98 else if b == 9 then 116 else if b == 10 then 110
+    else if b == 11 then 118
+    else if b == 12 then 102 else if b == 13 then 114 else if b == 34 then 34 else if b == 92
+    then 92 else 0
 
 -- three octal digits
 abbrev pub octal : ℕ → List ℕ
 octal b = (48 + b / 64) ∷ (48 + b / 8 % 8) ∷ (48 + b % 8) ∷ []
 
 abbrev pub quoted_byte : ℕ → List ℕ
-quoted_byte b = if is_plain b then b ∷ [] else 92 ∷ (if letter_for b == 0 then octal b else letter_for b ∷ [])
+quoted_byte b =
+    if is_plain b then b ∷ [] else 92 ∷ (if letter_for b == 0 then octal b else letter_for b ∷ [])
 
 abbrev pub quoted : List ℕ → List ℕ
 quoted name = 34 ∷ (flat_map quoted_byte name ++ 34 ∷ [])
@@ -47,8 +50,10 @@ header_name name = shown_name name ++ (tab_for name ++ 10 ∷ [])
 -- the byte that a letter stands for
 abbrev pub byte_of : ℕ → Option ℕ
 byte_of l =
-    if l == 97 then Some 7 else if l == 98 then Some 8 else if l == 116 then Some 9 else if l == 110 then Some 10 else if l == 118 then Some 11
-    else if l == 102 then Some 12 else if l == 114 then Some 13 else if l == 34 then Some 34 else if l == 92 then Some 92 else None
+    if l == 97 then Some 7 else if l == 98 then Some 8 else if l == 116 then Some 9 else if l == 110
+    then Some 10 else if l == 118 then Some 11
+    else if l == 102 then Some 12 else if l == 114 then Some 13 else if l == 34 then Some 34
+    else if l == 92 then Some 92 else None
 
 -- where a reader of quotes stands: between bytes, behind a backslash, or behind one or two digits
 pub data Quote : Type 0 where
@@ -68,10 +73,13 @@ read_letter letter rest = option_and_then (λ (b : ℕ). before_rest (b ∷ []) 
 abbrev pub read_quoted : Quote → List ℕ → Option (List ℕ)
 read_quoted place [] = None
 read_quoted between (b ∷ bs) =
-    if b == 34 then Some [] else if b == 92 then read_quoted behind_backslash bs else before_rest (b ∷ []) (read_quoted between bs)
+    if b == 34 then Some [] else if b == 92 then read_quoted behind_backslash bs
+    else before_rest (b ∷ []) (read_quoted between bs)
 read_quoted behind_backslash (b ∷ bs) =
-    if is_octal b then read_quoted (behind_digit (b - 48)) bs else read_letter (byte_of b) (read_quoted between bs)
-read_quoted (behind_digit n) (b ∷ bs) = if is_octal b then read_quoted (behind_digits (n * 8 + (b - 48))) bs else None
+    if is_octal b then read_quoted (behind_digit (b - 48)) bs
+    else read_letter (byte_of b) (read_quoted between bs)
+read_quoted (behind_digit n) (b ∷ bs) =
+    if is_octal b then read_quoted (behind_digits (n * 8 + (b - 48))) bs else None
 read_quoted (behind_digits n) (b ∷ bs) =
     if is_octal b then before_rest ((n * 8 + (b - 48)) ∷ []) (read_quoted between bs) else None
 

@@ -47,7 +47,8 @@ read_from between (b ∷ bs) =
     if b == 92 then read_from behind_backslash bs else before_rest (b ∷ []) (read_from between bs)
 read_from behind_backslash [] = None
 read_from behind_backslash (b ∷ bs) =
-    if b == 92 then before_rest (92 ∷ []) (read_from between bs) else if b == 117 then read_from behind_u bs else None
+    if b == 92 then before_rest (92 ∷ []) (read_from between bs) else if b == 117
+    then read_from behind_u bs else None
 read_from behind_u [] = None
 read_from behind_u (b ∷ bs) = if b == 123 then read_from (in_number 0) bs else None
 read_from (in_number n) [] = None
@@ -71,11 +72,13 @@ pub data Digit : Type 0 where
 abbrev pub read_percents : Digit → List ℕ → Option (List ℕ)
 read_percents no_digit [] = Some []
 read_percents no_digit (b ∷ bs) =
-    if b == 37 then read_percents first_digit bs else before_rest (b ∷ []) (read_percents no_digit bs)
+    if b == 37 then read_percents first_digit bs
+    else before_rest (b ∷ []) (read_percents no_digit bs)
 read_percents first_digit [] = None
 read_percents first_digit (b ∷ bs) = read_percents (second_digit (digit_value b)) bs
 read_percents (second_digit d) [] = None
-read_percents (second_digit d) (b ∷ bs) = before_rest ((d * 16 + digit_value b) ∷ []) (read_percents no_digit bs)
+read_percents (second_digit d) (b ∷ bs) =
+    before_rest ((d * 16 + digit_value b) ∷ []) (read_percents no_digit bs)
 
 abbrev pub read_uri : List ℕ → Option (List ℕ)
 read_uri text = read_percents no_digit text
@@ -85,7 +88,8 @@ read_uri text = read_percents no_digit text
 abbrev pub begins : List ℕ → List ℕ → Bool
 begins bs word = starts_with (λ (x : ℕ) (y : ℕ). x == y) bs word
 
--- what a command says: `%25`, `%0A` and `%0D`, and in a property `%3A` and `%2C`, are bytes; so many bytes further on
+-- what a command says: `%25`, `%0A` and `%0D`, and in a property `%3A` and `%2C`, are bytes; so
+-- many bytes further on
 abbrev pub read_marks : Bool → ℕ → List ℕ → List ℕ
 read_marks in_property skipped [] = []
 read_marks in_property (suc skipped) (b ∷ bs) = read_marks in_property skipped bs
@@ -125,7 +129,8 @@ read_message_from no_mark (b ∷ bs) =
     else before_rest (b ∷ []) (read_message_from no_mark bs)
 read_message_from (behind mark) [] = None
 read_message_from (behind mark) (b ∷ bs) =
-    option_and_then (λ (c : ℕ). before_rest (c ∷ []) (read_message_from no_mark bs)) (read_mark mark b)
+    option_and_then (λ (c : ℕ). before_rest (c ∷ []) (read_message_from no_mark bs))
+    (read_mark mark b)
 
 abbrev pub read_message : List ℕ → Option (List ℕ)
 read_message text = read_message_from no_mark text

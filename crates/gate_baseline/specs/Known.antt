@@ -16,4 +16,6 @@ IsEnough before now = All (λ known. known ≡ true) (map (is_known before) now)
 
 -- what is known stays known, where more was there before
 abbrev pub Grows : List Refusal → Type 0
-Grows before = (more : List Refusal) (r : Refusal) → is_known before r ≡ true → is_known (before ++ more) r ≡ true
+Grows before =
+    (more : List Refusal) (r : Refusal) → is_known before r ≡ true →
+    is_known (before ++ more) r ≡ true

@@ -8,7 +8,9 @@ use Rattle.gate_baseline.specs.declared.Refusal.{Refusal}
 use Rattle.gate_baseline.specs.Known.{is_known}
 
 abbrev pub refusal_cmp : Refusal → Refusal → Ordering
-refusal_cmp x y = ordering_then (slice_cmp nat_cmp x.name.now y.name.now) (slice_cmp nat_cmp x.license.now y.license.now)
+refusal_cmp x y =
+    ordering_then (slice_cmp nat_cmp x.name.now y.name.now)
+    (slice_cmp nat_cmp x.license.now y.license.now)
 
 -- a look-up in the set says of each refusal whether it is one of these
 abbrev pub Has : BTreeSet Refusal → List Refusal → Type 0

@@ -22,7 +22,8 @@ abbrev pub before_of : List ℕ → ℕ → List ℕ
 before_of text start = take (place_in text start) text
 
 abbrev pub marked_of : List ℕ → ℕ → ℕ → List ℕ
-marked_of text start end = slice_range text (place_in text start) (max (place_in text start) (place_in text end))
+marked_of text start end =
+    slice_range text (place_in text start) (max (place_in text start) (place_in text end))
 
 -- how many columns of a terminal a text takes as it is shown
 abbrev pub shown_width : List ℕ → ℕ
@@ -62,14 +63,16 @@ fault_line style text reason start end =
     carets_under style text start end ++ (32 ∷ (text_for Line reason ++ 10 ∷ []))
 
 abbrev pub leaf_line : Style → List ℕ → Leaf → List ℕ
-leaf_line style text leaf = caret_part style text leaf.start leaf.end ++ (leaf_decided Line leaf ++ 10 ∷ [])
+leaf_line style text leaf =
+    caret_part style text leaf.start leaf.end ++ (leaf_decided Line leaf ++ 10 ∷ [])
 
 -- how many more there are than twenty
 abbrev pub more_line : ℕ → List ℕ
 more_line n = if nat_le n 20 then [] else codes "  and " ++ (decimal (n - 20) ++ codes " more\n")
 
 abbrev pub leaf_lines : Style → List ℕ → List Leaf → List ℕ
-leaf_lines style text leaves = flat_map (leaf_line style text) (take 20 leaves) ++ more_line (length leaves)
+leaf_lines style text leaves =
+    flat_map (leaf_line style text) (take 20 leaves) ++ more_line (length leaves)
 
 abbrev pub advice_line : Advice → List ℕ
 advice_line advice = codes "  " ++ (advice_text Line advice ++ 10 ∷ [])
@@ -77,10 +80,12 @@ advice_line advice = codes "  " ++ (advice_text Line advice ++ 10 ∷ [])
 abbrev pub why_lines : Style → List ℕ → Why → List ℕ
 why_lines style text Nothing = []
 why_lines style text (Fault reason start end) = fault_line style text reason.now start end
-why_lines style text (Missing leaves advice) = leaf_lines style text leaves.now ++ advice_line advice
+why_lines style text (Missing leaves advice) =
+    leaf_lines style text leaves.now ++ advice_line advice
 
 abbrev pub reasons_text : Style → Report → List ℕ
-reasons_text style r = expression_line r.expression.now r.why ++ why_lines style r.expression.now r.why
+reasons_text style r =
+    expression_line r.expression.now r.why ++ why_lines style r.expression.now r.why
 
 abbrev pub refused_lines : Style → Report → List ℕ
 refused_lines style r = head_line style r ++ reasons_text style r
@@ -94,15 +99,19 @@ abbrev pub green : List ℕ
 green = codes "[1;32m"
 
 abbrev pub sign : Style → Bool → List ℕ
-sign style accepted = if accepted then painted style green (codes "+") else painted style red (codes "-")
+sign style accepted =
+    if accepted then painted style green (codes "+") else painted style red (codes "-")
 
 -- two blanks for each part that it stands in; deeper than 24, the number of them
 abbrev pub indent : ℕ → List ℕ
-indent depth = replicate (2 + 2 * min depth 24) 32 ++ (if nat_le depth 24 then [] else decimal depth ++ codes ": ")
+indent depth =
+    replicate (2 + 2 * min depth 24) 32 ++
+    (if nat_le depth 24 then [] else decimal depth ++ codes ": ")
 
 abbrev pub node_line : Style → Node → List ℕ
 node_line style node =
-    indent node.depth ++ (sign style (is_part_accepted node.part) ++ (32 ∷ (part_text Line node.part ++ 10 ∷ [])))
+    indent node.depth ++
+    (sign style (is_part_accepted node.part) ++ (32 ∷ (part_text Line node.part ++ 10 ∷ [])))
 
 abbrev pub closing_lines : Style → List ℕ → Why → List ℕ
 closing_lines style text Nothing = []
@@ -114,4 +123,6 @@ closing_text style r = closing_lines style r.expression.now r.why
 
 abbrev pub explained_text : Style → Report → List ℕ
 explained_text style r =
-    package_line style r ++ (expression_line r.expression.now r.why ++ (flat_map (node_line style) r.nodes.now ++ closing_text style r))
+    package_line style r ++
+    (expression_line r.expression.now r.why ++
+    (flat_map (node_line style) r.nodes.now ++ closing_text style r))

@@ -35,8 +35,11 @@ leaf_texts (leaf ∷ leaves) = item (string leaf.text.now) (leaf_texts leaves)
 -- `advice` stands there exactly where something helps, `advice_from` where that was not sought
 abbrev pub advice_members : Advice → Members
 advice_members Unmet = no_members
-advice_members (Allow names) = member (codes "advice") (array (texts_of (map (λ (x : Bor (List ℕ)). x.now) names.now))) no_members
-advice_members (NotSought entries) = member (codes "advice_from") (number (decimal entries)) no_members
+advice_members (Allow names) =
+    member (codes "advice") (array (texts_of (map (λ (x : Bor (List ℕ)). x.now) names.now)))
+    no_members
+advice_members (NotSought entries) =
+    member (codes "advice_from") (number (decimal entries)) no_members
 
 abbrev pub fault_members : List ℕ → ℕ → ℕ → Members
 fault_members reason start end =
@@ -47,7 +50,8 @@ fault_members reason start end =
 abbrev pub why_members : Why → Members
 why_members Nothing = no_members
 why_members (Fault reason start end) = fault_members reason.now start end
-why_members (Missing leaves advice) = member (codes "missing") (array (leaf_texts leaves.now)) (advice_members advice)
+why_members (Missing leaves advice) =
+    member (codes "missing") (array (leaf_texts leaves.now)) (advice_members advice)
 
 -- whether the refusal is known, before the other members; nothing where there is no baseline
 abbrev pub baseline_members : Baseline → Members → Members
@@ -62,7 +66,8 @@ json_of r =
     (member (codes "name") (string r.name.now)
     (member (codes "version") (version_json r.version)
     (member (codes "expression") (string r.expression.now)
-    (member (codes "verdict") (string (verdict_word r.verdict)) (baseline_members r.baseline (why_members r.why)))))))
+    (member (codes "verdict") (string (verdict_word r.verdict))
+    (baseline_members r.baseline (why_members r.why)))))))
 
 abbrev pub json_text : Report → List ℕ
 json_text r = print (json_tokens (json_of r))
@@ -77,7 +82,8 @@ json_lines r = if is_refused r.verdict then json_line r else []
 
 abbrev pub package_tokens : Report → List Token
 package_tokens r =
-    Token.key (codes "file") ∷ Token.string r.file.now ∷ Token.key (codes "name") ∷ Token.string r.name.now ∷ Token.key (codes "version") ∷ json_tokens (version_json r.version)
+    Token.key (codes "file") ∷ Token.string r.file.now ∷ Token.key (codes "name") ∷
+    Token.string r.name.now ∷ Token.key (codes "version") ∷ json_tokens (version_json r.version)
 
 abbrev pub state_tokens : List ℕ → List Token
 state_tokens state = Token.key (codes "baseline") ∷ Token.string state ∷ []

@@ -13,7 +13,8 @@ short_text r = if is_refused r.verdict then short_line r else []
 
 abbrev pub github_line : Report → List ℕ
 github_line r =
-    codes "::error file=" ++ (text_for Property r.file.now ++ (codes "::" ++ (message_text Command r ++ 10 ∷ [])))
+    codes "::error file=" ++
+    (text_for Property r.file.now ++ (codes "::" ++ (message_text Command r ++ 10 ∷ [])))
 
 abbrev pub github_text : Report → List ℕ
 github_text r = if is_refused r.verdict then github_line r else []

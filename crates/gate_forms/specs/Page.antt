@@ -1,4 +1,5 @@
--- Verdicts as a page of HTML. How a text of others is put is a parameter, so that it can be said what such texts add.
+-- Verdicts as a page of HTML. How a text of others is put is a parameter, so that it can be said
+-- what such texts add.
 use Rattle.std.specs.Prelude.{ℕ, min, List, [], ◌∷◌, ◌++◌, Bool, nat_le, if◌then◌else◌, codes, decimal, flat_map}
 use Rattle.html_text.specs.Text.{is_mark}
 use Rattle.foreign_text.specs.declared.sinks.Sink.TheVariants.{Line}
@@ -26,7 +27,8 @@ expression_part w text = element w (codes "<pre>") text (codes "</pre>\n")
 
 -- a sign besides the colour
 abbrev pub sign_part : Bool → List ℕ
-sign_part accepted = if accepted then codes "\" class=\"yes\"><b>+</b> " else codes "\" class=\"no\"><b>-</b> "
+sign_part accepted =
+    if accepted then codes "\" class=\"yes\"><b>+</b> " else codes "\" class=\"no\"><b>-</b> "
 
 -- parts deeper than 24 are indented as those of 24, and their depth is told
 abbrev pub depth_part : ℕ → List ℕ
@@ -34,18 +36,23 @@ depth_part depth = if nat_le depth 24 then [] else decimal depth ++ codes ": "
 
 abbrev pub node_begins : Node → List ℕ
 node_begins node =
-    codes "<li style=\"--d:" ++ (decimal (min node.depth 24) ++ (sign_part (is_part_accepted node.part) ++ depth_part node.depth))
+    codes "<li style=\"--d:" ++
+    (decimal (min node.depth 24) ++
+    (sign_part (is_part_accepted node.part) ++ depth_part node.depth))
 
 abbrev pub node_part : (List ℕ → List ℕ) → Node → List ℕ
 node_part w node = node_begins node ++ (w (part_text Line node.part) ++ codes "</li>\n")
 
 abbrev pub tree_part : (List ℕ → List ℕ) → List Node → List ℕ
-tree_part w nodes = codes "<ul class=\"tree\">\n" ++ (flat_map (node_part w) nodes ++ codes "</ul>\n")
+tree_part w nodes =
+    codes "<ul class=\"tree\">\n" ++ (flat_map (node_part w) nodes ++ codes "</ul>\n")
 
 abbrev pub why_part : (List ℕ → List ℕ) → Why → List ℕ
 why_part w Nothing = []
-why_part w (Fault reason start end) = element w (codes "<p class=\"no\">") reason.now (codes "</p>\n")
-why_part w (Missing leaves advice) = element w (codes "<p class=\"advice\">") (advice_text Line advice) (codes "</p>\n")
+why_part w (Fault reason start end) =
+    element w (codes "<p class=\"no\">") reason.now (codes "</p>\n")
+why_part w (Missing leaves advice) =
+    element w (codes "<p class=\"advice\">") (advice_text Line advice) (codes "</p>\n")
 
 -- whether the refusal is known, where there is a baseline
 abbrev pub news_part : Baseline → List ℕ
@@ -63,22 +70,26 @@ head_part w r =
 
 abbrev pub refused_part : (List ℕ → List ℕ) → Report → List ℕ
 refused_part w r =
-    head_part w r ++ (expression_part w r.expression.now ++ (tree_part w r.nodes.now ++ (why_part w r.why ++ codes "</article>\n")))
+    head_part w r ++ (expression_part w r.expression.now ++
+    (tree_part w r.nodes.now ++ (why_part w r.why ++ codes "</article>\n")))
 
 -- ---- other packages
 
 abbrev pub item_sign : Bool → List ℕ
-item_sign accepted = if accepted then codes "<li class=\"yes\"><b>+</b> " else codes "<li class=\"no\"><b>-</b> "
+item_sign accepted =
+    if accepted then codes "<li class=\"yes\"><b>+</b> " else codes "<li class=\"no\"><b>-</b> "
 
 abbrev pub unstated_part : (List ℕ → List ℕ) → Bool → Report → List ℕ
 unstated_part w allowed r =
     element w (item_sign allowed) (package_text Line r) (codes " ") ++
-    (news_part r.baseline ++ element w (codes "<span class=\"file\">") r.file.now (codes "</span></li>\n"))
+    (news_part r.baseline ++
+    element w (codes "<span class=\"file\">") r.file.now (codes "</span></li>\n"))
 
 abbrev pub allowed_part : (List ℕ → List ℕ) → Report → List ℕ
 allowed_part w r =
     element w (codes "<li class=\"yes\"><b>+</b> ") (package_text Line r) (codes ": ") ++
-    (element w [] r.expression.now (codes " ") ++ element w (codes "<span class=\"file\">") (verdict_text Line r) (codes "</span></li>\n"))
+    (element w [] r.expression.now (codes " ") ++
+    element w (codes "<span class=\"file\">") (verdict_text Line r) (codes "</span></li>\n"))
 
 -- ---- the page
 
@@ -108,23 +119,27 @@ refused_section w totals reports =
 
 abbrev pub unstated_section : (List ℕ → List ℕ) → Totals → List Report → List ℕ
 unstated_section w totals reports =
-    codes "<section>\n<h2>Without a licence: " ++ (decimal totals.unstated ++ (codes "</h2>\n<ul>\n" ++
+    codes "<section>\n<h2>Without a licence: " ++
+    (decimal totals.unstated ++ (codes "</h2>\n<ul>\n" ++
     (flat_map (λ r. in_unstated w r r.verdict) reports ++ codes "</ul>\n</section>\n")))
 
 abbrev pub allowed_section : (List ℕ → List ℕ) → Totals → List Report → List ℕ
 allowed_section w totals reports =
-    codes "<details>\n<summary><h2>Allowed: " ++ (decimal totals.allowed ++ (codes "</h2></summary>\n<ul>\n" ++
+    codes "<details>\n<summary><h2>Allowed: " ++
+    (decimal totals.allowed ++ (codes "</h2></summary>\n<ul>\n" ++
     (flat_map (λ r. in_allowed w r r.verdict) reports ++ codes "</ul>\n</details>\n")))
 
 abbrev pub title_part : (List ℕ → List ℕ) → List ℕ → Totals → List ℕ
 title_part w policy totals =
-    element w (codes "<h1>Licences by ") policy (codes "</h1>\n") ++ element w (codes "<p>") (totals_words totals) (codes "</p>\n")
+    element w (codes "<h1>Licences by ") policy (codes "</h1>\n") ++
+    element w (codes "<p>") (totals_words totals) (codes "</p>\n")
 
 -- the page, refused packages first
 abbrev pub page_with : (List ℕ → List ℕ) → List ℕ → Totals → List Report → List ℕ
 page_with w policy totals reports =
     page_top ++ (title_part w policy totals ++ (refused_section w totals reports ++
-    (unstated_section w totals reports ++ (allowed_section w totals reports ++ codes "</main>\n</body>\n</html>\n"))))
+    (unstated_section w totals reports ++
+    (allowed_section w totals reports ++ codes "</main>\n</body>\n</html>\n"))))
 
 -- ---- what texts of others add
 

@@ -78,7 +78,8 @@ abbrev pub name_text : Sink → Bor (List ℕ) → List ℕ
 name_text how name = text_for how name.now
 
 abbrev pub not_sought_text : ℕ → List ℕ
-not_sought_text entries = codes "what makes it pass was not sought among " ++ (decimal entries ++ codes " entries")
+not_sought_text entries =
+    codes "what makes it pass was not sought among " ++ (decimal entries ++ codes " entries")
 
 abbrev pub advice_text : Sink → Advice → List ℕ
 advice_text how Unmet = codes "nothing that may be allowed makes it pass"
@@ -94,7 +95,8 @@ why_text how (Missing leaves advice) =
 
 -- the package, the verdict and why
 abbrev pub message_text : Sink → Report → List ℕ
-message_text how r = package_text how r ++ (codes ": " ++ (verdict_text how r ++ why_text how r.why))
+message_text how r =
+    package_text how r ++ (codes ": " ++ (verdict_text how r ++ why_text how r.why))
 
 -- the operator, or the requirement and what decided it
 abbrev pub part_text : Sink → Part → List ℕ

@@ -17,13 +17,18 @@ use Rattle.gate_forms.specs.Report.{is_refused, message_text}
 abbrev pub location : Report → Json
 location r =
     object (member (codes "physicalLocation") (object
-    (member (codes "artifactLocation") (artifact (text_for Path r.file.now)) no_members)) no_members)
+    (member (codes "artifactLocation") (artifact (text_for Path r.file.now)) no_members))
+    no_members)
 
 -- how much it counts, before the other members; with a baseline, whether it is known
 abbrev pub level_members : Baseline → Members → Members
 level_members Absent more = member (codes "level") (string (codes "error")) more
-level_members New more = member (codes "level") (string (codes "error")) (member (codes "baselineState") (string (codes "new")) more)
-level_members Known more = member (codes "level") (string (codes "note")) (member (codes "baselineState") (string (codes "unchanged")) more)
+level_members New more =
+    member (codes "level") (string (codes "error"))
+    (member (codes "baselineState") (string (codes "new")) more)
+level_members Known more =
+    member (codes "level") (string (codes "note"))
+    (member (codes "baselineState") (string (codes "unchanged")) more)
 
 abbrev pub result_of : Report → Json
 result_of r =
@@ -48,7 +53,8 @@ text_tokens key text = Token.key key ∷ Token.string text ∷ []
 
 abbrev pub state_tokens : List ℕ → List ℕ → List Token
 state_tokens level state =
-    Token.key (codes "level") ∷ Token.string level ∷ Token.key (codes "baselineState") ∷ Token.string state ∷ []
+    Token.key (codes "level") ∷ Token.string level ∷ Token.key (codes "baselineState") ∷
+    Token.string state ∷ []
 
 abbrev pub level_tokens : Baseline → List Token
 level_tokens Absent = text_tokens (codes "level") (codes "error")
@@ -59,4 +65,5 @@ level_tokens Known = state_tokens (codes "note") (codes "unchanged")
 abbrev pub LogReadsBack : Type 0
 LogReadsBack =
     (version : List ℕ) (refused : List Report) →
-    document (log_text version (map result_of refused)) ≡ Some (log_of version (map result_of refused))
+    document (log_text version (map result_of refused)) ≡ Some
+    (log_of version (map result_of refused))

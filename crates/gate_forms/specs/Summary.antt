@@ -8,14 +8,17 @@ use Rattle.gate_forms.specs.declared.reports.Summary.{Summary}
 
 -- an entry, and how many packages it serves; the first says what is counted
 abbrev pub first_need : Need → List ℕ
-first_need n = text_for Line n.entry.now ++ (codes " (" ++ (counted n.packages (codes "package") ++ codes ")"))
+first_need n =
+    text_for Line n.entry.now ++ (codes " (" ++ (counted n.packages (codes "package") ++ codes ")"))
 
 abbrev pub next_need : Need → List ℕ
-next_need n = codes ", " ++ (text_for Line n.entry.now ++ (codes " (" ++ (decimal n.packages ++ codes ")")))
+next_need n =
+    codes ", " ++ (text_for Line n.entry.now ++ (codes " (" ++ (decimal n.packages ++ codes ")")))
 
 abbrev pub needs_line : List Need → List ℕ
 needs_line [] = []
-needs_line (n ∷ ns) = codes "to pass all: allow " ++ (first_need n ++ (flat_map next_need ns ++ 10 ∷ []))
+needs_line (n ∷ ns) =
+    codes "to pass all: allow " ++ (first_need n ++ (flat_map next_need ns ++ 10 ∷ []))
 
 -- so many packages, and words behind them; nothing where there are none
 abbrev pub count_line : ℕ → List ℕ → List ℕ

@@ -25,4 +25,5 @@ refusal_told style earlier t later =
 
 abbrev pub refusals_told : Style → List Told → List Told → List ℕ
 refusals_told style earlier [] = []
-refusals_told style earlier (t ∷ ts) = refusal_told style earlier t ts ++ refusals_told style (earlier ++ t ∷ []) ts
+refusals_told style earlier (t ∷ ts) =
+    refusal_told style earlier t ts ++ refusals_told style (earlier ++ t ∷ []) ts

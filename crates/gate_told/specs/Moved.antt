@@ -12,7 +12,14 @@ use Rattle.gate_forms.specs.declared.reports.Why.TheVariants as why
 use Rattle.gate_told.specs.Borrowed.{borrowed}
 
 abbrev pub moved : Leaf → Leaf
-moved x = record { text = borrowed x.text.now; start = x.start; end = x.end; mark = x.mark; by = borrowed x.by.now }
+moved x =
+    record {
+      text = borrowed x.text.now;
+      start = x.start;
+      end = x.end;
+      mark = x.mark;
+      by = borrowed x.by.now;
+    }
 
 abbrev pub moved_part : Part → Part
 moved_part (part.License x) = part.License (moved x)

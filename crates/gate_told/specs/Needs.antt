@@ -17,7 +17,8 @@ told_packages n = n.packages
 abbrev pub need_of : (List ℕ → ℕ) → List ℕ → Need
 need_of packages text = record { entry = borrowed text; packages = packages text }
 
--- the entries that packages need, how many packages nothing helps, and for how many it wasn't sought
+-- the entries that packages need, how many packages nothing helps, and for how many it wasn't
+-- sought
 abbrev pub summary_of : Report → Summary
 summary_of report = record {
   needs = borrowed (map (need_of (packages_needing report)) (entries_needed report));
@@ -27,4 +28,5 @@ summary_of report = record {
 
 -- with the entries that are told in `allow` each refused package passes that something helps
 abbrev pub TellsEnough : Report → Type 0
-TellsEnough report = (needs : List gate.Need) → map need_entry needs ≡ entries_needed report → NeedsWork report needs
+TellsEnough report =
+    (needs : List gate.Need) → map need_entry needs ≡ entries_needed report → NeedsWork report needs

@@ -68,13 +68,17 @@ abbrev pub row_told : List ℕ → List Telling → NamedPackage → Baseline �
 row_told policy ts x baseline None = []
 row_told policy ts x baseline (Some row) = report_of policy ts x row baseline ∷ []
 
--- packages of which the first has that number, each with the row of its number; one without a row isn't told
-abbrev pub reports_from : List ℕ → List Telling → List Row → Option (Bor (List Bool)) → ℕ → List NamedPackage → List Report
+-- packages of which the first has that number, each with the row of its number; one without a row
+-- isn't told
+abbrev pub reports_from : List ℕ → List Telling → List Row → Option (Bor (List Bool)) → ℕ →
+    List NamedPackage → List Report
 reports_from policy ts rows known number [] = []
 reports_from policy ts rows known number (x ∷ xs) =
-    row_told policy ts x (state_at known number) (slice_get rows number) ++ reports_from policy ts rows known (suc number) xs
+    row_told policy ts x (state_at known number) (slice_get rows number) ++
+    reports_from policy ts rows known (suc number) xs
 
-abbrev pub reports_of : List ℕ → List Telling → List Row → Option (Bor (List Bool)) → List NamedPackage → List Report
+abbrev pub reports_of : List ℕ → List Telling → List Row → Option (Bor (List Bool)) →
+    List NamedPackage → List Report
 reports_of policy ts rows known xs = reports_from policy ts rows known 0 xs
 
 -- wherever its texts lie
@@ -111,7 +115,8 @@ is_told_refused r = is_refused r.verdict
 abbrev pub is_row_refused : Row → Bool
 is_row_refused row = not (passes row.verdict)
 
--- of as many packages as rows each is told, by its own file and name, and as refused exactly if its row is
+-- of as many packages as rows each is told, by its own file and name, and as refused exactly if its
+-- row is
 pub record AreTold (xs : List NamedPackage) (rows : List Row) (rs : List Report) : Type 0 where
   pub each : length rs ≡ length xs
   pub files : map report_file rs ≡ map package_file xs

@@ -11,8 +11,8 @@ use Rattle.gate_told.specs.declared.reading.Waiting.{Waiting}
 use Rattle.gate_told.specs.declared.reading.Waiting.TheVariants.{Both, Left}
 use Rattle.gate_told.specs.Shown.{is_leaf_accepted, operator_part}
 
--- the leaves that weren't read, the last one first; the operators that wait, the innermost first; and the parts, as they
--- are shown
+-- the leaves that weren't read, the last one first; the operators that wait, the innermost first;
+-- and the parts, as they are shown
 pub record State : Type 0 where
   pub left : List Leaf
   pub waiting : List Waiting
@@ -36,14 +36,16 @@ abbrev pub ended : List Leaf → Bool → List Waiting → List Node → State
 ended xs accepted [] ns = state xs [] ns
 ended xs accepted (Both o ∷ ws) ns = state xs (Left o accepted ∷ ws) ns
 ended xs accepted (Left o right ∷ ws) ns =
-    ended xs (joined o accepted right) ws (record { depth = length ws; part = operator_part o (joined o accepted right) } ∷ ns)
+    ended xs (joined o accepted right) ws
+    (record { depth = length ws; part = operator_part o (joined o accepted right) } ∷ ns)
 
 abbrev pub operand_read : Bool → State → State
 operand_read accepted s = ended s.left accepted s.waiting s.parts
 
 abbrev pub leaf_from : List Leaf → List Waiting → List Node → State
 leaf_from [] ws ns = state [] ws ns
-leaf_from (x ∷ xs) ws ns = operand_read (is_leaf_accepted x) (part_put (part.License x) (state xs ws ns))
+leaf_from (x ∷ xs) ws ns =
+    operand_read (is_leaf_accepted x) (part_put (part.License x) (state xs ws ns))
 
 abbrev pub leaf_read : State → State
 leaf_read s = leaf_from s.left s.waiting s.parts

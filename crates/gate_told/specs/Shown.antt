@@ -1,4 +1,5 @@
--- The parts of an expression, as they are shown: what is joined behind what joins it, from left to right.
+-- The parts of an expression, as they are shown: what is joined behind what joins it, from left to
+-- right.
 use Rattle.std.specs.Prelude.{◌≡◌, ℕ, Bool, false, List, [], ◌∷◌, ◌++◌, length, map, take, drop, suc}
 use Rattle.gate_forms.specs.declared.reports.Leaf.{Leaf}
 use Rattle.gate_forms.specs.declared.reports.Node.{Node}
@@ -15,7 +16,8 @@ use Rattle.spdx_evaluation.specs.Truth.{truth_of}
 abbrev pub is_leaf_accepted : Leaf → Bool
 is_leaf_accepted x = is_accepted x.mark
 
--- whether a tree is accepted, of which these are the leaves: AND where both operands are, OR where one is
+-- whether a tree is accepted, of which these are the leaves: AND where both operands are, OR where
+-- one is
 abbrev pub is_tree_accepted : Tree → List Leaf → Bool
 is_tree_accepted t xs = truth_of t (map is_leaf_accepted xs)
 
@@ -31,13 +33,14 @@ operator_part Or accepted = part.Or accepted
 abbrev pub operator_node : ℕ → Operator → Bool → Node
 operator_node depth o accepted = record { depth = depth; part = operator_part o accepted }
 
--- The parts of a tree that stands in so many parts: an operator before its operands, the left one before the right one. The
--- leaves are those of its requirements, from left to right.
+-- The parts of a tree that stands in so many parts: an operator before its operands, the left one
+-- before the right one. The leaves are those of its requirements, from left to right.
 abbrev pub shown_parts : Tree → List Leaf → ℕ → List Node
 shown_parts (tree.Leaf r) xs depth = map (leaf_node depth) xs
 shown_parts (tree.Join o l r) xs depth =
     operator_node depth o (is_tree_accepted (tree.Join o l r) xs)
-    ∷ (shown_parts l (take (length (leaves l)) xs) (suc depth) ++ shown_parts r (drop (length (leaves l)) xs) (suc depth))
+    ∷ (shown_parts l (take (length (leaves l)) xs) (suc depth) ++
+    shown_parts r (drop (length (leaves l)) xs) (suc depth))
 
 -- the nodes are the tree's, and each of its requirements has a leaf
 pub record AreOf (t : Tree) (nodes : List ExprNode) (xs : List Leaf) : Type 0 where

@@ -61,10 +61,13 @@ fault_in f = (f.0.now, f.1, f.2)
 -- what a detail tells
 abbrev pub telling_in : Detail → Telling
 telling_in d =
-    told_as d.expression.now (map moved_node d.nodes.items) (map moved d.missing.items) (advice_of d.help) (option_map fault_in d.fault)
+    told_as d.expression.now (map moved_node d.nodes.items) (map moved d.missing.items)
+    (advice_of d.help) (option_map fault_in d.fault)
 
--- where the judgement is right, and the texts are those of it, the first part is accepted exactly if the expression passes
+-- where the judgement is right, and the texts are those of it, the first part is accepted exactly
+-- if the expression passes
 abbrev pub Agrees : Judgement → Shown → Detail → Type 0
 Agrees j s d =
-    (c : Rows) (p : Rules) (judged : Judged) → IsRight c p j → IsShown c p j s → j.outcome ≡ outcome.Judged judged
+    (c : Rows) (p : Rules) (judged : Judged) → IsRight c p j → IsShown c p j s →
+    j.outcome ≡ outcome.Judged judged
     → is_first_accepted d.nodes.items ≡ passes judged.verdict

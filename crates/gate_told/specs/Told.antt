@@ -59,7 +59,8 @@ told_leaf p r d = record {
 -- requirements of which the first has that number, each with the decision of its number
 abbrev pub leaves_from : Rules → List Decision → ℕ → List ExpressionReq → List Leaf
 leaves_from p ds number [] = []
-leaves_from p ds number (r ∷ rs) = told_leaf p r (decision_at ds number) ∷ leaves_from p ds (suc number) rs
+leaves_from p ds number (r ∷ rs) =
+    told_leaf p r (decision_at ds number) ∷ leaves_from p ds (suc number) rs
 
 -- those of an expression, from left to right
 abbrev pub told_leaves : Rules → Judged → List Leaf
@@ -77,11 +78,13 @@ leaves_at xs numbers = flat_map (leaf_at xs) numbers
 
 -- what would make it pass
 abbrev pub told_advice : gate.Advice → Advice
-told_advice (given.Allow texts) = advice.Allow (borrowed (map borrowed (map string_bytes texts.items)))
+told_advice (given.Allow texts) =
+    advice.Allow (borrowed (map borrowed (map string_bytes texts.items)))
 told_advice given.Unmet = advice.Unmet
 told_advice (given.TooMany n) = advice.NotSought n
 
--- the text; the parts of its expression, the requirements that a refusal hangs on, and what would help; or its fault
+-- the text; the parts of its expression, the requirements that a refusal hangs on, and what would
+-- help; or its fault
 pub record Telling : Type 0 where
   pub text : List ℕ
   pub nodes : List Node
@@ -90,13 +93,16 @@ pub record Telling : Type 0 where
   pub fault : Option (List ℕ × ℕ × ℕ)
 
 abbrev pub told_as : List ℕ → List Node → List Leaf → Advice → Option (List ℕ × ℕ × ℕ) → Telling
-told_as text nodes missing help fault = record { text = text; nodes = nodes; missing = missing; help = help; fault = fault }
+told_as text nodes missing help fault =
+    record { text = text; nodes = nodes; missing = missing; help = help; fault = fault }
 
 abbrev pub telling : Rules → List ℕ → List ℕ → Outcome → Telling
 telling p text reason (outcome.Judged j) =
-    told_as text (shown_parts (tree_in j.nodes.items) (told_leaves p j) 0) (leaves_at (told_leaves p j) j.missing.items)
+    told_as text (shown_parts (tree_in j.nodes.items) (told_leaves p j) 0)
+    (leaves_at (told_leaves p j) j.missing.items)
     (told_advice j.advice) None
-telling p text reason (outcome.Unreadable f) = told_as text [] [] advice.Unmet (Some (reason, f.span.start, f.span.end))
+telling p text reason (outcome.Unreadable f) =
+    told_as text [] [] advice.Unmet (Some (reason, f.span.start, f.span.end))
 
 -- what is told of a judgement, the reason of a fault being this one
 abbrev pub telling_of : Rules → List ℕ → Judgement → Telling

@@ -25,7 +25,8 @@ is_short text = nat_le (length text) 120
 
 -- a part that isn't all of the text, and neither empty nor long, is told behind the reason
 abbrev pub is_telling : List ℕ → List ℕ → Bool
-is_telling text part = not (length part == 0) && (is_short part && nat_lt (length part) (length text))
+is_telling text part =
+    not (length part == 0) && (is_short part && nat_lt (length part) (length text))
 
 abbrev pub part_words : List ℕ → List ℕ → List ℕ
 part_words text part = if is_telling text part then codes ": " ++ part else []
@@ -34,7 +35,8 @@ abbrev pub short_words : List ℕ → List ℕ
 short_words mended = if is_short mended then mended else codes "what 'spdx fix' does"
 
 abbrev pub mended_words : List ℕ → List ℕ
-mended_words mended = codes "; write " ++ (short_words mended ++ codes ", or say read = \"lax\" in the policy")
+mended_words mended =
+    codes "; write " ++ (short_words mended ++ codes ", or say read = \"lax\" in the policy")
 
 abbrev pub next_name : List ℕ → List ℕ
 next_name name = codes ", " ++ name
@@ -60,7 +62,8 @@ wants_name reason = false
 -- what to write; where there is nothing, the names that may be meant, if one is wanted
 abbrev pub help_words : Rows → List ℕ → Fault → Option (List ℕ) → List ℕ
 help_words c text f (Some mended) = mended_words mended
-help_words c text f None = if wants_name f.reason then names_words c (hints_of c (phrase_of text f.span.start)) else []
+help_words c text f None =
+    if wants_name f.reason then names_words c (hints_of c (phrase_of text f.span.start)) else []
 
 -- a text that is read lax has no mended one
 abbrev pub IsMended : Rows → Bool → List ℕ → Option (List ℕ) → Type 0
@@ -68,9 +71,11 @@ IsMended c true text mended = mended ≡ None
 IsMended c false text mended = IsFixOf c text mended
 
 -- the reason, the part of the text that it speaks of, and what would help
-pub record IsReason (c : Rows) (lax : Bool) (text : List ℕ) (f : Fault) (bytes : List ℕ) : Type 0 where
+pub record IsReason (c : Rows) (lax : Bool) (text : List ℕ) (f : Fault)
+    (bytes : List ℕ) : Type 0 where
   pub part : List ℕ
   pub is_part : IsPart text f.span.start f.span.end part
   pub mended : Option (List ℕ)
   pub is_mended : IsMended c lax text mended
-  pub is : bytes ≡ fault_text (fault_of f.reason) ++ (part_words text part ++ help_words c text f mended)
+  pub is : bytes ≡ fault_text (fault_of f.reason) ++
+      (part_words text part ++ help_words c text f mended)

@@ -33,33 +33,43 @@ unused_entry p report e = if is_used report e then [] else told_entry p e ∷ []
 
 -- those of a list, in its order
 abbrev pub unused_in : Rules → Report → EntryList → List (List ℕ)
-unused_in p report list = flat_map (λ place. unused_entry p report (entry_in list place)) (range_with_len 0 (list_len p list))
+unused_in p report list =
+    flat_map (λ place. unused_entry p report (entry_in list place))
+    (range_with_len 0 (list_len p list))
 
 -- of an exception that holds for some package its entries; else the exception itself
 abbrev pub unused_exception : Rules → Report → ℕ → List (List ℕ)
 unused_exception p report table =
-    if list_any (has_exception table) report.rows.items then unused_in p report (Exception table) else exception_text p table ∷ []
+    if list_any (has_exception table) report.rows.items then unused_in p report (Exception table)
+    else exception_text p table ∷ []
 
 abbrev pub clarification_text : Rules → ℕ → List ℕ
 clarification_text p table = codes "clarify for " ++ package_text p.clarified table
 
 abbrev pub unused_clarification : Rules → Report → ℕ → List (List ℕ)
 unused_clarification p report table =
-    if list_any (has_clarification table) report.rows.items then [] else clarification_text p table ∷ []
+    if list_any (has_clarification table) report.rows.items then []
+    else clarification_text p table ∷ []
 
 abbrev pub unused_exceptions : Rules → Report → List (List ℕ)
-unused_exceptions p report = flat_map (unused_exception p report) (range_with_len 0 (length p.exempted))
+unused_exceptions p report =
+    flat_map (unused_exception p report) (range_with_len 0 (length p.exempted))
 
 abbrev pub unused_clarifications : Rules → Report → List (List ℕ)
-unused_clarifications p report = flat_map (unused_clarification p report) (range_with_len 0 (length p.clarified))
+unused_clarifications p report =
+    flat_map (unused_clarification p report) (range_with_len 0 (length p.clarified))
 
 abbrev pub unused_of : Rules → Report → List (List ℕ)
 unused_of p report =
-    unused_in p report Deny ++ (unused_in p report DenyIf ++ (unused_in p report Allow ++ (unused_in p report AllowIf ++
+    unused_in p report Deny ++
+    (unused_in p report DenyIf ++ (unused_in p report Allow ++ (unused_in p report AllowIf ++
     (unused_exceptions p report ++ unused_clarifications p report))))
 
 -- each entry decided something, and each exception and clarification holds for some package
 pub record IsAllUsed (p : Rules) (report : Report) : Type 0 where
-  pub entries : (list : EntryList) (place : ℕ) → place < list_len p list → is_used report (entry_in list place) ≡ true
-  pub exceptions : (table : ℕ) → table < length p.exempted → list_any (has_exception table) report.rows.items ≡ true
-  pub clarifications : (table : ℕ) → table < length p.clarified → list_any (has_clarification table) report.rows.items ≡ true
+  pub entries : (list : EntryList) (place : ℕ) → place < list_len p list →
+      is_used report (entry_in list place) ≡ true
+  pub exceptions : (table : ℕ) → table < length p.exempted →
+      list_any (has_exception table) report.rows.items ≡ true
+  pub clarifications : (table : ℕ) → table < length p.clarified →
+      list_any (has_clarification table) report.rows.items ≡ true

@@ -37,15 +37,18 @@ are_gathered totals = nat_le (totals.refused + totals.unstated) 1000
 
 -- equal refusals are told once where they are gathered
 abbrev pub people_text : Style → Totals → List Report → List ℕ
-people_text style totals rs = if are_gathered totals then refusals_text style rs else flat_map (human_text style) rs
+people_text style totals rs =
+    if are_gathered totals then refusals_text style rs else flat_map (human_text style) rs
 
 -- one log of the refused packages, and a newline
 abbrev pub log_line : List ℕ → List Report → List ℕ
 log_line version rs = log_text version (map result_of (refused_of rs)) ++ 10 ∷ []
 
--- one behind the other; refusals that are known only for machines and on the page, totals only for people
+-- one behind the other; refusals that are known only for machines and on the page, totals only for
+-- people
 abbrev pub verdicts_text : Form → List ℕ → Totals → List Report → List ℕ
-verdicts_text (Human style) policy totals rs = people_text style totals (new_of rs) ++ totals_text totals
+verdicts_text (Human style) policy totals rs =
+    people_text style totals (new_of rs) ++ totals_text totals
 verdicts_text Short policy totals rs = flat_map short_text (new_of rs) ++ totals_text totals
 verdicts_text Json policy totals rs = flat_map json_lines rs
 verdicts_text Github policy totals rs = flat_map github_text (new_of rs)
@@ -69,7 +72,8 @@ is_of_refusals Html = false
 -- what is told is a log, which reads back as that of the refused packages, and a newline
 abbrev pub IsLog : List ℕ → List ℕ → List Report → Type 0
 IsLog version told rs =
-    (log : List ℕ) × (told ≡ log ++ 10 ∷ []) × (document log ≡ Some (log_of version (map result_of (refused_of rs))))
+    (log : List ℕ) × (told ≡ log ++ 10 ∷ []) ×
+    (document log ≡ Some (log_of version (map result_of (refused_of rs))))
 
 abbrev pub IsLogOf : Form → List ℕ → List Report → Type 0
 IsLogOf (Sarif version) told rs = IsLog version.now told rs

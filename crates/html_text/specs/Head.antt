@@ -8,12 +8,14 @@ doctypes = codes "<!doctype html>" ∷ codes "<!DOCTYPE html>" ∷ []
 
 -- nothing is loaded, and no script runs
 abbrev pub policy : List ℕ
-policy = codes "http-equiv=\"Content-Security-Policy\" content=\"default-src 'none'; style-src 'unsafe-inline'\""
+policy =
+    codes "http-equiv=\"Content-Security-Policy\" content=\"default-src 'none'; style-src 'unsafe-inline'\""
 
 -- what a page may say of itself: its characters, its width, its colours, and what it loads
 abbrev pub known_metas : List (List ℕ)
 known_metas =
-    codes "charset=\"utf-8\"" ∷ codes "name=\"viewport\" content=\"width=device-width, initial-scale=1\"" ∷
+    codes "charset=\"utf-8\"" ∷
+    codes "name=\"viewport\" content=\"width=device-width, initial-scale=1\"" ∷
     codes "name=\"color-scheme\" content=\"light dark\"" ∷ policy ∷ []
 
 abbrev pub meta_tag : List ℕ → List ℕ
@@ -22,14 +24,17 @@ meta_tag words = codes "<meta " ++ (words ++ codes ">\n")
 -- up to the body
 abbrev pub head_with : List ℕ → List (List ℕ) → List ℕ → List ℕ → List ℕ
 head_with doctype metas title style =
-    doctype ++ (codes "\n<html lang=\"en\">\n<head>\n" ++ (flat_map meta_tag metas ++ (codes "<title>" ++ (title ++ (codes "</title>\n<style>\n" ++ (style ++ codes "</style>\n</head>\n<body>\n"))))))
+    doctype ++ (codes "\n<html lang=\"en\">\n<head>\n" ++
+    (flat_map meta_tag metas ++
+    (codes "<title>" ++ (title ++
+    (codes "</title>\n<style>\n" ++ (style ++ codes "</style>\n</head>\n<body>\n"))))))
 
 -- no tag begins in the text, so that it ends with the tag behind it
 abbrev pub has_no_tag : List ℕ → Bool
 has_no_tag text = not (list_any (λ b. b == 60) text)
 
--- the page begins with such a head, and these are all the tags of it: there is no script, link, image or base. What may
--- be loaded is said before the title and the style
+-- the page begins with such a head, and these are all the tags of it: there is no script, link,
+-- image or base. What may be loaded is said before the title and the style
 pub record BeginsPlainly (page : List ℕ) : Type 0 where
   pub doctype : List ℕ
   pub metas : List (List ℕ)

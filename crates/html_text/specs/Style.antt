@@ -30,7 +30,8 @@ abbrev pub piece_at : List ℕ → ℕ → List Piece
 piece_at word b = if b == 123 then opens word ∷ [] else if ends_piece b then says word ∷ [] else []
 
 abbrev pub word_behind : List ℕ → ℕ → List ℕ
-word_behind word b = if (b == 123) || ends_piece b then [] else if is_space b then word else word ++ b ∷ []
+word_behind word b =
+    if (b == 123) || ends_piece b then [] else if is_space b then word else word ++ b ∷ []
 
 abbrev pub pieces_from : List ℕ → List ℕ → List Piece
 pieces_from word [] = []
@@ -47,33 +48,44 @@ value_of (b ∷ bs) = if b == 58 then bs else value_of bs
 
 -- ---- what it may hold
 
--- no capital, quote, backslash or `<`, no comment, and no name of what is loaded: so a word is what it reads as
+-- no capital, quote, backslash or `<`, no comment, and no name of what is loaded: so a word is what
+-- it reads as
 abbrev pub is_bare_byte : ℕ → Bool
 is_bare_byte b = not (is_in_range 65 90 b || (b == 34) || (b == 39) || (b == 60) || (b == 92))
 
 abbrev pub is_bare : List ℕ → Bool
 is_bare style =
-    list_all is_bare_byte style && not (has (codes "/*") style) && not (has (codes "url") style) && not (has (codes "image") style) && not (has (codes "src") style)
+    list_all is_bare_byte style && not (has (codes "/*") style) && not (has (codes "url") style) &&
+    not (has (codes "image") style) && not (has (codes "src") style)
 
--- the properties that may be set: none of them hides a text, cuts it off, covers it or adds to it, but for the values below
+-- the properties that may be set: none of them hides a text, cuts it off, covers it or adds to it,
+-- but for the values below
 abbrev pub properties : List (List ℕ)
 properties =
-    codes "background" ∷ codes "border" ∷ codes "border-bottom" ∷ codes "border-left" ∷ codes "border-radius" ∷ codes "border-top" ∷
-    codes "box-sizing" ∷ codes "break-after" ∷ codes "break-inside" ∷ codes "color" ∷ codes "color-scheme" ∷ codes "columns" ∷
-    codes "content-visibility" ∷ codes "cursor" ∷ codes "display" ∷ codes "font" ∷ codes "font-size" ∷ codes "font-weight" ∷
-    codes "height" ∷ codes "line-height" ∷ codes "list-style" ∷ codes "margin" ∷ codes "margin-bottom" ∷ codes "margin-top" ∷
-    codes "max-width" ∷ codes "outline" ∷ codes "outline-offset" ∷ codes "overflow-wrap" ∷ codes "padding" ∷ codes "padding-left" ∷
+    codes "background" ∷ codes "border" ∷ codes "border-bottom" ∷ codes "border-left" ∷
+    codes "border-radius" ∷ codes "border-top" ∷
+    codes "box-sizing" ∷ codes "break-after" ∷ codes "break-inside" ∷ codes "color" ∷
+    codes "color-scheme" ∷ codes "columns" ∷
+    codes "content-visibility" ∷ codes "cursor" ∷ codes "display" ∷ codes "font" ∷
+    codes "font-size" ∷ codes "font-weight" ∷
+    codes "height" ∷ codes "line-height" ∷ codes "list-style" ∷ codes "margin" ∷
+    codes "margin-bottom" ∷ codes "margin-top" ∷
+    codes "max-width" ∷ codes "outline" ∷ codes "outline-offset" ∷ codes "overflow-wrap" ∷
+    codes "padding" ∷ codes "padding-left" ∷
     codes "scroll-margin-top" ∷ codes "white-space" ∷ []
 
 -- the colours of texts, and of what they stand on
 abbrev pub inks : List (List ℕ)
-inks = codes "--ink" ∷ codes "--link" ∷ codes "--no" ∷ codes "--soft" ∷ codes "--text" ∷ codes "--yes" ∷ []
+inks =
+    codes "--ink" ∷ codes "--link" ∷ codes "--no" ∷ codes "--soft" ∷ codes "--text" ∷
+    codes "--yes" ∷ []
 
 abbrev pub grounds : List (List ℕ)
 grounds = codes "--card" ∷ codes "--ground" ∷ codes "--shade" ∷ []
 
 abbrev pub is_variable_of : List (List ℕ) → List ℕ → Bool
-is_variable_of names value = list_any (λ (name : List ℕ). bytes_eq value (codes "var(" ++ (name ++ codes ")"))) names
+is_variable_of names value =
+    list_any (λ (name : List ℕ). bytes_eq value (codes "var(" ++ (name ++ codes ")"))) names
 
 -- `#` and three or six digits: a colour that nothing shines through
 abbrev pub is_colour : List ℕ → Bool
@@ -89,7 +101,9 @@ has_negative (b ∷ bs) = ((b == 45) && begins_number bs) || has_negative bs
 
 -- a size that is not nothing
 abbrev pub is_some_size : List ℕ → Bool
-is_some_size value = not (begins value (codes "0") || begins value (codes ".0") || has (codes "/0") value || has (codes "/.0") value)
+is_some_size value =
+    not (begins value (codes "0") || begins value (codes ".0") || has (codes "/0") value ||
+    has (codes "/.0") value)
 
 abbrev pub is : List ℕ → List ℕ → Bool
 is name word = bytes_eq name word
@@ -101,7 +115,8 @@ shows name value =
     else if is name (codes "content-visibility") then is value (codes "visible")
     else if is name (codes "color") then is_variable_of inks value
     else if is name (codes "background") then is_variable_of grounds value
-    else if is_one_of (codes "font" ∷ codes "font-size" ∷ codes "line-height" ∷ []) name then is_some_size value
+    else if is_one_of (codes "font" ∷ codes "font-size" ∷ codes "line-height" ∷ []) name
+    then is_some_size value
     else true
 
 abbrev pub is_plain_saying : List ℕ → List ℕ → Bool
@@ -123,8 +138,10 @@ colours_of names (says word) = if is_one_of names (name_of word) then value_of w
 -- no text has the colour of what it stands on
 abbrev pub are_apart : List Piece → Bool
 are_apart read =
-    list_all (λ (colour : List ℕ). not (is_one_of (flat_map (colours_of grounds) read) colour)) (flat_map (colours_of inks) read)
+    list_all (λ (colour : List ℕ). not (is_one_of (flat_map (colours_of grounds) read) colour))
+    (flat_map (colours_of inks) read)
 
 unfoldable pub is_plain_style : List ℕ → Bool
 is_plain_style style =
-    is_bare style && list_all is_plain_piece (pieces_from [] style) && are_apart (pieces_from [] style)
+    is_bare style && list_all is_plain_piece (pieces_from [] style) &&
+    are_apart (pieces_from [] style)

@@ -61,7 +61,8 @@ before_rest b rest = option_map (λ (bs : List ℕ). b ∷ bs) rest
 abbrev pub begins : List ℕ → List ℕ → Bool
 begins bs word = starts_with (λ (x : ℕ) (y : ℕ). x == y) bs word
 
--- the text that so many bytes further on is read; an ampersand that begins no entity is no text, and no mark is
+-- the text that so many bytes further on is read; an ampersand that begins no entity is no text,
+-- and no mark is
 abbrev pub read_from : ℕ → List ℕ → Option (List ℕ)
 read_from skipped [] = Some []
 read_from (suc skipped) (b ∷ bs) = read_from skipped bs

@@ -12,8 +12,10 @@ abbrev pub with_literal : List ℕ → Span → List ℕ → List ℕ
 with_literal text span new =
     take span.start text ++ (34 ∷ (new ++ (34 ∷ drop span.end text)))
 
--- a literal of the text at the path is replaced, and the answer is read as the document with the new text there and no other change
-pub record IsMended (text : List ℕ) (document : Data) (steps : List Step) (span : Span) (new answer : List ℕ) : Type 0 where
+-- a literal of the text at the path is replaced, and the answer is read as the document with the
+-- new text there and no other change
+pub record IsMended (text : List ℕ) (document : Data) (steps : List Step) (span : Span)
+    (new answer : List ℕ) : Type 0 where
   pub replaced : IsLiteral text document steps span
   pub spliced : answer ≡ with_literal text span new
   pub reads : read answer ≡ Some (set_at steps new document)

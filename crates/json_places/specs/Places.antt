@@ -11,7 +11,8 @@ use Rattle.json_places.specs.Paths.{text_at}
 -- the spans lie between these offsets, in order and apart from one another
 abbrev pub AreInOrder : ℕ → List Span → ℕ → Type 0
 AreInOrder low [] high = low ≤ high
-AreInOrder low (span ∷ spans) high = (low ≤ span.start) × (span.start ≤ span.end) × AreInOrder span.end spans high
+AreInOrder low (span ∷ spans) high =
+    (low ≤ span.start) × (span.start ≤ span.end) × AreInOrder span.end spans high
 
 -- the text that marks a literal by its number, as `#7`
 abbrev pub mark_text : ℕ → List ℕ
@@ -25,14 +26,17 @@ mark number = codes "\"" ++ (mark_text number ++ codes "\"")
 abbrev pub marked_from : ℕ → ℕ → List ℕ → List Span → List ℕ
 marked_from number offset text [] = drop offset text
 marked_from number offset text (span ∷ spans) =
-    slice_range text offset span.start ++ (mark number ++ marked_from (number + 1) span.end text spans)
+    slice_range text offset span.start ++
+    (mark number ++ marked_from (number + 1) span.end text spans)
 
 -- the text with each span replaced by the mark of its own number
 abbrev pub marked : List ℕ → List Span → List ℕ
 marked text spans = marked_from 0 0 text spans
 
--- once each of these spans is replaced by its mark, the document has at the path the mark of this one, which it had not before
-pub record IsMeant (text : List ℕ) (document : Data) (steps : List Step) (span : Span) (spans : List Span) (number : ℕ) : Type 0 where
+-- once each of these spans is replaced by its mark, the document has at the path the mark of this
+-- one, which it had not before
+pub record IsMeant (text : List ℕ) (document : Data) (steps : List Step) (span : Span)
+    (spans : List Span) (number : ℕ) : Type 0 where
   pub in_order : AreInOrder 0 spans (length text)
   pub numbered : slice_get spans number ≡ Some span
   pub after : IsSomeAnd (read (marked text spans)) (λ d. text_at steps d ≡ Some (mark_text number))
@@ -41,7 +45,8 @@ pub record IsMeant (text : List ℕ) (document : Data) (steps : List Step) (span
 -- the bytes of the span, read alone, are the text that the document has at the path
 abbrev pub IsLiteral : List ℕ → Data → List Step → Span → Type 0
 IsLiteral text document steps span =
-    IsSomeAnd (text_at steps document) (λ value. read (slice_range text span.start span.end) ≡ Some (string value))
+    IsSomeAnd (text_at steps document)
+    (λ value. read (slice_range text span.start span.end) ≡ Some (string value))
 
 -- the span is the literal of the text that the document has at the path
 pub record Stands (text : List ℕ) (document : Data) (steps : List Step) (span : Span) : Type 0 where
@@ -55,5 +60,6 @@ pub record Stands (text : List ℕ) (document : Data) (steps : List Step) (span 
 -- each place that was found for a path
 abbrev pub ArePlaces : List ℕ → Data → List Path → List (Option Span) → Type 0
 ArePlaces text document [] [] = Unit {0}
-ArePlaces text document (path ∷ paths) (place ∷ places) = IfSome place (Stands text document path.steps.items) × ArePlaces text document paths places
+ArePlaces text document (path ∷ paths) (place ∷ places) =
+    IfSome place (Stands text document path.steps.items) × ArePlaces text document paths places
 ArePlaces text document _ _ = ⊥

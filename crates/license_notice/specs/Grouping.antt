@@ -15,7 +15,8 @@ first_name (r ∷ rows) = r.requirement
 abbrev pub onto : Row → List Band → List Band
 onto r [] = record { requirement = r.requirement; lines = line_in r ∷ [] } ∷ []
 onto r (b ∷ bands) =
-    if bytes_eq r.requirement b.requirement then record { requirement = b.requirement; lines = line_in r ∷ b.lines } ∷ bands
+    if bytes_eq r.requirement b.requirement
+    then record { requirement = b.requirement; lines = line_in r ∷ b.lines } ∷ bands
     else record { requirement = r.requirement; lines = line_in r ∷ [] } ∷ b ∷ bands
 
 abbrev pub grouped : List Row → List Band

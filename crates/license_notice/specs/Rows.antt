@@ -20,7 +20,8 @@ text_cmp x y = slice_cmp nat_cmp x y
 -- by requirement, then by name, then by version
 abbrev pub row_cmp : Row → Row → Ordering
 row_cmp x y =
-    ordering_then (text_cmp x.requirement y.requirement) (ordering_then (text_cmp x.name y.name) (text_cmp x.version y.version))
+    ordering_then (text_cmp x.requirement y.requirement)
+    (ordering_then (text_cmp x.name y.name) (text_cmp x.version y.version))
 
 -- a package as its group shows it
 pub record Line : Type 0 where

@@ -36,7 +36,8 @@ is_quote b = b == 34 || b == 39 || b == 96
 abbrev pub is_opening : ℕ → Bool
 is_opening b = is_ascii_whitespace b || is_quote b
 
--- how many bytes stand before an expression: blanks, and behind the first of them quotes too; a quote at once closes
+-- how many bytes stand before an expression: blanks, and behind the first of them quotes too; a
+-- quote at once closes
 abbrev pub opening_len : List ℕ → ℕ
 opening_len [] = 0
 opening_len (b ∷ bs) = if is_ascii_whitespace b then 1 + prefix_len is_opening bs else 0
@@ -73,7 +74,8 @@ ends_script_comment bytes =
 -- these bytes begin with what no expression goes on with in this kind of file
 abbrev pub closes : Comment → List ℕ → Bool
 closes comment bytes =
-    ends_text bytes || ends_comment bytes || ends_script_comment bytes || begins_comment comment bytes
+    ends_text bytes || ends_comment bytes || ends_script_comment bytes ||
+    begins_comment comment bytes
 
 -- how many bytes stand before the first closing
 abbrev pub closing_place : Comment → List ℕ → ℕ
@@ -84,7 +86,8 @@ closing_place comment (b ∷ bs) = if closes comment (b ∷ bs) then 0 else 1 + 
 abbrev pub trimmed_len : List ℕ → ℕ
 trimmed_len bytes = length bytes - suffix_len is_ascii_whitespace bytes
 
--- how long the expression is that these bytes begin with: up to the first closing or the end, less blanks
+-- how long the expression is that these bytes begin with: up to the first closing or the end, less
+-- blanks
 abbrev pub expression_len : Comment → List ℕ → ℕ
 expression_len comment bytes = trimmed_len (take (closing_place comment bytes) bytes)
 
@@ -107,16 +110,18 @@ is_open_behind inside line = inside && not (holds end_text line)
 -- the tags of a line, the first of those that stand in it: none of a line that belongs to a block
 abbrev pub line_tags : Comment → Bool → ℕ → ℕ → List ℕ → List Tag
 line_tags comment inside number offset line =
-    if inside then [] else option_to_list (option_map (tag_at comment number offset line) (place_of tag_text line))
+    if inside then [] else option_to_list
+    (option_map (tag_at comment number offset line) (place_of tag_text line))
 
--- the tags of these lines, the first of which has this number and begins at this offset, and before which a block is
--- open or not
+-- the tags of these lines, the first of which has this number and begins at this offset, and before
+-- which a block is open or not
 abbrev pub tags_from : Comment → Bool → ℕ → ℕ → List (List ℕ) → List Tag
 tags_from comment opened number offset [] = []
 tags_from comment opened number offset (line ∷ lines) =
     let inside = is_inside opened line in
     line_tags comment inside number offset line
-    ++ tags_from comment (is_open_behind inside line) (number + 1) (offset + (length line + 1)) lines
+    ++ tags_from comment (is_open_behind inside line) (number + 1) (offset + (length line + 1))
+    lines
 
 -- the tags of a file
 abbrev pub tags_of : Comment → List ℕ → List Tag
@@ -125,4 +130,5 @@ tags_of comment bytes = tags_from comment false 1 0 (lines_of bytes)
 -- the expressions lie between these offsets, in order and apart from one another
 abbrev pub AreInOrder : ℕ → List Tag → ℕ → Type 0
 AreInOrder low [] high = low ≤ high
-AreInOrder low (tag ∷ tags) high = (low ≤ tag.start) × (tag.start ≤ tag.end) × AreInOrder tag.end tags high
+AreInOrder low (tag ∷ tags) high =
+    (low ≤ tag.start) × (tag.start ≤ tag.end) × AreInOrder tag.end tags high

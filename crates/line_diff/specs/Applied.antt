@@ -1,5 +1,6 @@
--- What a reader of unified diffs makes of an old text by the bytes of a diff, as `patch` does where each hunk stands in the
--- place that its head names. Whatever the reader cannot follow gives no text.
+-- What a reader of unified diffs makes of an old text by the bytes of a diff, as `patch` does where
+-- each hunk stands in the place that its head names. Whatever the reader cannot follow gives no
+-- text.
 use Rattle.std.specs.Prelude.{ℕ, ◌+◌, ◌-◌, Bool, false, ◌&&◌, ◌==◌, nat_eq, nat_lt, nat_le, List, [], ◌∷◌, ◌++◌, length, take, drop, take_while, codes, Option, Some, None, if◌then◌else◌}
 use Rattle.std.specs.Char.{is_ascii_digit}
 use Rattle.std.specs.Cmp.Lexicographic.{pointwise}
@@ -30,7 +31,8 @@ abbrev pub hunk_lines : List (List ℕ) → Option (List (List ℕ))
 hunk_lines [] = Some []
 hunk_lines (line ∷ []) = None
 hunk_lines (old ∷ (new ∷ lines)) =
-    if starts_with nat_eq old (codes "--- ") && starts_with nat_eq new (codes "+++ ") then Some (told_lines lines) else None
+    if starts_with nat_eq old (codes "--- ") && starts_with nat_eq new (codes "+++ ")
+    then Some (told_lines lines) else None
 
 -- ---- the head of a hunk: `@@ -START,COUNT +START,COUNT @@`
 
@@ -47,15 +49,19 @@ numbers_behind (word ∷ words) text =
     let rest = drop (length word) text in
     let digits = take_while is_ascii_digit rest in
     if starts_with nat_eq text word && nat_lt 0 (length digits)
-    then option_map (λ (numbers : List ℕ). digits_value 10 digits ∷ numbers) (numbers_behind words (drop (length digits) rest))
+    then option_map (λ (numbers : List ℕ). digits_value 10 digits ∷ numbers)
+    (numbers_behind words (drop (length digits) rest))
     else None
 
 abbrev pub head_of : List ℕ → Option Head
-head_of (a ∷ (b ∷ (c ∷ (d ∷ [])))) = Some (record { old_start = a; old_count = b; new_start = c; new_count = d })
+head_of (a ∷ (b ∷ (c ∷ (d ∷ [])))) =
+    Some (record { old_start = a; old_count = b; new_start = c; new_count = d })
 head_of _ = None
 
 abbrev pub read_head : List ℕ → Option Head
-read_head line = option_and_then head_of (numbers_behind (codes "@@ -" ∷ (codes "," ∷ (codes " +" ∷ (codes "," ∷ [])))) line)
+read_head line =
+    option_and_then head_of
+    (numbers_behind (codes "@@ -" ∷ (codes "," ∷ (codes " +" ∷ (codes "," ∷ [])))) line)
 
 -- lines are counted from 1; a hunk with no line of a text names the line before it
 abbrev pub start_behind : ℕ → ℕ → ℕ
@@ -79,13 +85,22 @@ pub record Place : Type 0 where
   pub made : List (List ℕ)
 
 abbrev pub start_of : List ℕ → Place
-start_of old = record { old_line = 0; new_line = 0; old_left = 0; new_left = 0; ahead = whole_lines old; made = [] }
+start_of old =
+    record {
+      old_line = 0;
+      new_line = 0;
+      old_left = 0;
+      new_left = 0;
+      ahead = whole_lines old;
+      made = [];
+    }
 
 -- the hunk has told as many lines of each text as its head says
 abbrev pub is_between_hunks : Place → Bool
 is_between_hunks p = (p.old_left == 0) && (p.new_left == 0)
 
--- the lines up to a hunk are the same in both texts, and in both they lead up to the place that its head names
+-- the lines up to a hunk are the same in both texts, and in both they lead up to the place that its
+-- head names
 abbrev pub into_hunk : Place → Head → Option Place
 into_hunk p h =
     let same = lines_before h.old_start h.old_count - p.old_line in
@@ -110,17 +125,26 @@ is_next line (next ∷ lines) = bytes_eq line next
 abbrev pub past_old : List ℕ → Place → Option Place
 past_old line p =
     if nat_lt 0 p.old_left && is_next line p.ahead
-    then Some (record p { old_line = p.old_line + 1; old_left = p.old_left - 1; ahead = drop 1 p.ahead })
+    then Some (record p {
+      old_line = p.old_line + 1;
+      old_left = p.old_left - 1;
+      ahead = drop 1 p.ahead;
+    })
     else None
 
 -- a line that the new text has there
 abbrev pub past_new : List ℕ → Place → Option Place
 past_new line p =
     if nat_lt 0 p.new_left
-    then Some (record p { new_line = p.new_line + 1; new_left = p.new_left - 1; made = p.made ++ line ∷ [] })
+    then Some (record p {
+      new_line = p.new_line + 1;
+      new_left = p.new_left - 1;
+      made = p.made ++ line ∷ [];
+    })
     else None
 
--- a line of a hunk stands behind a blank in both texts, behind `-` in the old one, and behind `+` in the new one
+-- a line of a hunk stands behind a blank in both texts, behind `-` in the old one, and behind `+`
+-- in the new one
 abbrev pub in_hunk : Place → List ℕ → Option Place
 in_hunk p [] = None
 in_hunk p (mark ∷ line) =
@@ -130,7 +154,8 @@ in_hunk p (mark ∷ line) =
     else None
 
 abbrev pub read_line : Place → List ℕ → Option Place
-read_line p line = if is_between_hunks p then option_and_then (into_hunk p) (read_head line) else in_hunk p line
+read_line p line =
+    if is_between_hunks p then option_and_then (into_hunk p) (read_head line) else in_hunk p line
 
 abbrev pub read_lines : Place → List (List ℕ) → Option Place
 read_lines p [] = Some p
@@ -138,7 +163,8 @@ read_lines p (line ∷ lines) = option_and_then (λ (q : Place). read_lines q li
 
 -- the lines make a text whose lines they are: none but the last lacks its newline
 abbrev pub text_of : List (List ℕ) → Option (List ℕ)
-text_of lines = if pointwise bytes_eq (whole_lines (concat lines)) lines then Some (concat lines) else None
+text_of lines =
+    if pointwise bytes_eq (whole_lines (concat lines)) lines then Some (concat lines) else None
 
 -- what lies ahead behind the last hunk is the same in both texts
 abbrev pub text_at : Place → Option (List ℕ)
@@ -146,4 +172,6 @@ text_at p = if is_between_hunks p then text_of (p.made ++ p.ahead) else None
 
 -- the text that a diff gives of an old one
 abbrev pub applied : List ℕ → List ℕ → Option (List ℕ)
-applied diff old = option_and_then text_at (option_and_then (read_lines (start_of old)) (hunk_lines (whole_lines diff)))
+applied diff old =
+    option_and_then text_at
+    (option_and_then (read_lines (start_of old)) (hunk_lines (whole_lines diff)))

@@ -61,13 +61,15 @@ has_new r = not (length r.new == 0)
 unfoldable pub hunk_head : List Pair → ℕ → List ℕ
 hunk_head rows i =
     let hunk = take (hunk_len rows i) (drop i rows) in
-    codes "@@ -" ++ (range_text i (count_by has_old hunk) ++ (codes " +" ++ (range_text i (count_by has_new hunk) ++ codes " @@\n")))
+    codes "@@ -" ++ (range_text i (count_by has_old hunk) ++
+    (codes " +" ++ (range_text i (count_by has_new hunk) ++ codes " @@\n")))
 
 -- a line behind its mark, and a word on a last line that has no newline
 unfoldable pub line_text : ℕ → List ℕ → List ℕ
 line_text mark line =
     if length line == 0 then []
-    else mark ∷ (line ++ (if ends_with nat_eq line (10 ∷ []) then [] else codes "\n\\ No newline at end of file\n"))
+    else mark ∷ (line ++
+    (if ends_with nat_eq line (10 ∷ []) then [] else codes "\n\\ No newline at end of file\n"))
 
 -- a line that stays behind a blank; else the old one behind `-`, and then the new one behind `+`
 abbrev pub row_text : Pair → List ℕ
@@ -77,7 +79,8 @@ row_text r = if is_changed r then line_text 45 r.old ++ line_text 43 r.new else 
 abbrev pub shown_text : List Pair → ℕ → List ℕ
 shown_text rows i =
     if is_shown rows i
-    then (if nat_lt 0 i && is_shown rows (i - 1) then [] else hunk_head rows i) ++ row_text (slice_index_or rows i (pair [] []))
+    then (if nat_lt 0 i && is_shown rows (i - 1) then [] else hunk_head rows i) ++
+    row_text (slice_index_or rows i (pair [] []))
     else []
 
 -- the file as the old text has it, and as the new one does
@@ -89,21 +92,25 @@ new_name name = codes "b/" ++ name
 
 -- the lines before the hunks
 unfoldable pub names_text : List ℕ → List ℕ
-names_text name = codes "--- " ++ (header_name (old_name name) ++ (codes "+++ " ++ header_name (new_name name)))
+names_text name =
+    codes "--- " ++ (header_name (old_name name) ++ (codes "+++ " ++ header_name (new_name name)))
 
 -- whatever follows them, git reads the two lines as the names of this file
 pub record NamesThisFile (name : List ℕ) : Type 0 where
   pub old : HeaderReadsBack (old_name name)
   pub new : HeaderReadsBack (new_name name)
 
--- Each text is its side of the rows, one behind another; and a row that isn't shown is the same in both. So whoever puts the
--- new side of the shown rows in the place of their old side has made the new text of the old one.
+-- Each text is its side of the rows, one behind another; and a row that isn't shown is the same in
+-- both. So whoever puts the new side of the shown rows in the place of their old side has made the
+-- new text of the old one.
 pub record AreTheTexts (old new : List ℕ) (rows : List Pair) : Type 0 where
   pub old_side : flat_map (λ (r : Pair). r.old) rows ≡ old
   pub new_side : flat_map (λ (r : Pair). r.new) rows ≡ new
-  pub hidden_are_same : (i : ℕ) → i < length rows → is_shown rows i ≡ false → is_changed (slice_index_or rows i (pair [] [])) ≡ false
+  pub hidden_are_same : (i : ℕ) → i < length rows → is_shown rows i ≡ false →
+      is_changed (slice_index_or rows i (pair [] [])) ≡ false
 
 -- the diff of two texts
 abbrev pub diff_of : List ℕ → List Pair → List ℕ
 diff_of name rows =
-    if list_any is_changed rows then names_text name ++ flat_map (shown_text rows) (range_with_len 0 (length rows)) else []
+    if list_any is_changed rows then names_text name ++
+    flat_map (shown_text rows) (range_with_len 0 (length rows)) else []

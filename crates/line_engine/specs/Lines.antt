@@ -31,7 +31,8 @@ lines_of bytes = (cut bytes).whole ++ last_line (cut bytes).rest
 abbrev pub HasNoNewline : List ℕ → Type 0
 HasNoNewline bytes = All (λ b. b ≢ 10) bytes
 
--- the bytes are these lines, each with its newline, and then the rest; no line has a newline in it, nor has the rest
+-- the bytes are these lines, each with its newline, and then the rest; no line has a newline in it,
+-- nor has the rest
 pub record IsCut (bytes : List ℕ) (c : Cut) : Type 0 where
   pub whole : flat_map (λ line. line ++ 10 ∷ []) c.whole ++ c.rest ≡ bytes
   pub lines : All (All (λ b. b ≢ 10)) c.whole

@@ -21,16 +21,21 @@ pub record Progress : Type 1 where
   pub summary : Summary
 
 abbrev pub state : (List (List ℕ) → Type 0) → List ℕ → Summary → Progress
-state HasAnswered answers summary = record { HasAnswered = HasAnswered; answers = answers; summary = summary }
+state HasAnswered answers summary =
+    record { HasAnswered = HasAnswered; answers = answers; summary = summary }
 
 -- one more line is answered and counted
 pub record HasPut (rule : Rule) (line : List ℕ) (old new : Progress) : Type 0 where
-  pub text : (lines : List (List ℕ)) → old.HasAnswered lines → new.answers ≡ old.answers ++ rule.text lines line
+  pub text : (lines : List (List ℕ)) → old.HasAnswered lines →
+      new.answers ≡ old.answers ++ rule.text lines line
   pub counted : new.summary ≡ count_line old.summary (rule.refuses line)
-  pub answered : (lines : List (List ℕ)) → old.HasAnswered lines → new.HasAnswered (lines ++ line ∷ [])
+  pub answered : (lines : List (List ℕ)) → old.HasAnswered lines →
+      new.HasAnswered (lines ++ line ∷ [])
 
--- these lines are answered and counted: the first of the answers are written, the others are not yet
-pub record HasPutAll (rule : Rule) (lines : List (List ℕ)) (written : List ℕ) (now : Progress) : Type 0 where
+-- these lines are answered and counted: the first of the answers are written, the others are not
+-- yet
+pub record HasPutAll (rule : Rule) (lines : List (List ℕ)) (written : List ℕ)
+    (now : Progress) : Type 0 where
   pub text : written ++ now.answers ≡ text_of rule lines
   pub counted : now.summary ≡ summary_of rule lines
   pub answered : now.HasAnswered lines
@@ -40,12 +45,15 @@ pub record HasKept (rule : Rule) (bytes written kept : List ℕ) (now : Progress
   pub put : HasPutAll rule (cut bytes).whole written now
   pub rest : kept ≡ (cut bytes).rest
 
--- these bytes are the whole input: its output is what is written and these answers, and these are its counts
-pub record HasEnded (rule : Rule) (bytes written answers : List ℕ) (summary : Summary) : Type 0 where
+-- these bytes are the whole input: its output is what is written and these answers, and these are
+-- its counts
+pub record HasEnded (rule : Rule) (bytes written answers : List ℕ)
+    (summary : Summary) : Type 0 where
   pub output : written ++ answers ≡ output_of rule bytes
   pub counted : summary ≡ summary_of rule (lines_of bytes)
 
--- all of the input was read and cut into its lines, its output was written and nothing else, and these are its counts
+-- all of the input was read and cut into its lines, its output was written and nothing else, and
+-- these are its counts
 pub record HasRun (rule : Rule) (d : Devices) (summary : Summary) : Type 0 where
   pub bytes : List ℕ
   pub read : Consumes d.input.bytes d.input'.bytes bytes
@@ -55,17 +63,20 @@ pub record HasRun (rule : Rule) (d : Devices) (summary : Summary) : Type 0 where
   pub counts : summary ≡ summary_of rule (lines_of bytes)
 
 -- a run to the end, and this is known of the lines of its input
-pub record HasRunBehind (rule : Rule) (IsKnown : List (List ℕ) → Type 0) (d : Devices) (summary : Summary) : Type 0 where
+pub record HasRunBehind (rule : Rule) (IsKnown : List (List ℕ) → Type 0) (d : Devices)
+    (summary : Summary) : Type 0 where
   pub run : HasRun rule d summary
   pub known : IsKnown (lines_of run.bytes)
 
 -- a run to the end, of an input that tells its bytes: these were all of them
-pub record IsAnswered (rule : Rule) (d : Devices) (summary : Summary) (bytes : List ℕ) : Type 0 where
+pub record IsAnswered (rule : Rule) (d : Devices) (summary : Summary)
+    (bytes : List ℕ) : Type 0 where
   pub ended : d.input'.bytes ≡ Some []
   pub written : Appends d.output.bytes d.output'.bytes (output_of rule bytes)
   pub counts : summary ≡ summary_of rule (lines_of bytes)
 
--- these bytes were read, and a beginning of what they give was written, the last line among them only where the end of the input was met
+-- these bytes were read, and a beginning of what they give was written, the last line among them
+-- only where the end of the input was met
 pub record HasBegun (rule : Rule) (d : Devices) : Type 0 where
   pub bytes : List ℕ
   pub read : Consumes d.input.bytes d.input'.bytes bytes
@@ -73,7 +84,8 @@ pub record HasBegun (rule : Rule) (d : Devices) : Type 0 where
   pub ended : is_ended ≡ true → IsAtEnd d.input'.bytes
   pub written : AppendsBeginning d.output.bytes d.output'.bytes (output_so_far rule bytes is_ended)
 
--- these bytes were read, and the answers to all lines that are whole in them were written, and nothing else
+-- these bytes were read, and the answers to all lines that are whole in them were written, and
+-- nothing else
 pub record HasWrittenLines (rule : Rule) (d : Devices) : Type 0 where
   pub bytes : List ℕ
   pub read : Consumes d.input.bytes d.input'.bytes bytes

@@ -7,9 +7,10 @@ use Rattle.line_engine.specs.Device.{Devices}
 use Rattle.line_engine.specs.Rule.{Rule}
 use Rattle.line_engine.specs.Progress.{HasRun, HasBegun, HasWrittenLines, IsAnswered}
 
--- At Ok all was read and written (`ok`; in plainer words where the input tells its bytes, `known`), and no device has
--- failed. At a fault a beginning of the answers was written, after `Read` all of those to the lines that are whole.
--- `Read` comes exactly where the input has failed, and `Write` only where the output has.
+-- At Ok all was read and written (`ok`; in plainer words where the input tells its bytes, `known`),
+-- and no device has failed. At a fault a beginning of the answers was written, after `Read` all of
+-- those to the lines that are whole. `Read` comes exactly where the input has failed, and `Write`
+-- only where the output has.
 pub record Runs (rule : Rule) (d : Devices) (result : Result Summary RunFault) : Type 0 where
   pub ok : IfOk result (HasRun rule d)
   pub known : IfOk result (λ summary. IfSome d.input.bytes (IsAnswered rule d summary))

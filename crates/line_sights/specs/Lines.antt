@@ -41,7 +41,8 @@ front_of bytes at = last_of most (unindented (line_before bytes at))
 abbrev pub rest_of : List ℕ → ℕ → List ℕ
 rest_of bytes at = let behind = drop at bytes in line_at (take (min (length behind) most) behind)
 
--- what is shown of a part of a file that begins there and has so many bytes, and of the line behind it
+-- what is shown of a part of a file that begins there and has so many bytes, and of the line behind
+-- it
 abbrev pub marked_of : List ℕ → ℕ → ℕ → List ℕ
 marked_of bytes at len = let rest = rest_of bytes at in take (min len (length rest)) rest
 
@@ -51,9 +52,11 @@ tail_of bytes at len = let rest = rest_of bytes at in drop (min len (length rest
 -- the three, with U+FFFD for what is no text
 abbrev pub shown_text : List ℕ → ℕ → ℕ → List ℕ
 shown_text bytes at len =
-    utf8_lossy (front_of bytes at) ++ (utf8_lossy (marked_of bytes at len) ++ utf8_lossy (tail_of bytes at len))
+    utf8_lossy (front_of bytes at) ++
+    (utf8_lossy (marked_of bytes at len) ++ utf8_lossy (tail_of bytes at len))
 
--- how a part of a file is seen: its line, its column, and what is shown of the line with the part in it
+-- how a part of a file is seen: its line, its column, and what is shown of the line with the part
+-- in it
 abbrev pub seen_at : List ℕ → ℕ → ℕ → Seen
 seen_at bytes at len =
     let start = length (utf8_lossy (front_of bytes at)) in

@@ -9,7 +9,8 @@ use Rattle.spdx_list.specs.Files.{ExtraRows, extras_in}
 use Rattle.spdx_list.specs.Made.{Makes}
 use Rattle.shelves.specs.Shelf.{Shelved}
 
--- what a program has inside: a list in its own form, and what this project says besides SPDX's files
+-- what a program has inside: a list in its own form, and what this project says besides SPDX's
+-- files
 pub record InsideBytes : Type 0 where
   pub list : List ℕ
   pub extras : List ℕ
@@ -26,7 +27,12 @@ is_of_listed c r = is_some (listed c.licenses (without_plus r.name))
 
 -- the extras without the imprecise names of licences that the list hasn't
 abbrev pub of_listed : Rows → ExtraRows → ExtraRows
-of_listed c x = record { copyleft = x.copyleft; imprecise = filter (is_of_listed c) x.imprecise; instead = x.instead }
+of_listed c x =
+    record {
+      copyleft = x.copyleft;
+      imprecise = filter (is_of_listed c) x.imprecise;
+      instead = x.instead;
+    }
 
 -- SPDX's two files make the list, with what the extras say of the licences that they list
 pub record MakesWith (extras : ExtraRows) (licenses exceptions : List ℕ) (c : Rows) : Type 0 where
@@ -40,7 +46,8 @@ pub record IsListOfFile (s : Shelved) (path : List ℕ) (c : Rows) : Type 0 wher
   pub holds : s.Holds path bytes
   pub list : catalogue_in bytes ≡ Ok c
 
--- the list of a folder is what the two files below it make, which have the names that SPDX gives them
+-- the list of a folder is what the two files below it make, which have the names that SPDX gives
+-- them
 pub record IsListOfFolder (s : Shelved) (extras folder : List ℕ) (c : Rows) : Type 0 where
   pub licenses : List ℕ
   pub exceptions : List ℕ
@@ -56,7 +63,8 @@ IsListBy s extras path true c = IsListOfFolder s extras path c
 
 -- the list at a path
 abbrev pub IsListAt : Shelved → List ℕ → List ℕ → Rows → Type 0
-IsListAt s extras path c = (is_folder : Bool) × s.IsFolder path is_folder × IsListBy s extras path is_folder c
+IsListAt s extras path c =
+    (is_folder : Bool) × s.IsFolder path is_folder × IsListBy s extras path is_folder c
 
 -- the list that a variable says: the one at its path; where it isn't set, the one inside
 abbrev pub IsListSaid : Shelved → InsideBytes → Option (List ℕ) → Rows → Type 0
@@ -66,4 +74,5 @@ IsListSaid s inside None c = catalogue_in inside.list ≡ Ok c
 -- the list that is used: the one at the path that was given, else the one that SPDX_LIST says
 abbrev pub IsNamedList : Shelved → InsideBytes → Option (List ℕ) → Rows → Type 0
 IsNamedList s inside (Some path) c = IsListAt s inside.extras path c
-IsNamedList s inside None c = (said : Option (List ℕ)) × s.Says (codes "SPDX_LIST") said × IsListSaid s inside said c
+IsNamedList s inside None c =
+    (said : Option (List ℕ)) × s.Says (codes "SPDX_LIST") said × IsListSaid s inside said c

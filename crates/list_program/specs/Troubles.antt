@@ -69,7 +69,8 @@ IsNoListSaid s inside None t = IsNoListInside inside t
 abbrev pub IsNoListByVariable : Shelved → InsideBytes → ListTrouble → Type 0
 IsNoListByVariable s inside trouble.Nameless = Unit {0}
 IsNoListByVariable s inside trouble.Memory = Unit {0}
-IsNoListByVariable s inside t = (said : Option (List ℕ)) × s.Says (codes "SPDX_LIST") said × IsNoListSaid s inside said t
+IsNoListByVariable s inside t =
+    (said : Option (List ℕ)) × s.Says (codes "SPDX_LIST") said × IsNoListSaid s inside said t
 
 -- why no list is used
 abbrev pub IsNoNamedList : Shelved → InsideBytes → Option (List ℕ) → ListTrouble → Type 0

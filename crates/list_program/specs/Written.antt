@@ -12,7 +12,8 @@ AreExtrasAt s None rows = rows ≡ no_extras
 AreExtrasAt s (Some path) rows = (bytes : List ℕ) × s.Holds path bytes × (extras_in bytes ≡ Ok rows)
 
 -- the list of the files at these paths was written, and a newline
-pub record WritesList (s : Shelved) (licenses_path exceptions_path : List ℕ) (extras_path : Option (List ℕ)) (old new : Option (List ℕ)) : Type 0 where
+pub record WritesList (s : Shelved) (licenses_path exceptions_path : List ℕ)
+    (extras_path : Option (List ℕ)) (old new : Option (List ℕ)) : Type 0 where
   pub licenses : List ℕ
   pub exceptions : List ℕ
   pub extras : ExtraRows

@@ -32,7 +32,8 @@ pub record IsHopeless (c : Rows) (form : Form) (text : List ℕ) : Type 0 where
   pub refused : IsRead c form text → ⊥
   pub no_fix : IsUtf8 text → HasNoFix c text
 
--- what becomes of an expression: it reads as it is, nothing mends it, its fix can't be written there, or its fix stands there
+-- what becomes of an expression: it reads as it is, nothing mends it, its fix can't be written
+-- there, or its fix stands there
 pub data Fate : Type 0 where
   readable : Fate
   hopeless : Fate
@@ -89,10 +90,13 @@ Step form before number fate after = after ≡ before
 -- the bytes that come of these by one change behind the other
 pub data Steps (form : Form) (old : List ℕ) : List Change → List ℕ → Type 0 where
   begin : Steps form old [] old
-  next : {changes : List Change} {before after : List ℕ} (change : Change) → Steps form old changes before → Step form before change.site.number change.fate after → Steps form old (changes ++ change ∷ []) after
+  next : {changes : List Change} {before after : List ℕ} (change : Change) →
+      Steps form old changes before → Step form before change.site.number change.fate after →
+      Steps form old (changes ++ change ∷ []) after
 
 -- what becomes of these expressions, and the bytes that come of it
-pub record Goes (c : Rows) (form : Form) (old : List ℕ) (changes : List Change) (new : List ℕ) : Type 0 where
+pub record Goes (c : Rows) (form : Form) (old : List ℕ) (changes : List Change)
+    (new : List ℕ) : Type 0 where
   pub fates : All (λ change. HasFate c form (old_text change) change.fate) changes
   pub steps : Steps form old changes new
 
@@ -100,7 +104,8 @@ abbrev pub sites_of : List Change → List Site
 sites_of changes = map (λ (change : Change). change.site) changes
 
 -- so it is of all that the manifest declares
-pub record GoesThrough (c : Rows) (form : Form) (old : List ℕ) (changes : List Change) (new : List ℕ) : Type 0 where
+pub record GoesThrough (c : Rows) (form : Form) (old : List ℕ) (changes : List Change)
+    (new : List ℕ) : Type 0 where
   pub declared : AreSites form old (sites_of changes)
   pub goes : Goes c form old changes new
 
@@ -119,7 +124,8 @@ pub record DeclaresOther (form : Form) (bytes : List ℕ) (texts : List (List �
   pub declared : AreSites form bytes sites
   pub texts_are_not : texts_of sites ≢ texts
 
--- some fixes are written, and read again the new bytes declare them, and every other expression as it was
+-- some fixes are written, and read again the new bytes declare them, and every other expression as
+-- it was
 pub record IsMended (c : Rows) (form : Form) (old new : List ℕ) (left : Bool) : Type 0 where
   pub changes : List Change
   pub goes : GoesThrough c form old changes new
@@ -149,7 +155,8 @@ IsFixed c form old (Some new) left = IsMended c form old new.items left
 IsFixed c form old None left = IsKept c form old left ⊎ IsGivenUp c form old left
 
 -- the error of the bytes that come of the first of the changes
-pub record IsErrorAmid (c : Rows) (form : Form) (old : List ℕ) (error : ManifestError) : Type 0 where
+pub record IsErrorAmid (c : Rows) (form : Form) (old : List ℕ)
+    (error : ManifestError) : Type 0 where
   pub changes : List Change
   pub later : List Site
   pub declared : AreSites form old (sites_of changes ++ later)
@@ -182,7 +189,8 @@ pub record FixLaws (c : Rows) (form : Form) (old : List ℕ) (fixed : FixedManif
   -- each expression stays or is replaced by its fix, and one that reads stays
   pub each : AllZip (IsTextAfter c form) (texts_of sites) (texts_of again)
   -- where every declared expression reads, the manifest stays, and nothing is left
-  pub needless : All (IsRead c form) (texts_of sites) → (fixed.bytes ≡ None) × (fixed.is_left ≡ false)
+  pub needless : All (IsRead c form) (texts_of sites) →
+      (fixed.bytes ≡ None) × (fixed.is_left ≡ false)
   -- where nothing is left, every expression reads that the manifest then declares
   pub whole : fixed.is_left ≡ false → All (IsRead c form) (texts_of again)
   -- where something is left, one of these is refused

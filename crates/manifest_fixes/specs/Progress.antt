@@ -16,15 +16,18 @@ abbrev pub texts_in : List (Vec ℕ) → List (List ℕ)
 texts_in texts = map (λ (text : Vec ℕ). text.items) texts
 
 -- the mending, with one more expression behind the others that has this fate
-pub record IsStepped (c : Rows) (form : Form) (old : List ℕ) (site : Site) (fate : Fate) (before after : Mending) : Type 0 where
+pub record IsStepped (c : Rows) (form : Form) (old : List ℕ) (site : Site) (fate : Fate)
+    (before after : Mending) : Type 0 where
   pub has : HasFate c form site.text.items fate
   pub step : Step form (bytes_after old before.bytes) site.number fate (bytes_after old after.bytes)
-  pub texts : texts_in after.texts.items ≡ texts_in before.texts.items ++ text_after site.text.items fate ∷ []
+  pub texts : texts_in after.texts.items ≡ texts_in before.texts.items ++
+      text_after site.text.items fate ∷ []
   pub left : after.is_left ≡ (before.is_left || is_fate_left fate)
   pub some : is_some after.bytes ≡ (is_some before.bytes || is_fix_written fate)
 
 -- the mending of the first of these expressions, behind which the others are left to do
-pub record IsSoFar (c : Rows) (form : Form) (old : List ℕ) (found later : List Site) (mending : Mending) : Type 0 where
+pub record IsSoFar (c : Rows) (form : Form) (old : List ℕ) (found later : List Site)
+    (mending : Mending) : Type 0 where
   pub changes : List Change
   pub sites : sites_of changes ++ later ≡ found
   pub goes : Goes c form old changes (bytes_after old mending.bytes)
@@ -33,7 +36,8 @@ pub record IsSoFar (c : Rows) (form : Form) (old : List ℕ) (found later : List
   pub some : is_some mending.bytes ≡ list_any is_replaced changes
 
 -- the error of the bytes that come of the first of these expressions' changes
-pub record IsErrorWithin (c : Rows) (form : Form) (old : List ℕ) (found : List Site) (error : ManifestError) : Type 0 where
+pub record IsErrorWithin (c : Rows) (form : Form) (old : List ℕ) (found : List Site)
+    (error : ManifestError) : Type 0 where
   pub changes : List Change
   pub later : List Site
   pub sites : sites_of changes ++ later ≡ found
@@ -50,7 +54,8 @@ IsSettledTo form texts left (Some new) fixed =
 
 -- what becomes of a manifest by its mending
 abbrev pub IsSettled : Form → Mending → FixedManifest → Type 0
-IsSettled form mending fixed = IsSettledTo form (texts_in mending.texts.items) mending.is_left mending.bytes fixed
+IsSettled form mending fixed =
+    IsSettledTo form (texts_in mending.texts.items) mending.is_left mending.bytes fixed
 
 -- the error of the bytes that come of it, for some do
 abbrev pub IsErrorAfter : Mending → ManifestError → Type 0

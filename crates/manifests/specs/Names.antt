@@ -42,7 +42,8 @@ by_word name =
 -- the form of the file of JSON or TOML at a path, by its name there
 abbrev pub document_form_of : List ℕ → Option Form
 document_form_of path =
-    option_and_then (λ name. option_or (by_json_name name) (by_toml_name name)) (path_file_name path)
+    option_and_then (λ name. option_or (by_json_name name) (by_toml_name name))
+    (path_file_name path)
 
 -- the form of the file at a path
 abbrev pub form_of : List ℕ → Option Form

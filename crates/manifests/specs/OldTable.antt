@@ -13,4 +13,5 @@ has_table_at d = option_map_or is_table (get (codes "license") d) false
 
 -- the document's `project` has
 abbrev pub has_license_table : Members → Bool
-has_license_table document = option_map_or has_table_at (get_member (codes "project") document) false
+has_license_table document =
+    option_map_or has_table_at (get_member (codes "project") document) false

@@ -30,7 +30,8 @@ use Rattle.manifests.specs.Toml.{cargo_texts, pyproject_texts, reuse_texts}
 
 -- npm's words for a license that is told elsewhere, or that nobody is given
 abbrev pub is_word_of_npm : List ℕ → Bool
-is_word_of_npm text = starts_with nat_eq text (codes "SEE LICENSE IN ") || bytes_eq text (codes "UNLICENSED")
+is_word_of_npm text =
+    starts_with nat_eq text (codes "SEE LICENSE IN ") || bytes_eq text (codes "UNLICENSED")
 
 -- the text is an expression, and no word of the form's own
 abbrev pub is_expression : Form → List ℕ → Bool
@@ -38,18 +39,22 @@ is_expression Npm text = not (is_word_of_npm text)
 is_expression Composer text = not (bytes_eq text (codes "proprietary"))
 is_expression form text = true
 
--- the site is the literal of the text that the document has at some path, and its number is that of its text among these
-pub record IsInJson (bytes : List ℕ) (document : Data) (texts : List (List ℕ)) (site : Site) : Type 0 where
+-- the site is the literal of the text that the document has at some path, and its number is that of
+-- its text among these
+pub record IsInJson (bytes : List ℕ) (document : Data) (texts : List (List ℕ))
+    (site : Site) : Type 0 where
   pub number : slice_get texts site.number ≡ Some site.text.items
   pub steps : List json.Step
   pub text : json_paths.text_at steps document ≡ Some site.text.items
   pub stands : json_places.Stands bytes document steps site.span
 
--- the sites are the expressions that the document declares, in the order of its members, each at its place
+-- the sites are the expressions that the document declares, in the order of its members, each at
+-- its place
 pub record AreSitesOfJson (form : Form) (bytes : List ℕ) (sites : List Site) : Type 0 where
   pub document : Data
   pub reads : read bytes ≡ Some document
-  pub texts : map (λ (s : Site). s.text.items) sites ≡ filter (is_expression form) (license_texts document)
+  pub texts : map (λ (s : Site). s.text.items) sites ≡ filter (is_expression form)
+      (license_texts document)
   pub places : All (IsInJson bytes document (license_texts document)) sites
 
 -- what the document of a form declares
@@ -59,7 +64,8 @@ texts_of_toml Pyproject document = pyproject_texts document
 texts_of_toml form document = reuse_texts document
 
 -- the same of TOML
-pub record IsInToml (bytes : List ℕ) (document : Members) (texts : List (List ℕ)) (site : Site) : Type 0 where
+pub record IsInToml (bytes : List ℕ) (document : Members) (texts : List (List ℕ))
+    (site : Site) : Type 0 where
   pub number : slice_get texts site.number ≡ Some site.text.items
   pub steps : List toml.Step
   pub text : toml_paths.text_at steps document ≡ Some site.text.items
@@ -105,7 +111,8 @@ AreSites Reuse bytes sites = AreSitesOfToml Reuse bytes sites
 AreSites (Plain form) bytes sites = AreSitesOfPlain form bytes sites
 AreSites form bytes sites = AreSitesOfJson form bytes sites
 
--- the bytes are not what the reason says that they aren't; a place that isn't known says nothing of the bytes
+-- the bytes are not what the reason says that they aren't; a place that isn't known says nothing of
+-- the bytes
 abbrev pub IsReason : List ℕ → Reason → Type 0
 IsReason bytes NotUtf8 = IsUtf8 bytes → ⊥
 IsReason bytes NotJson = IsUtf8 bytes → read bytes ≡ None
@@ -117,8 +124,9 @@ abbrev pub IsError : List ℕ → ManifestError → Type 0
 IsError bytes (Refused fault) = IsReason bytes fault.reason
 IsError bytes NoMemory = ⊤
 
--- the literal of a text that the document has is replaced by the new text in quotes, every other byte stays, and what is read is
--- the document with the new text where the old one stood, and every other value as before
+-- the literal of a text that the document has is replaced by the new text in quotes, every other
+-- byte stays, and what is read is the document with the new text where the old one stood, and every
+-- other value as before
 pub record ChangesJson (bytes : List ℕ) (document : Data) (old new mended : List ℕ) : Type 0 where
   pub steps : List json.Step
   pub span : Span
@@ -135,7 +143,8 @@ pub record MendsJson (bytes : List ℕ) (number : ℕ) (new mended : List ℕ) :
   pub changes : ChangesJson bytes document old new mended
 
 -- the same of TOML
-pub record ChangesToml (bytes : List ℕ) (document : Members) (old new mended : List ℕ) : Type 0 where
+pub record ChangesToml (bytes : List ℕ) (document : Members)
+    (old new mended : List ℕ) : Type 0 where
   pub steps : List toml.Step
   pub span : Span
   pub text : toml_paths.text_at steps document ≡ Some old
@@ -143,7 +152,8 @@ pub record ChangesToml (bytes : List ℕ) (document : Members) (old new mended :
   pub mends : toml_mended.IsMended bytes document steps span new mended
 
 -- the same of what a form of TOML declares
-pub record MendsToml (form : Form) (bytes : List ℕ) (number : ℕ) (new mended : List ℕ) : Type 0 where
+pub record MendsToml (form : Form) (bytes : List ℕ) (number : ℕ)
+    (new mended : List ℕ) : Type 0 where
   pub document : Members
   pub reads : parse_document bytes ≡ Some document
   pub old : List ℕ
@@ -158,7 +168,8 @@ Mends Reuse bytes number new mended = MendsToml Reuse bytes number new mended
 Mends (Plain form) bytes number new mended = MendsPlain form bytes number new mended
 Mends form bytes number new mended = MendsJson bytes number new mended
 
--- why there is no such manifest: of a file of fields or elements exactly; of JSON and TOML it isn't said
+-- why there is no such manifest: of a file of fields or elements exactly; of JSON and TOML it isn't
+-- said
 abbrev pub Stays : Form → List ℕ → ℕ → List ℕ → Type 0
 Stays (Plain form) bytes number new = StaysPlain form bytes number new
 Stays form bytes number new = ⊤

@@ -10,7 +10,9 @@ value_behind (key ∷ keys) d = option_and_then (value_behind keys) (get key d)
 
 -- the text that stands behind a key and others, if one does
 abbrev pub text_behind : List ℕ → List (List ℕ) → Members → List (List ℕ)
-text_behind key keys document = option_to_list (option_and_then as_str (option_and_then (value_behind keys) (get_member key document)))
+text_behind key keys document =
+    option_to_list (option_and_then as_str
+    (option_and_then (value_behind keys) (get_member key document)))
 
 -- of Cargo.toml: of the package, and of the members of a workspace that take it over
 abbrev pub cargo_texts : Members → List (List ℕ)
@@ -50,4 +52,5 @@ texts_of_annotations d = []
 
 -- of REUSE.toml
 abbrev pub reuse_texts : Members → List (List ℕ)
-reuse_texts document = option_map_or texts_of_annotations (get_member (codes "annotations") document) []
+reuse_texts document =
+    option_map_or texts_of_annotations (get_member (codes "annotations") document) []

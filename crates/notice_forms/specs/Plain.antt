@@ -14,7 +14,9 @@ plain_line l = codes "  " ++ (line_text l.name ++ (plain_version l.version ++ 10
 
 -- a requirement in the table of contents
 unfoldable pub plain_entry : Band → List ℕ
-plain_entry b = codes "  " ++ (line_text b.requirement ++ (codes " (" ++ (package_count (length b.lines) ++ codes ")\n")))
+plain_entry b =
+    codes "  " ++ (line_text b.requirement ++
+    (codes " (" ++ (package_count (length b.lines) ++ codes ")\n")))
 
 -- a requirement, and the packages under it
 unfoldable pub plain_band : Band → List ℕ
@@ -25,8 +27,12 @@ plain_rule = replicate 80 45 ++ 10 ∷ []
 
 -- a text below its name, byte for byte, and a newline
 unfoldable pub plain_text : Named → List ℕ
-plain_text t = 10 ∷ (plain_rule ++ (line_text t.name ++ (10 ∷ (plain_rule ++ (t.bytes ++ 10 ∷ [])))))
+plain_text t =
+    10 ∷ (plain_rule ++ (line_text t.name ++ (10 ∷ (plain_rule ++ (t.bytes ++ 10 ∷ [])))))
 
 abbrev pub plain_page : Told → List ℕ
 plain_page p =
-    line_text p.title ++ (codes "\n\nContents\n" ++ (flat_map plain_entry p.bands ++ (flat_map plain_band p.bands ++ flat_map plain_text p.texts)))
+    line_text p.title ++
+    (codes "\n\nContents\n" ++
+    (flat_map plain_entry p.bands ++
+    (flat_map plain_band p.bands ++ flat_map plain_text p.texts)))

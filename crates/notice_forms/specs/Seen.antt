@@ -35,7 +35,9 @@ said_text_entry t = shown_text t.name ++ 10 ∷ []
 
 -- a requirement, and the packages under it
 abbrev pub said_band : Band → List ℕ
-said_band b = 10 ∷ (shown_text b.requirement ++ (codes "\n\n" ++ (flat_map said_line b.lines ++ codes "\n\n")))
+said_band b =
+    10 ∷ (shown_text b.requirement ++
+    (codes "\n\n" ++ (flat_map said_line b.lines ++ codes "\n\n")))
 
 -- a text below its name
 abbrev pub said_text : Named → List ℕ
@@ -43,12 +45,19 @@ said_text t = shown_text t.name ++ (codes "\n\n" ++ (shown_text t.bytes ++ codes
 
 abbrev pub said_contents : Told → List ℕ
 said_contents p =
-    codes "\nLicences\n\n" ++ (flat_map said_entry p.bands ++ (codes "\nLicence texts\n\n" ++ (flat_map said_text_entry p.texts ++ codes "\n\n")))
+    codes "\nLicences\n\n" ++
+    (flat_map said_entry p.bands ++
+    (codes "\nLicence texts\n\n" ++ (flat_map said_text_entry p.texts ++ codes "\n\n")))
 
--- the title, the contents, each requirement with its packages, and each text, once and in their order
+-- the title, the contents, each requirement with its packages, and each text, once and in their
+-- order
 abbrev pub said_page : Told → List ℕ
 said_page p =
-    shown_text p.title ++ (10 ∷ (said_contents p ++ (codes "\nPackages by licence\n" ++ (flat_map said_band p.bands ++ (codes "Licence texts\n" ++ (flat_map said_text p.texts ++ codes "\n\n\n"))))))
+    shown_text p.title ++
+    (10 ∷ (said_contents p ++
+    (codes "\nPackages by licence\n" ++
+    (flat_map said_band p.bands ++
+    (codes "Licence texts\n" ++ (flat_map said_text p.texts ++ codes "\n\n\n"))))))
 
 -- ---- that it says it
 
@@ -59,7 +68,12 @@ html_head title = HTML_HEAD.now ++ (page_text title ++ HTML_STYLE.now)
 -- from the heading on
 abbrev pub html_body : Told → List ℕ
 html_body p =
-    page_text p.title ++ (codes "</h1>\n" ++ (html_contents p.bands p.texts ++ (codes "<main>\n<h2>Packages by licence</h2>\n" ++ (numbered html_band 0 p.bands ++ (codes "<h2>Licence texts</h2>\n" ++ (numbered html_text 0 p.texts ++ codes "</main>\n</body>\n</html>\n"))))))
+    page_text p.title ++
+    (codes "</h1>\n" ++ (html_contents p.bands p.texts ++
+    (codes "<main>\n<h2>Packages by licence</h2>\n" ++
+    (numbered html_band 0 p.bands ++
+    (codes "<h2>Licence texts</h2>\n" ++
+    (numbered html_text 0 p.texts ++ codes "</main>\n</body>\n</html>\n"))))))
 
 -- the page is a head and a body, of which a browser shows what it says
 pub record IsShown (p : Told) : Type 0 where

@@ -21,7 +21,8 @@ abbrev pub named : LicenseText → Named
 named t = record { name = t.name.now; bytes = t.bytes.now }
 
 abbrev pub told : Page → Told
-told p = record { title = p.title.now; bands = bands_of p.groups.now; texts = map named p.texts.now }
+told p =
+    record { title = p.title.now; bands = bands_of p.groups.now; texts = map named p.texts.now }
 
 -- a name in a line, which it can't end
 abbrev pub line_text : List ℕ → List ℕ

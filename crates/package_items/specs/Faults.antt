@@ -32,7 +32,8 @@ abbrev pub place_text : List ℕ → List ℕ
 place_text at = if length at == 0 then codes "the whole document" else shown at
 
 abbrev pub needed_text : List ℕ → List ℕ → Found → List ℕ
-needed_text needed at f = needed ++ (codes " at " ++ (place_text at ++ (codes ": " ++ found_text f)))
+needed_text needed at f =
+    needed ++ (codes " at " ++ (place_text at ++ (codes ": " ++ found_text f)))
 
 abbrev pub with_text : List ℕ → List ℕ → List ℕ
 with_text wrong text = wrong ++ (codes " " ++ shown text)
@@ -57,7 +58,8 @@ count_text number count =
 
 -- the line that is printed of a fault
 abbrev pub fault_text : SourceFault → List ℕ
-fault_text (fault.NotJson line column) = codes "not JSON: line " ++ (decimal line ++ (codes ", column " ++ decimal column))
+fault_text (fault.NotJson line column) =
+    codes "not JSON: line " ++ (decimal line ++ (codes ", column " ++ decimal column))
 fault_text (fault.NotPointer text) = with_text (codes "not a JSON pointer:") (string_bytes text)
 fault_text (fault.NotList at f) = needed_text (codes "not a list") (string_bytes at) f
 fault_text (fault.NotObject at f) = needed_text (codes "not an object") (string_bytes at) f
@@ -70,7 +72,8 @@ fault_text (fault.LineNotText line at f) = no_text_text line (string_bytes at) f
 fault_text (fault.NoField name) = with_text (codes "no line") (string_bytes name)
 fault_text fault.OpenQuote = codes "a quote is not closed"
 fault_text fault.NoNameColumn = codes "no column name, module name, package or component"
-fault_text fault.NoLicenseColumn = codes "no column license, licence, licenses, license expression or spdx"
+fault_text fault.NoLicenseColumn =
+    codes "no column license, licence, licenses, license expression or spdx"
 fault_text (fault.RecordNotUtf8 number) = in_record number (codes "not UTF-8")
 fault_text (fault.NotColumns number count) = count_text number count
 fault_text (fault.TooFewColumns number) = in_record number (codes "too few columns")

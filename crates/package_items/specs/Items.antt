@@ -20,11 +20,14 @@ root_item folder own d = record { key = folder; at = []; holds = d; is_own = own
 -- the items of a list at a pointer, from the given index on
 abbrev pub items_from : List ℕ → ℕ → Items → List ItemRow
 items_from at index no_items = []
-items_from at index (item d ds) = record { key = []; at = at ++ (codes "/" ++ decimal index); holds = d; is_own = false } ∷ items_from at (suc index) ds
+items_from at index (item d ds) =
+    record { key = []; at = at ++ (codes "/" ++ decimal index); holds = d; is_own = false } ∷
+    items_from at (suc index) ds
 
 -- the item of that name, of an object at a pointer
 abbrev pub member_item : List ℕ → List ℕ → Data → ItemRow
-member_item at key d = record { key = key; at = at ++ (codes "/" ++ escaped key); holds = d; is_own = false }
+member_item at key d =
+    record { key = key; at = at ++ (codes "/" ++ escaped key); holds = d; is_own = false }
 
 -- the items of an object at a pointer
 abbrev pub items_named : List ℕ → Members → List ItemRow

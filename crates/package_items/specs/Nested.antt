@@ -27,7 +27,9 @@ too_deep i = deeper i.at
 -- an item, and behind it its parts, each with its own parts, through so many levels
 unfoldable pub with_parts : PartsRow → ℕ → ItemRow → Result (List ItemRow) Fault
 with_parts p zero i = Err (too_deep i)
-with_parts p (suc n) i = on_ok (parts_of p i) (λ inner. on_ok (all_of (λ x. with_parts p n x) inner) (λ more. Ok (i ∷ more)))
+with_parts p (suc n) i =
+    on_ok (parts_of p i)
+    (λ inner. on_ok (all_of (λ x. with_parts p n x) inner) (λ more. Ok (i ∷ more)))
 
 -- each of the items, with its parts behind it
 abbrev pub all_with_parts : PartsRow → ℕ → List ItemRow → Result (List ItemRow) Fault

@@ -85,7 +85,8 @@ row_of p = record {
 }
 
 abbrev pub item_row : Item → ItemRow
-item_row i = record { key = i.key.now; at = string_bytes i.at; holds = view i.value.now; is_own = i.is_own }
+item_row i =
+    record { key = i.key.now; at = string_bytes i.at; holds = view i.value.now; is_own = i.is_own }
 
 abbrev pub fault_of : SourceFault → Fault
 fault_of (fault.NotJson line column) = not_json

@@ -9,7 +9,8 @@ is_blank text = list_all is_ascii_whitespace text
 
 -- a blank text says nothing, nor do SPDX's two words for nothing
 abbrev pub is_unstated : List ℕ → Bool
-is_unstated text = is_blank text || (bytes_eq text (codes "NONE") || bytes_eq text (codes "NOASSERTION"))
+is_unstated text =
+    is_blank text || (bytes_eq text (codes "NONE") || bytes_eq text (codes "NOASSERTION"))
 
 -- what a text says that is there
 abbrev pub license_in : List ℕ → LicenseRow
@@ -51,12 +52,14 @@ closes_behind depth (b ∷ bs) =
 abbrev pub is_open : List ℕ → Bool
 is_open text = not (closes_behind 0 text)
 
--- texts together; but one whose parentheses don't close stands alone, for it could open or close those of the others, and no
--- reader takes it
+-- texts together; but one whose parentheses don't close stands alone, for it could open or close
+-- those of the others, and no reader takes it
 abbrev pub together : List ℕ → List (List ℕ) → Option (List ℕ) → List ℕ
 together word texts None = joined word texts
 together word texts (Some text) = text
 
 -- what several texts say: nothing, if none of them says anything
 unfoldable pub license_of_all : List ℕ → List (List ℕ) → LicenseRow
-license_of_all word texts = if list_all is_unstated texts then unstated else stated (together word texts (find is_open texts))
+license_of_all word texts =
+    if list_all is_unstated texts then unstated
+    else stated (together word texts (find is_open texts))

@@ -10,7 +10,8 @@ use Rattle.package_items.specs.Members.{on_ok, text_if_any}
 use Rattle.package_items.specs.Items.{list_items, member_items, texts_of, if_object, each}
 use Rattle.package_items.specs.Packages.{said}
 
--- both parts of a key; there are none if the first is empty, for a scope of names begins with an at sign
+-- both parts of a key; there are none if the first is empty, for a scope of names begins with an at
+-- sign
 abbrev pub unless_first : Option (List ℕ × List ℕ) → Option (List ℕ × List ℕ)
 unless_first None = None
 unless_first (Some parts) = if length parts.0 == 0 then None else Some parts
@@ -39,7 +40,8 @@ is_guess text = ends_with nat_eq text (codes "*")
 
 -- a guess says nothing, nor does `UNKNOWN`
 abbrev pub license_said : List ℕ → LicenseRow
-license_said text = if is_guess text || bytes_eq text (codes "UNKNOWN") then unstated else license_in text
+license_said text =
+    if is_guess text || bytes_eq text (codes "UNKNOWN") then unstated else license_in text
 
 abbrev pub said_if_any : Option (List ℕ) → LicenseRow
 said_if_any None = unstated
@@ -69,7 +71,15 @@ guesses i = guesses_in (get (codes "licenses") i.holds)
 
 abbrev pub with_file : Option (List ℕ) → ℕ → PackageRow → PackageRow
 with_file file n p =
-    record { name = p.name; version = p.version; license = p.license; license_file = file; evidence = n; is_own = p.is_own; spot = p.spot }
+    record {
+      name = p.name;
+      version = p.version;
+      license = p.license;
+      license_file = file;
+      evidence = n;
+      is_own = p.is_own;
+      spot = p.spot;
+    }
 
 -- the package that a member is; what is guessed is evidence
 abbrev pub checked : ItemRow → Result PackageRow Fault

@@ -37,7 +37,8 @@ behind_name name line =
     && str_eq_ignore_ascii_case (before_first is_colon line) name
     then Some (after_first is_colon line) else None
 
-abbrev pub field_or : Option (List ℕ) → List (List ℕ) → Option (List (List ℕ)) → Option (List (List ℕ))
+abbrev pub field_or : Option (List ℕ) → List (List ℕ) → Option (List (List ℕ)) →
+    Option (List (List ℕ))
 field_or None more next = next
 field_or (Some text) more next = Some (with_folded text more)
 
@@ -113,5 +114,6 @@ package_of head = named head (text_at (codes "Name") head)
 -- the package of the file, by the lines before the first that is empty
 abbrev pub metadata_packages : List ℕ → Result (List PackageRow) Fault
 metadata_packages bytes =
-    if is_utf8 bytes then on_ok (package_of (head_of (slice_split (λ b. b == 10) bytes))) (λ p. Ok (p ∷ []))
+    if is_utf8 bytes then on_ok (package_of (head_of (slice_split (λ b. b == 10) bytes)))
+    (λ p. Ok (p ∷ []))
     else Err (not_utf8 (broken_line bytes))

@@ -12,7 +12,8 @@ use Rattle.package_items.specs.Packages.{said}
 abbrev pub license : List ℕ → LicenseRow
 license text = if bytes_eq text (codes "Unknown") then unstated else license_in text
 
--- each of the texts is a version; where there are none, the one that else is told, or that there is none
+-- each of the texts is a version; where there are none, the one that else is told, or that there is
+-- none
 abbrev pub each_or : Option (List ℕ) → List (List ℕ) → List (Option (List ℕ))
 each_or other texts = if length texts == 0 then other ∷ [] else map Some texts
 
@@ -21,7 +22,8 @@ abbrev pub versions : ItemRow → Result (List (Option (List ℕ))) Fault
 versions i =
     on_ok (list_items_if_any (i.at ++ codes "/versions") (get (codes "versions") i.holds)) (λ is.
     on_ok (texts_of is) (λ texts.
-    on_ok (text_if_any (i.at ++ codes "/version") (get (codes "version") i.holds)) (λ other. Ok (each_or other texts))))
+    on_ok (text_if_any (i.at ++ codes "/version") (get (codes "version") i.holds))
+    (λ other. Ok (each_or other texts))))
 
 -- a package of that name and license for each version
 abbrev pub each_version : List ℕ → ItemRow → List ℕ → List (Option (List ℕ)) → List PackageRow
@@ -30,11 +32,13 @@ each_version text i name versions = map (λ v. said i name v (license text)) ver
 -- the packages of an item, under the license that its group is named by
 abbrev pub packages_of : List ℕ → ItemRow → Result (List PackageRow) Fault
 packages_of text i =
-    if_object i (on_ok (text_of (i.at ++ codes "/name") (get (codes "name") i.holds)) (λ name. on_ok (versions i) (λ vs.
+    if_object i (on_ok (text_of (i.at ++ codes "/name") (get (codes "name") i.holds))
+    (λ name. on_ok (versions i) (λ vs.
     Ok (each_version text i name vs))))
 
 abbrev pub group_packages : ItemRow → Result (List PackageRow) Fault
-group_packages g = on_ok (list_items (g.at ++ codes "") (Some g.holds)) (λ is. all_of (packages_of g.key) is)
+group_packages g =
+    on_ok (list_items (g.at ++ codes "") (Some g.holds)) (λ is. all_of (packages_of g.key) is)
 
 -- the packages of each group, one group behind the other
 abbrev pub pnpm_packages : Data → Result (List PackageRow) Fault

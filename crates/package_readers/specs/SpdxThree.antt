@@ -52,7 +52,8 @@ of_type name i gives = on_ok (type_of i) (λ t. if not (bytes_eq t name) then Ok
 -- a list of ids, or one alone
 abbrev pub targets_at : List ℕ → Option Data → Result (List (List ℕ)) Fault
 targets_at at found =
-    if is_list found then on_ok (list_items at found) texts_of else on_ok (text_of at found) (λ t. Ok (t ∷ []))
+    if is_list found then on_ok (list_items at found) texts_of
+    else on_ok (text_of at found) (λ t. Ok (t ∷ []))
 
 abbrev pub targets : ItemRow → Result (List (List ℕ)) Fault
 targets i = targets_at (i.at ++ codes "/to") (get (codes "to") i.holds)
@@ -61,11 +62,13 @@ abbrev pub each_target : List ℕ → List ℕ → List (List ℕ) → List Rela
 each_target kind from targets = map (λ t. record { kind = kind; from = from; to = t }) targets
 
 abbrev pub tells_license : List ℕ → Bool
-tells_license kind = bytes_eq kind (codes "hasConcludedLicense") || bytes_eq kind (codes "hasDeclaredLicense")
+tells_license kind =
+    bytes_eq kind (codes "hasConcludedLicense") || bytes_eq kind (codes "hasDeclaredLicense")
 
 abbrev pub relations_told : ItemRow → Result (List RelationRow) Fault
 relations_told i =
-    on_ok (text_of (i.at ++ codes "/relationshipType") (get (codes "relationshipType") i.holds)) (λ kind.
+    on_ok (text_of (i.at ++ codes "/relationshipType") (get (codes "relationshipType") i.holds))
+    (λ kind.
     if not (tells_license kind) then Ok []
     else on_ok (text_of (i.at ++ codes "/from") (get (codes "from") i.holds)) (λ from.
     on_ok (targets i) (λ ts. Ok (each_target kind from ts))))
@@ -91,9 +94,11 @@ wordings_of i = of_type (codes "simplelicensing_LicenseExpression") i (wording_t
 abbrev pub wordings : List ItemRow → Result (List WordingRow) Fault
 wordings is = all_of wordings_of is
 
--- the two individuals, for no license and for none that is known, by their short names and by their full ones
+-- the two individuals, for no license and for none that is known, by their short names and by their
+-- full ones
 abbrev pub is_individual : List ℕ → Bool
-is_individual id = ends_with nat_eq id (codes "NoAssertionLicense") || ends_with nat_eq id (codes "NoneLicense")
+is_individual id =
+    ends_with nat_eq id (codes "NoAssertionLicense") || ends_with nat_eq id (codes "NoneLicense")
 
 abbrev pub home : List ℕ
 home = codes "https://spdx.org/licenses/"
@@ -101,7 +106,8 @@ home = codes "https://spdx.org/licenses/"
 -- the text of a license that no element spells out: of a listed one its name, of another one its id
 abbrev pub listed : List ℕ → List ℕ
 listed id =
-    if is_individual id then codes "NOASSERTION" else if starts_with nat_eq id home then drop (length home) id else id
+    if is_individual id then codes "NOASSERTION" else if starts_with nat_eq id home
+    then drop (length home) id else id
 
 -- the text of the license of that id
 abbrev pub text_for : List WordingRow → List ℕ → List ℕ
@@ -114,7 +120,8 @@ text_for (w ∷ ws) id = if bytes_eq w.id id then w.text else text_for ws id
 abbrev pub texts_for : List WordingRow → List ℕ → List ℕ → List RelationRow → List (List ℕ)
 texts_for ws kind from [] = []
 texts_for ws kind from (r ∷ rs) =
-    if bytes_eq r.kind kind && bytes_eq r.from from then text_for ws r.to ∷ texts_for ws kind from rs
+    if bytes_eq r.kind kind && bytes_eq r.from from then text_for ws r.to ∷
+    texts_for ws kind from rs
     else texts_for ws kind from rs
 
 -- what relations of this kind tell: all licenses hold
@@ -124,7 +131,8 @@ license_by rs ws kind from = license_of_all (codes " AND ") (texts_for ws kind f
 -- the concluded license if it is stated, else the declared one
 abbrev pub license : List RelationRow → List WordingRow → List ℕ → LicenseRow
 license rs ws id =
-    stated_or (license_by rs ws (codes "hasConcludedLicense") id) (license_by rs ws (codes "hasDeclaredLicense") id)
+    stated_or (license_by rs ws (codes "hasConcludedLicense") id)
+    (license_by rs ws (codes "hasDeclaredLicense") id)
 
 -- the package that an element is
 abbrev pub package_of : List RelationRow → List WordingRow → ItemRow → Result PackageRow Fault
@@ -135,13 +143,17 @@ package_of rs ws i =
     (get (codes "software_packageVersion") i.holds)) (λ version.
     Ok (said i name version (license rs ws id)))))
 
-abbrev pub packages_of : List RelationRow → List WordingRow → ItemRow → Result (List PackageRow) Fault
-packages_of rs ws i = of_type (codes "software_Package") i (on_ok (package_of rs ws i) (λ p. Ok (p ∷ [])))
+abbrev pub packages_of : List RelationRow → List WordingRow → ItemRow →
+    Result (List PackageRow) Fault
+packages_of rs ws i =
+    of_type (codes "software_Package") i (on_ok (package_of rs ws i) (λ p. Ok (p ∷ [])))
 
-abbrev pub all_packages : List RelationRow → List WordingRow → List ItemRow → Result (List PackageRow) Fault
+abbrev pub all_packages : List RelationRow → List WordingRow → List ItemRow →
+    Result (List PackageRow) Fault
 all_packages rs ws is = all_of (packages_of rs ws) is
 
 -- the packages of the elements, in their order
 abbrev pub graph_packages : Data → Result (List PackageRow) Fault
 graph_packages d =
-    on_ok (elements d) (λ is. on_ok (relations is) (λ rs. on_ok (wordings is) (λ ws. all_packages rs ws is)))
+    on_ok (elements d) (λ is.
+    on_ok (relations is) (λ rs. on_ok (wordings is) (λ ws. all_packages rs ws is)))

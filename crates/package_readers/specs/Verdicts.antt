@@ -41,7 +41,8 @@ said_on number d =
 
 -- the package of a line
 abbrev pub verdict : ℕ → List ℕ → Result PackageRow Fault
-verdict number line = on_ok (value_on number line) (λ d. on_ok (object_on number d) (said_on number))
+verdict number line =
+    on_ok (value_on number line) (λ d. on_ok (object_on number d) (said_on number))
 
 -- the packages of the lines that aren't blank
 abbrev pub verdict_packages : List ℕ → Result (List PackageRow) Fault

@@ -31,7 +31,15 @@ is_own members i = is_among members (get (codes "id") i.holds)
 
 abbrev pub with_file : Option (List ℕ) → Bool → PackageRow → PackageRow
 with_file file own p =
-    record { name = p.name; version = p.version; license = p.license; license_file = file; evidence = p.evidence; is_own = own; spot = p.spot }
+    record {
+      name = p.name;
+      version = p.version;
+      license = p.license;
+      license_file = file;
+      evidence = p.evidence;
+      is_own = own;
+      spot = p.spot;
+    }
 
 -- the package that an item is; the members of the workspace are one's own
 abbrev pub cargo : List ItemRow → ItemRow → Result PackageRow Fault
@@ -39,7 +47,8 @@ cargo members i =
     if_object i (on_ok (text_of (i.at ++ codes "/name") (get (codes "name") i.holds)) (λ name.
     on_ok (text_if_any (i.at ++ codes "/version") (get (codes "version") i.holds)) (λ version.
     on_ok (cargo_license i) (λ license.
-    on_ok (text_if_any (i.at ++ codes "/license_file") (get (codes "license_file") i.holds)) (λ file.
+    on_ok (text_if_any (i.at ++ codes "/license_file") (get (codes "license_file") i.holds))
+    (λ file.
     Ok (with_file file (is_own members i) (said i name version license)))))))
 
 -- the packages that items are: each is one, in their order

@@ -15,7 +15,8 @@ abbrev pub inner : List ℕ → List ℕ → Data → Option Data
 inner outer key d = option_and_then (get key) (get outer d)
 
 -- the first text, if there is one, else the next
-abbrev pub first_text : Result (Option (List ℕ)) Fault → Result (List ℕ) Fault → Result (List ℕ) Fault
+abbrev pub first_text : Result (Option (List ℕ)) Fault → Result (List ℕ) Fault →
+    Result (List ℕ) Fault
 first_text (Err f) next = Err f
 first_text (Ok (Some text)) next = Ok text
 first_text (Ok None) next = next
@@ -27,12 +28,15 @@ id_or_name i license =
     (text_of (i.at ++ codes "/license/name") (get (codes "name") license))
 
 abbrev pub license_text : ItemRow → Result (List ℕ) Fault
-license_text i = on_ok (object_at (i.at ++ codes "/license") (get (codes "license") i.holds)) (id_or_name i)
+license_text i =
+    on_ok (object_at (i.at ++ codes "/license") (get (codes "license") i.holds)) (id_or_name i)
 
 -- an expression, or else what a license says
 abbrev pub entry_text : ItemRow → Result (List ℕ) Fault
 entry_text i =
-    if_object i (first_text (text_if_any (i.at ++ codes "/expression") (get (codes "expression") i.holds)) (license_text i))
+    if_object i (first_text
+    (text_if_any (i.at ++ codes "/expression") (get (codes "expression") i.holds))
+    (license_text i))
 
 abbrev pub says_concluded : Option Data → Bool
 says_concluded (Some (string s)) = bytes_eq s (codes "concluded")
@@ -41,26 +45,34 @@ says_concluded found = false
 -- whether an entry is what an analysis concluded: it says so itself, or its license does
 abbrev pub is_concluded : ItemRow → Bool
 is_concluded i =
-    says_concluded (get (codes "acknowledgement") i.holds) || says_concluded (inner (codes "license") (codes "acknowledgement") i.holds)
+    says_concluded (get (codes "acknowledgement") i.holds) ||
+    says_concluded (inner (codes "license") (codes "acknowledgement") i.holds)
 
 -- the texts of the entries that count: of the concluded ones alone, or of all
 abbrev pub texts_in : Bool → List ItemRow → Result (List (List ℕ)) Fault
 texts_in only_concluded [] = Ok []
 texts_in only_concluded (i ∷ is) =
-    if not only_concluded || is_concluded i then on_ok (entry_text i) (λ t. on_ok (texts_in only_concluded is) (λ ts. Ok (t ∷ ts)))
+    if not only_concluded || is_concluded i
+    then on_ok (entry_text i) (λ t. on_ok (texts_in only_concluded is) (λ ts. Ok (t ∷ ts)))
     else texts_in only_concluded is
 
--- what the entries say: the concluded ones, if there are any, or else all; those that count hold together
+-- what the entries say: the concluded ones, if there are any, or else all; those that count hold
+-- together
 abbrev pub license_of_entries : List ItemRow → Result LicenseRow Fault
-license_of_entries is = on_ok (texts_in (list_any is_concluded is) is) (λ texts. Ok (license_of_all (codes " AND ") texts))
+license_of_entries is =
+    on_ok (texts_in (list_any is_concluded is) is)
+    (λ texts. Ok (license_of_all (codes " AND ") texts))
 
 abbrev pub license : ItemRow → Result LicenseRow Fault
-license i = on_ok (list_items_if_any (i.at ++ codes "/licenses") (get (codes "licenses") i.holds)) license_of_entries
+license i =
+    on_ok (list_items_if_any (i.at ++ codes "/licenses") (get (codes "licenses") i.holds))
+    license_of_entries
 
 -- how many licenses were seen in the files of a component
 abbrev pub evidence : ItemRow → Result ℕ Fault
 evidence i =
-    on_ok (list_items_if_any (i.at ++ codes "/evidence/licenses") (inner (codes "evidence") (codes "licenses") i.holds)) (λ seen.
+    on_ok (list_items_if_any (i.at ++ codes "/evidence/licenses")
+    (inner (codes "evidence") (codes "licenses") i.holds)) (λ seen.
     Ok (length seen))
 
 -- a name behind its group, if there is one
@@ -71,18 +83,28 @@ grouped (Some group) name = if length group == 0 then name else group ++ (codes 
 abbrev pub name_of : ItemRow → Result (List ℕ) Fault
 name_of i =
     on_ok (text_if_any (i.at ++ codes "/group") (get (codes "group") i.holds)) (λ group.
-    on_ok (text_of (i.at ++ codes "/name") (get (codes "name") i.holds)) (λ name. Ok (grouped group name)))
+    on_ok (text_of (i.at ++ codes "/name") (get (codes "name") i.holds))
+    (λ name. Ok (grouped group name)))
 
 abbrev pub with_evidence : ℕ → PackageRow → PackageRow
 with_evidence n p =
-    record { name = p.name; version = p.version; license = p.license; license_file = p.license_file; evidence = n; is_own = p.is_own; spot = p.spot }
+    record {
+      name = p.name;
+      version = p.version;
+      license = p.license;
+      license_file = p.license_file;
+      evidence = n;
+      is_own = p.is_own;
+      spot = p.spot;
+    }
 
 -- the package that a component or a service is
 abbrev pub cyclonedx : ItemRow → Result PackageRow Fault
 cyclonedx i =
     if_object i (on_ok (name_of i) (λ name.
     on_ok (text_if_any (i.at ++ codes "/version") (get (codes "version") i.holds)) (λ version.
-    on_ok (license i) (λ l. on_ok (evidence i) (λ n. Ok (with_evidence n (said i name version l)))))))
+    on_ok (license i) (λ l.
+    on_ok (evidence i) (λ n. Ok (with_evidence n (said i name version l)))))))
 
 abbrev pub is_text : List ℕ → Option Data → Bool
 is_text text (Some (string s)) = bytes_eq s text
@@ -118,8 +140,11 @@ components d = on_ok (component_list d) (λ is. all_with_parts (in_list (codes "
 
 abbrev pub services : Data → Result (List ItemRow) Fault
 services d =
-    on_ok (list_items_if_any (codes "/services") (get (codes "services") d)) (λ is. all_with_parts (in_list (codes "services")) 64 is)
+    on_ok (list_items_if_any (codes "/services") (get (codes "services") d))
+    (λ is. all_with_parts (in_list (codes "services")) 64 is)
 
 -- the subject, the components and the services, each with its parts behind it
 abbrev pub items : Data → Result (List ItemRow) Fault
-items d = on_ok (subject d) (λ ms. on_ok (components d) (λ cs. on_ok (services d) (λ ss. Ok ((ms ++ cs) ++ ss))))
+items d =
+    on_ok (subject d) (λ ms.
+    on_ok (components d) (λ cs. on_ok (services d) (λ ss. Ok ((ms ++ cs) ++ ss))))

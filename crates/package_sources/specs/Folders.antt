@@ -19,6 +19,7 @@ name_of_ends ends = []
 abbrev pub ends : List (List ℕ) → List (List ℕ)
 ends segments = drop (length segments - 2) segments
 
--- the name of the package in a folder: the last part of its path, with the scope before it if there is one
+-- the name of the package in a folder: the last part of its path, with the scope before it if there
+-- is one
 abbrev pub folder_name : List ℕ → List ℕ
 folder_name path = name_of_ends (ends (slice_split (λ b. b == 47) path))

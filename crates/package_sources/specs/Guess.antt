@@ -49,7 +49,8 @@ is_graph d = has (codes "@graph") d || is_context (get (codes "@context") d)
 -- the form that is told by members, whatever their names
 abbrev pub form_of_members : Data → Option Form
 form_of_members (object ms) =
-    if some_member is_checked ms then Some form.LicenseChecker else if some_member is_group ms then Some form.Pnpm else None
+    if some_member is_checked ms then Some form.LicenseChecker else if some_member is_group ms
+    then Some form.Pnpm else None
 form_of_members d = None
 
 -- what a document has tells its form
@@ -61,7 +62,8 @@ form_of_document d =
     else if is_graph d then Some form.SpdxThree
     else if has (codes "workspace_members") d then Some form.Cargo
     else if has (codes "content-hash") d || has (codes "require") d then Some form.Composer
-    else if has (codes "lockfileVersion") d || (has (codes "name") d || has (codes "dependencies") d) then Some form.Npm
+    else if has (codes "lockfileVersion") d ||
+    (has (codes "name") d || has (codes "dependencies") d) then Some form.Npm
     else form_of_members d
 
 abbrev pub form_or_fault : Option Form → Result Form Fault
@@ -82,13 +84,17 @@ begins_json bytes = opens_json (find is_mark bytes)
 
 -- whether the bytes begin with the field that the metadata of Python begin with, in any case
 abbrev pub begins_metadata : List ℕ → Bool
-begins_metadata bytes = not (nat_lt (length bytes) 17) && str_eq_ignore_ascii_case (take 17 bytes) (codes "Metadata-Version:")
+begins_metadata bytes =
+    not (nat_lt (length bytes) 17) &&
+    str_eq_ignore_ascii_case (take 17 bytes) (codes "Metadata-Version:")
 
 -- whether the bytes begin, behind white space, as the gate's lines do: with the file of a package
 abbrev pub begins_verdicts : List ℕ → Bool
-begins_verdicts bytes = starts_with nat_eq (drop (prefix_len is_ascii_whitespace bytes) bytes) (codes "{\"file\":")
+begins_verdicts bytes =
+    starts_with nat_eq (drop (prefix_len is_ascii_whitespace bytes) bytes) (codes "{\"file\":")
 
--- verdicts by what they begin with, other JSON by what it has; other bytes are lines, with columns if there is a tab
+-- verdicts by what they begin with, other JSON by what it has; other bytes are lines, with columns
+-- if there is a tab
 abbrev pub guess : List ℕ → Result Form Fault
 guess bytes =
     if begins_verdicts bytes then Ok form.Verdicts

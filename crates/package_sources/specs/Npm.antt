@@ -19,7 +19,8 @@ is_absent found = false
 -- the name of an item, or else that of its folder, which is its key
 abbrev pub name_of : ItemRow → Result (List ℕ) Fault
 name_of i =
-    if is_absent (get (codes "name") i.holds) && not (length (folder_name i.key) == 0) then Ok (folder_name i.key)
+    if is_absent (get (codes "name") i.holds) && not (length (folder_name i.key) == 0)
+    then Ok (folder_name i.key)
     else text_of (i.at ++ codes "/name") (get (codes "name") i.holds)
 
 abbrev pub is_list : Option Data → Bool
@@ -43,8 +44,10 @@ license_in at type_at found =
 abbrev pub npm_license : ItemRow → Result LicenseRow Fault
 npm_license i =
     if is_absent (get (codes "license") i.holds)
-    then license_in (i.at ++ codes "/licenses") (i.at ++ codes "/licenses/type") (get (codes "licenses") i.holds)
-    else license_in (i.at ++ codes "/license") (i.at ++ codes "/license/type") (get (codes "license") i.holds)
+    then license_in (i.at ++ codes "/licenses") (i.at ++ codes "/licenses/type")
+    (get (codes "licenses") i.holds)
+    else license_in (i.at ++ codes "/license") (i.at ++ codes "/license/type")
+    (get (codes "license") i.holds)
 
 abbrev pub points_in : Data → Option Data → Option Data → Bool
 points_in entries (Some (boolean true)) (Some (string target)) = is_some (get target entries)
@@ -56,7 +59,9 @@ is_link entries d = points_in entries (get (codes "link") d) (get (codes "resolv
 
 -- the package of an entry: the empty key is that of the root
 abbrev pub lock_item : List ℕ → ItemRow → ItemRow
-lock_item stand_in i = if length i.key == 0 then record { key = stand_in; at = i.at; holds = i.holds; is_own = true } else i
+lock_item stand_in i =
+    if length i.key == 0 then record { key = stand_in; at = i.at; holds = i.holds; is_own = true }
+    else i
 
 -- the packages of the entries, but for those that point to others
 abbrev pub lock_items : List ℕ → Data → List ItemRow → List ItemRow
@@ -67,7 +72,8 @@ lock_items stand_in entries (i ∷ is) =
 
 abbrev pub entry_items : List ℕ → Data → Result (List ItemRow) Fault
 entry_items stand_in entries =
-    on_ok (member_items (codes "/packages") (Some entries)) (λ is. Ok (lock_items stand_in entries is))
+    on_ok (member_items (codes "/packages") (Some entries))
+    (λ is. Ok (lock_items stand_in entries is))
 
 abbrev pub is_object : Data → Bool
 is_object (object ms) = true
@@ -97,4 +103,6 @@ tree_items stand_in d (Some entries) = entry_items stand_in entries
 
 -- the packages of the entries of a lock file, of a tree, or of a package.json
 abbrev pub npm_items : List ℕ → Data → Result (List ItemRow) Fault
-npm_items stand_in d = if is_tree d then tree_items stand_in d (get (codes "packages") d) else Ok (root_item stand_in false d ∷ [])
+npm_items stand_in d =
+    if is_tree d then tree_items stand_in d (get (codes "packages") d)
+    else Ok (root_item stand_in false d ∷ [])

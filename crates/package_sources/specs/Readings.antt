@@ -24,14 +24,16 @@ pointed_version (Some p) i = text_if_any (i.at ++ p.now) (pointer p.now i.holds)
 
 abbrev pub pointed : Pointers → ItemRow → Result PackageRow Fault
 pointed p i =
-    said_of i (text_of (i.at ++ p.name.now) (pointer p.name.now i.holds)) (pointed_version p.version i)
+    said_of i (text_of (i.at ++ p.name.now) (pointer p.name.now i.holds))
+    (pointed_version p.version i)
     (license_at (i.at ++ p.license.now) (pointer p.license.now i.holds))
 
 -- ---- npm
 
 abbrev pub npm : ItemRow → Result PackageRow Fault
 npm i =
-    if_object i (said_of i (name_of i) (text_if_any (i.at ++ codes "/version") (get (codes "version") i.holds)) (npm_license i))
+    if_object i (said_of i (name_of i)
+    (text_if_any (i.at ++ codes "/version") (get (codes "version") i.holds)) (npm_license i))
 
 -- ---- Composer
 
@@ -39,12 +41,15 @@ npm i =
 abbrev pub composer_license : ItemRow → Result LicenseRow Fault
 composer_license i =
     if is_list (get (codes "license") i.holds)
-    then on_ok (list_items (i.at ++ codes "/license") (get (codes "license") i.holds)) (choice_of entry.Text)
+    then on_ok (list_items (i.at ++ codes "/license") (get (codes "license") i.holds))
+    (choice_of entry.Text)
     else license_at (i.at ++ codes "/license") (get (codes "license") i.holds)
 
 abbrev pub composer : ItemRow → Result PackageRow Fault
 composer i =
-    if_object i (said_of i (name_of i) (text_if_any (i.at ++ codes "/version") (get (codes "version") i.holds)) (composer_license i))
+    if_object i (said_of i (name_of i)
+    (text_if_any (i.at ++ codes "/version") (get (codes "version") i.holds))
+    (composer_license i))
 
 -- ---- pip
 

@@ -20,4 +20,5 @@ entry_text entry.Text i = text_of (i.at ++ codes "") (Some i.holds)
 
 -- what the entries of a list say: each is a choice
 abbrev pub choice_of : Entry → List ItemRow → Result LicenseRow Fault
-choice_of kind items = on_ok (each (entry_text kind) items) (λ texts. Ok (license_of_all (codes " OR ") texts))
+choice_of kind items =
+    on_ok (each (entry_text kind) items) (λ texts. Ok (license_of_all (codes " OR ") texts))

@@ -47,7 +47,8 @@ object_document bytes = on_ok (document bytes) (λ d. object_at (codes "") (Some
 abbrev pub cargo : Data → Result (List PackageRow) Fault
 cargo d =
     on_ok (list_items (codes "/packages") (get (codes "packages") d)) (λ is.
-    on_ok (list_items_if_any (codes "/workspace_members") (get (codes "workspace_members") d)) (λ members.
+    on_ok (list_items_if_any (codes "/workspace_members") (get (codes "workspace_members") d))
+    (λ members.
     cargo_packages members is))
 
 abbrev pub npm : List ℕ → Data → Result (List PackageRow) Fault
@@ -56,7 +57,8 @@ npm folder d = on_ok (npm_items folder d) (packages_of reading.Npm)
 abbrev pub composer_lists : Data → Option Data → Result (List ItemRow) Fault
 composer_lists d found =
     on_ok (list_items (codes "/packages") found) (λ is.
-    on_ok (list_items_if_any (codes "/packages-dev") (get (codes "packages-dev") d)) (λ more. Ok (is ++ more)))
+    on_ok (list_items_if_any (codes "/packages-dev") (get (codes "packages-dev") d))
+    (λ more. Ok (is ++ more)))
 
 abbrev pub composer_found : List ℕ → Data → Option Data → Result (List ItemRow) Fault
 composer_found folder d None = Ok (root_item folder false d ∷ [])
@@ -106,9 +108,12 @@ abbrev pub checked_if_any : Option (List ℕ) → Result (Option (List ℕ)) Fau
 checked_if_any None = Ok None
 checked_if_any (Some text) = on_ok (checked text) (λ t. Ok (Some t))
 
--- the packages of the items of the list at `each`, or the first fault; a pointer that is none comes first
+-- the packages of the items of the list at `each`, or the first fault; a pointer that is none comes
+-- first
 abbrev pub packages_at : Pointers → List ℕ → Result (List PackageRow) Fault
 packages_at p bytes =
-    on_ok (checked p.each.now) (λ each. on_ok (checked p.name.now) (λ name. on_ok (checked_if_any (shown p.version)) (λ version.
+    on_ok (checked p.each.now)
+    (λ each. on_ok (checked p.name.now)
+    (λ name. on_ok (checked_if_any (shown p.version)) (λ version.
     on_ok (checked p.license.now) (λ license. on_ok (document (without_mark bytes)) (λ d.
     on_ok (list_items each (pointer each d)) (packages_of (reading.Pointed p)))))))

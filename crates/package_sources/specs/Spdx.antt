@@ -8,7 +8,8 @@ use Rattle.package_items.specs.Items.{list_items, object_at, if_object}
 use Rattle.package_items.specs.Packages.{said_of}
 
 -- the first, if it is stated, else the next
-abbrev pub stated_first : Result LicenseRow Fault → Result LicenseRow Fault → Result LicenseRow Fault
+abbrev pub stated_first : Result LicenseRow Fault → Result LicenseRow Fault →
+    Result LicenseRow Fault
 stated_first (Err f) next = Err f
 stated_first (Ok (stated text)) next = Ok (stated text)
 stated_first (Ok unstated) next = next
@@ -16,7 +17,8 @@ stated_first (Ok unstated) next = next
 -- the concluded license if it is stated, else the declared one
 abbrev pub license : ItemRow → Result LicenseRow Fault
 license i =
-    stated_first (license_at (i.at ++ codes "/licenseConcluded") (get (codes "licenseConcluded") i.holds))
+    stated_first (license_at (i.at ++ codes "/licenseConcluded")
+    (get (codes "licenseConcluded") i.holds))
     (license_at (i.at ++ codes "/licenseDeclared") (get (codes "licenseDeclared") i.holds))
 
 abbrev pub spdx : ItemRow → Result PackageRow Fault
@@ -26,7 +28,8 @@ spdx i =
 
 abbrev pub items_in : Data → Option Data → Result (List ItemRow) Fault
 items_in d (Some bill) =
-    on_ok (object_at (codes "/sbom") (Some bill)) (λ b. list_items (codes "/sbom/packages") (get (codes "packages") b))
+    on_ok (object_at (codes "/sbom") (Some bill))
+    (λ b. list_items (codes "/sbom/packages") (get (codes "packages") b))
 items_in d None = list_items (codes "/packages") (get (codes "packages") d)
 
 -- the packages of a document, or of the bill that GitHub wraps

@@ -106,8 +106,9 @@ pub record IsGrammarOf (form : PlainForm) (name : List ℕ) (g : Grammar) : Type
   pub section : g.section.now ≡ section_of form
   pub header : g.is_header ≡ is_header form
 
--- what no declared text has in it, since the form's own language puts something in its place: `%{..}` of RPM, `$..` of shells and
--- MSBuild, `#{..}` of Ruby and Elixir, `{{ .. }}` of Conda; in AppStream's texts `=` before the address of other terms
+-- what no declared text has in it, since the form's own language puts something in its place:
+-- `%{..}` of RPM, `$..` of shells and MSBuild, `#{..}` of Ruby and Elixir, `{{ .. }}` of Conda; in
+-- AppStream's texts `=` before the address of other terms
 unfoldable pub marks_of : PlainForm → List ℕ
 marks_of Rpm = codes "%"
 marks_of Alpine = codes "$"

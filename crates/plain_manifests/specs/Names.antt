@@ -28,7 +28,8 @@ by_name_of_systems name =
     if bytes_eq name (codes "galaxy.yml") then Some Galaxy else
     if bytes_eq name (codes "Chart.yaml") then Some Helm else
     if bytes_eq name (codes "CITATION.cff") then Some Citation else
-    if bytes_eq name (codes "Dockerfile") || bytes_eq name (codes "Containerfile") then Some Docker else
+    if bytes_eq name (codes "Dockerfile") || bytes_eq name (codes "Containerfile") then Some Docker
+    else
     None
 
 -- the form of the files of fields whose name ends so
@@ -44,10 +45,13 @@ by_ending name =
 -- the form of the files of elements whose name ends so
 unfoldable pub by_ending_of_elements : List ℕ → Option PlainForm
 by_ending_of_elements name =
-    if ends_with nat_eq name (codes ".metainfo.xml") || ends_with nat_eq name (codes ".appdata.xml") then Some Appstream else
+    if ends_with nat_eq name (codes ".metainfo.xml") || ends_with nat_eq name (codes ".appdata.xml")
+    then Some Appstream else
     if ends_with nat_eq name (codes ".nuspec") then Some Nuget else
-    if ends_with nat_eq name (codes ".csproj") || ends_with nat_eq name (codes ".fsproj") then Some Msbuild else
-    if ends_with nat_eq name (codes ".vbproj") || ends_with nat_eq name (codes ".props") then Some Msbuild else
+    if ends_with nat_eq name (codes ".csproj") || ends_with nat_eq name (codes ".fsproj")
+    then Some Msbuild else
+    if ends_with nat_eq name (codes ".vbproj") || ends_with nat_eq name (codes ".props")
+    then Some Msbuild else
     None
 
 -- the form of the file that is at this path, by the folder that it is in
@@ -97,7 +101,9 @@ by_word_of_elements word =
 -- the form of the file with this name at a path
 abbrev pub by_name : List ℕ → List ℕ → Option PlainForm
 by_name path name =
-    option_or (option_or (option_or (option_or (by_name_of_languages name) (by_name_of_systems name)) (by_ending name))
+    option_or (option_or
+    (option_or (option_or (by_name_of_languages name) (by_name_of_systems name))
+    (by_ending name))
     (by_ending_of_elements name)) (by_place path)
 
 -- the form of the file at a path, by its name there
@@ -106,4 +112,6 @@ plain_form_of path = option_and_then (by_name path) (path_file_name path)
 
 -- the form that goes by a word
 abbrev pub plain_form_named : List ℕ → Option PlainForm
-plain_form_named word = option_or (option_or (by_word_of_languages word) (by_word_of_systems word)) (by_word_of_elements word)
+plain_form_named word =
+    option_or (option_or (by_word_of_languages word) (by_word_of_systems word))
+    (by_word_of_elements word)

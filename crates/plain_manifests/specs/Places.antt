@@ -13,12 +13,15 @@ use Rattle.plain_manifests.specs.Grammars.{IsGrammarOf, name_of, other_name_of}
 -- what stands at a place; nothing past the end
 abbrev pub text_at : List ℕ → Span → List ℕ
 text_at bytes span =
-    if nat_le span.start span.end && nat_le span.end (length bytes) then slice_range bytes span.start span.end else []
+    if nat_le span.start span.end && nat_le span.end (length bytes)
+    then slice_range bytes span.start span.end else []
 
--- an element of this form with these attributes declares a license: in NuGet's an expression, and not a file
+-- an element of this form with these attributes declares a license: in NuGet's an expression, and
+-- not a file
 abbrev pub declares : PlainForm → List ℕ → Bool
 declares Nuget attributes =
-    bytes_eq attributes (codes "type=\"expression\"") || bytes_eq attributes (codes "type='expression'")
+    bytes_eq attributes (codes "type=\"expression\"") ||
+    bytes_eq attributes (codes "type='expression'")
 declares form attributes = true
 
 -- the form's licenses stand in elements
@@ -32,7 +35,9 @@ is_of_elements form = false
 -- where the texts of the elements of this name stand that declare a license
 abbrev pub element_places : PlainForm → List ℕ → List ℕ → List Span
 element_places form name bytes =
-    map (λ (e : Element). e.text) (filter (λ (e : Element). declares form (text_at bytes e.attributes)) (elements_of name bytes))
+    map (λ (e : Element). e.text)
+    (filter (λ (e : Element). declares form (text_at bytes e.attributes))
+    (elements_of name bytes))
 
 -- where the texts of the fields of this name stand
 pub record AreFields (form : PlainForm) (name bytes : List ℕ) (places : List Span) : Type 0 where

@@ -1,4 +1,5 @@
--- The expressions of a file of fields or elements, each at its place, and the file with another one.
+-- The expressions of a file of fields or elements, each at its place, and the file with another
+-- one.
 use Rattle.std.specs.Prelude.{◌≡◌, ◌≢◌, ◌⊎◌, ℕ, Bool, not, List, ◌++◌, None, Some, map, filter, All, set, take, drop, slice_get}
 use Rattle.std.specs.List.{list_any}
 use Rattle.text_places.specs.declared.Span.{Span}
@@ -25,7 +26,8 @@ pub record IsDeclared (bytes : List ℕ) (places : List Span) (site : PlainSite)
 pub record ArePlainSites (form : PlainForm) (bytes : List ℕ) (sites : List PlainSite) : Type 0 where
   pub places : List Span
   pub declared : ArePlaces form bytes places
-  pub texts : map (λ (s : PlainSite). s.text.items) sites ≡ filter (is_expression form) (texts_at bytes places)
+  pub texts : map (λ (s : PlainSite). s.text.items) sites ≡ filter (is_expression form)
+      (texts_at bytes places)
   pub each : All (IsDeclared bytes places) sites
 
 -- the bytes with the new text at the place
@@ -48,9 +50,10 @@ pub record ReadsOther (form : PlainForm) (texts : List (List ℕ)) (bytes : List
 abbrev pub wanted : List ℕ → List Span → ℕ → List ℕ → List (List ℕ)
 wanted bytes places number new = set (texts_at bytes places) number new
 
--- the file has another text in place of the declared one of that number: every other byte stays, and what it declares now is
--- what it declared before but for that text
-pub record MendsPlain (form : PlainForm) (bytes : List ℕ) (number : ℕ) (new mended : List ℕ) : Type 0 where
+-- the file has another text in place of the declared one of that number: every other byte stays,
+-- and what it declares now is what it declared before but for that text
+pub record MendsPlain (form : PlainForm) (bytes : List ℕ) (number : ℕ)
+    (new mended : List ℕ) : Type 0 where
   pub places : List Span
   pub declared : ArePlaces form bytes places
   pub span : Span
@@ -59,7 +62,8 @@ pub record MendsPlain (form : PlainForm) (bytes : List ℕ) (number : ℕ) (new 
   pub reads : ReadsSo form (wanted bytes places number new) mended
 
 -- with the new text at that place the file would declare something else
-pub record ChangesOther (form : PlainForm) (bytes : List ℕ) (places : List Span) (number : ℕ) (new : List ℕ) : Type 0 where
+pub record ChangesOther (form : PlainForm) (bytes : List ℕ) (places : List Span) (number : ℕ)
+    (new : List ℕ) : Type 0 where
   pub span : Span
   pub place : slice_get places number ≡ Some span
   pub other : ReadsOther form (wanted bytes places number new) (with_text bytes span new)

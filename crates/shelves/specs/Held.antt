@@ -9,11 +9,15 @@ use Rattle.shelves.specs.Shelf.{Shelved}
 
 -- the bytes of the first file of that path
 abbrev pub bytes_at : List HeldFile → List ℕ → Option (List ℕ)
-bytes_at files path = option_map (λ (f : HeldFile). f.bytes.items) (find (λ (f : HeldFile). bytes_eq (string_bytes f.path) path) files)
+bytes_at files path =
+    option_map (λ (f : HeldFile). f.bytes.items)
+    (find (λ (f : HeldFile). bytes_eq (string_bytes f.path) path) files)
 
 -- what the first variable of that name says
 abbrev pub says : List HeldVariable → List ℕ → Option (List ℕ)
-says variables name = option_map (λ (v : HeldVariable). string_bytes v.text) (find (λ (v : HeldVariable). bytes_eq (string_bytes v.name) name) variables)
+says variables name =
+    option_map (λ (v : HeldVariable). string_bytes v.text)
+    (find (λ (v : HeldVariable). bytes_eq (string_bytes v.name) name) variables)
 
 abbrev pub has_folder : List HeldFolder → List ℕ → Bool
 has_folder folders path = list_any (λ (f : HeldFolder). bytes_eq (string_bytes f.path) path) folders

@@ -9,4 +9,6 @@ pub record Shelved : Type 1 where
 
 -- what tells nothing
 abbrev pub silent : Shelved
-silent = record { Holds = λ path bytes. Unit {0}; IsFolder = λ path is. Unit {0}; Says = λ name text. Unit {0} }
+silent =
+    record { Holds = λ path bytes. Unit {0}; IsFolder = λ path is. Unit {0};
+    Says = λ name text. Unit {0} }

@@ -25,7 +25,8 @@ same_tree (Join o l r) (Join p t u) = same_operator o p && (same_tree l t && sam
 same_tree (Leaf r) (Join p t u) = false
 same_tree (Join o l r) (Leaf s) = false
 
--- What equality sees of a tree: its shape, its operators and the keys of its requirements, in which a row is its index.
+-- What equality sees of a tree: its shape, its operators and the keys of its requirements, in which
+-- a row is its index.
 pub data TreeKey : Type 0 where
   leaf_key : RequirementKey → TreeKey
   join_key : Operator → TreeKey → TreeKey → TreeKey

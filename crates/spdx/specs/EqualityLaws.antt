@@ -1,4 +1,5 @@
--- Trees are the same exactly where their keys are equal; and over one catalogue that is equality of the trees.
+-- Trees are the same exactly where their keys are equal; and over one catalogue that is equality of
+-- the trees.
 use Rattle.std.specs.Prelude.{◌≡◌, ℕ, true, false, Option, Some, None, option_map, slice_get}
 use Rattle.std.specs.Bool.{Decides}
 use Rattle.std.specs.Cmp.{IsPartialEquivalence}
@@ -37,7 +38,8 @@ trees_decide (Join o l r) (Join p t u) = (
       let operator : o ≡ p = cc in
       let left : tree_key l ≡ tree_key t = cc in
       let right : tree_key r ≡ tree_key u = cc in
-      true_both _ _ ((operators_decide o p).1 operator) (true_both _ _ ((trees_decide l t).1 left) ((trees_decide r u).1 right))),
+      true_both _ _ ((operators_decide o p).1 operator)
+      (true_both _ _ ((trees_decide l t).1 left) ((trees_decide r u).1 right))),
 )
 trees_decide (Leaf r) (Join p t u) = ((λ e. let bad : false ≡ true = e in cc), (λ e. cc))
 trees_decide (Join o l r) (Leaf s) = ((λ e. let bad : false ≡ true = e in cc), (λ e. cc))
@@ -48,13 +50,15 @@ same_tree_laws = record {
   symm = λ a b.
       let there = trees_decide a b in
       let back = trees_decide b a in
-      same_from_decides (same_tree a b) (same_tree b a) there ((λ e. sym (back.0 e)), (λ e. back.1 (sym e)));
+      same_from_decides (same_tree a b) (same_tree b a) there
+      ((λ e. sym (back.0 e)), (λ e. back.1 (sym e)));
   trans = λ a b c e f. (trees_decide a c).1 ((trees_decide a b).0 e ∙ (trees_decide b c).0 f);
 }
 
 -- Over one catalogue a row is told by its index.
 
-license_told : (c : Rows) (x y : LicenseTerm) → IsLicenseOf c x → IsLicenseOf c y → license_key x ≡ license_key y → x ≡ y
+license_told : (c : Rows) (x y : LicenseTerm) → IsLicenseOf c x → IsLicenseOf c y →
+    license_key x ≡ license_key y → x ≡ y
 license_told c (listed r m) (listed s n) h k e =
     let index : r.index ≡ s.index = cc in
     let mark : m ≡ n = cc in
@@ -65,7 +69,8 @@ license_told c (referred x) (referred y) h k e = cc
 license_told c (listed r m) (referred y) h k e = cc
 license_told c (referred x) (listed s n) h k e = cc
 
-addition_told : (c : Rows) (x y : Option Addition) → IsAdditionOf c x → IsAdditionOf c y → option_map addition_key x ≡ option_map addition_key y → x ≡ y
+addition_told : (c : Rows) (x y : Option Addition) → IsAdditionOf c x → IsAdditionOf c y →
+    option_map addition_key x ≡ option_map addition_key y → x ≡ y
 addition_told c None None h k e = refl
 addition_told c None (Some y) h k e = cc
 addition_told c (Some x) None h k e = cc
@@ -78,7 +83,8 @@ addition_told c (Some (added x)) (Some (added y)) h k e = cc
 addition_told c (Some (excepted r)) (Some (added y)) h k e = cc
 addition_told c (Some (added x)) (Some (excepted s)) h k e = cc
 
-pub tree_told : (c : Rows) (a b : Tree) → IsOfRows c a → IsOfRows c b → tree_key a ≡ tree_key b → a ≡ b
+pub tree_told : (c : Rows) (a b : Tree) → IsOfRows c a → IsOfRows c b → tree_key a ≡ tree_key b →
+    a ≡ b
 tree_told c (Leaf r) (Leaf s) h k e =
     let same : requirement_key r ≡ requirement_key s = cc in
     let license : r.license ≡ s.license = license_told c r.license s.license h.0 k.0 (ap (λ (z : RequirementKey). z.license) same) in

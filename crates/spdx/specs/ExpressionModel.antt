@@ -8,7 +8,12 @@ use Rattle.spdx.specs.declared.expression.Expression.TheInside.{Inside}
 
 -- an expression shows its text, the tree of its nodes, and their spans
 abbrev pub written : Inside → Written
-written e = record { text = string_bytes e.original; tree = tree_in e.nodes.items; spans = requirement_spans e.nodes.items }
+written e =
+    record {
+      text = string_bytes e.original;
+      tree = tree_in e.nodes.items;
+      spans = requirement_spans e.nodes.items;
+    }
 
 -- the nodes are the postfix list of the tree
 abbrev pub IsWritten : Inside → Type 0

@@ -6,8 +6,8 @@ pub mod Equality
 pub mod EqualityLaws
 pub mod Meaning
 pub mod JudgeModel
--- What contracts of this crate's calls cite of the crates below, so that callers name this crate alone. Where two
--- modules have one name, the crate's word stands before it.
+-- What contracts of this crate's calls cite of the crates below, so that callers name this crate
+-- alone. Where two modules have one name, the crate's word stands before it.
 pub use Rattle.spdx_requirement.specs.Endings
 pub use Rattle.spdx_requirement.specs.Equality as RequirementEquality
 pub use Rattle.spdx_requirement.specs.Failures

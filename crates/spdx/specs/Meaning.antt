@@ -14,8 +14,9 @@ use Rattle.spdx_parser.specs.Meaning.{IsOfRows}
 use Rattle.spdx_normal.specs.Law.{ReadsAs}
 use Rattle.spdx.specs.Value.{Written}
 
--- The text reads without a fault, the grammar derives the expression's tree from its words, and no other; the
--- requirements have the places of the licences' words, and every id in the tree has a row of the catalogue.
+-- The text reads without a fault, the grammar derives the expression's tree from its words, and no
+-- other; the requirements have the places of the licences' words, and every id in the tree has a
+-- row of the catalogue.
 pub record IsReadFrom (c : Rows) (m : ParseMode) (text : List ℕ) (e : Written) : Type 0 where
   pub read : List Placed
   pub reads : reading c m 0 text ≡ map Ok read

@@ -17,7 +17,8 @@ pub record Successor : Type 0 where
   pub license : LicenseRow
   pub addition : Option ExceptionRow
 
--- what a row of a list of names says: of a licence what succeeds it, of an exception which one does, or nothing
+-- what a row of a list of names says: of a licence what succeeds it, of an exception which one
+-- does, or nothing
 pub data Heir : Type 0 where
   of_license : LicenseRow → Successor → Heir
   of_exception : ExceptionRow → ExceptionRow → Heir
@@ -25,7 +26,8 @@ pub data Heir : Type 0 where
 
 -- the successor as a requirement
 abbrev pub as_requirement : Successor → Requirement
-as_requirement s = record { license = listed s.license false; addition = option_map excepted s.addition }
+as_requirement s =
+    record { license = listed s.license false; addition = option_map excepted s.addition }
 
 -- the successor that a requirement is, if it is one
 abbrev pub IsSuccessor : Requirement → Option Successor → Type 0
@@ -38,7 +40,8 @@ IsSuccessorIn c text (Some s) = Names c text (as_requirement s)
 IsSuccessorIn c text None = (s : Successor) → Names c text (as_requirement s) → ⊥
 
 -- the row names a listed licence, and writes a licence in its place, perhaps with an exception
-pub record RestatesLicense (c : Rows) (r : Restated) (old : LicenseRow) (new : Successor) : Type 0 where
+pub record RestatesLicense (c : Rows) (r : Restated) (old : LicenseRow)
+    (new : Successor) : Type 0 where
   pub named : LookUps.listed c.licenses (without_plus r.name) ≡ Some old
   pub written : Names c r.write (as_requirement new)
 
@@ -66,13 +69,15 @@ IsHeirOf c r of_nothing = IsLicenseIn c r None × IsExceptionIn c r None
 -- the successor of a licence, by the first row that has one
 abbrev pub successor_of : List Heir → LicenseRow → Option Successor
 successor_of [] r = None
-successor_of (of_license old new ∷ hs) r = if old.index == r.index then Some new else successor_of hs r
+successor_of (of_license old new ∷ hs) r =
+    if old.index == r.index then Some new else successor_of hs r
 successor_of (of_exception old new ∷ hs) r = successor_of hs r
 successor_of (of_nothing ∷ hs) r = successor_of hs r
 
 -- the exception that succeeds an exception, by the first row that has one
 abbrev pub exception_heir : List Heir → ExceptionRow → Option ExceptionRow
 exception_heir [] r = None
-exception_heir (of_exception old new ∷ hs) r = if old.index == r.index then Some new else exception_heir hs r
+exception_heir (of_exception old new ∷ hs) r =
+    if old.index == r.index then Some new else exception_heir hs r
 exception_heir (of_license old new ∷ hs) r = exception_heir hs r
 exception_heir (of_nothing ∷ hs) r = exception_heir hs r

@@ -25,7 +25,8 @@ serves_term (referred asked) (listed r mark) = false
 
 -- a licence with its addition is among those that a requirement stands for
 abbrev pub stands_for : Requirement → Requirement → Bool
-stands_for asked way = option_eq same_addition asked.addition way.addition && serves_term asked.license way.license
+stands_for asked way =
+    option_eq same_addition asked.addition way.addition && serves_term asked.license way.license
 
 -- a licence with an addition
 abbrev pub way_of : Option Addition → LicenseRow → Requirement
@@ -37,7 +38,7 @@ ways_by c (listed r true) a = map (way_of a) (filter (serves r true) c.licenses)
 ways_by c (listed r false) a = way_of a r ∷ []
 ways_by c (referred r) a = record { license = referred r; addition = a } ∷ []
 
--- The licences that a requirement stands for, each with its addition: one, or where it has a mark that one and its
--- later versions, in the order of the list.
+-- The licences that a requirement stands for, each with its addition: one, or where it has a mark
+-- that one and its later versions, in the order of the list.
 abbrev pub ways : Rows → Requirement → List Requirement
 ways c r = ways_by c r.license r.addition

@@ -16,7 +16,9 @@ use Rattle.spdx_c.specs.Reports.{plain, with_length, of_check, of_put, of_fix, o
 use Rattle.spdx_c.specs.Modes.{mode_of, line_mode_of, IsUnmade}
 
 -- the call on this list answered in these numbers, P of a value and E of a fault
-pub record IsMade {A M : Type 0} (list : Option Rows) (mode : Option M) (told : Result A CallFault → Report) (P : Rows → M → A → Type 0) (E : Rows → M → CallFault → Type 0) (report : Report) : Type 0 where
+pub record IsMade {A M : Type 0} (list : Option Rows) (mode : Option M)
+    (told : Result A CallFault → Report) (P : Rows → M → A → Type 0)
+    (E : Rows → M → CallFault → Type 0) (report : Report) : Type 0 where
   pub rows : Rows
   pub by : M
   pub answer : Result A CallFault
@@ -26,38 +28,59 @@ pub record IsMade {A M : Type 0} (list : Option Rows) (mode : Option M) (told : 
   pub tells : report ≡ told answer
 
 -- it was, or there is no such list or mode
-abbrev pub IsCall : {A M : Type 0} → Option Rows → Option M → (Result A CallFault → Report) → (Rows → M → A → Type 0) → (Rows → M → CallFault → Type 0) → Report → Type 0
+abbrev pub IsCall : {A M : Type 0} → Option Rows → Option M → (Result A CallFault → Report) →
+    (Rows → M → A → Type 0) → (Rows → M → CallFault → Type 0) → Report → Type 0
 IsCall list mode told P E report = IsMade list mode told P E report ⊎ IsUnmade list mode report
 
 -- a fault has this number, and what it says is put; or no fault has it
 abbrev pub IsReasonCall : ℕ → List ℕ → List ℕ → Report → Type 0
 IsReasonCall number old new report =
-    (IsReasonNumber number × ((text : List ℕ) × ((put : Put) × (((fault : Fault) → number_of fault ≡ number → text ≡ description_text fault) × (IsPut text old new put × (report ≡ with_length put))))))
+    (IsReasonNumber number ×
+    ((text : List ℕ) × ((put : Put) ×
+    (((fault : Fault) → number_of fault ≡ number → text ≡ description_text fault) ×
+    (IsPut text old new put × (report ≡ with_length put))))))
     ⊎ (((fault : Fault) → number_of fault ≡ number → ⊥) × (report ≡ plain 9))
 
 abbrev pub IsCheck : Option Rows → ℕ → List ℕ → Report → Type 0
-IsCheck list mode text report = IsCall list (mode_of mode) of_check (λ c m _. Reads c m text) (λ c m. IsTextFault c m text) report
+IsCheck list mode text report =
+    IsCall list (mode_of mode) of_check (λ c m _. Reads c m text) (λ c m. IsTextFault c m text)
+    report
 
 abbrev pub IsCanonicalCall : Option Rows → ℕ → List ℕ → List ℕ → List ℕ → Report → Type 0
-IsCanonicalCall list mode text old new report = IsCall list (mode_of mode) of_put (λ c m. PutsCanonical c m text old new) (λ c m. IsCanonicalFault c m text) report
+IsCanonicalCall list mode text old new report =
+    IsCall list (mode_of mode) of_put (λ c m. PutsCanonical c m text old new)
+    (λ c m. IsCanonicalFault c m text) report
 
 abbrev pub IsFixCall : Option Rows → List ℕ → List ℕ → List ℕ → Report → Type 0
-IsFixCall list text old new report = IsCall list (mode_of 0) of_fix (λ c m. PutsFix c text old new) (λ c m. IsFixFault text) report
+IsFixCall list text old new report =
+    IsCall list (mode_of 0) of_fix (λ c m. PutsFix c text old new) (λ c m. IsFixFault text) report
 
 abbrev pub IsNormalCall : Option Rows → ℕ → List ℕ → List ℕ → List ℕ → Report → Type 0
-IsNormalCall list mode text old new report = IsCall list (mode_of mode) of_put (λ c m. PutsNormal c m text old new) (λ c m. IsTextFault c m text) report
+IsNormalCall list mode text old new report =
+    IsCall list (mode_of mode) of_put (λ c m. PutsNormal c m text old new)
+    (λ c m. IsTextFault c m text) report
 
 abbrev pub IsEvaluation : Option Rows → ℕ → List ℕ → List ℕ → Report → Type 0
-IsEvaluation list mode text licensees report = IsCall list (mode_of mode) of_truth (λ c m. IsTruth c m text licensees) (λ c m. IsQuestionFault c m text licensees) report
+IsEvaluation list mode text licensees report =
+    IsCall list (mode_of mode) of_truth (λ c m. IsTruth c m text licensees)
+    (λ c m. IsQuestionFault c m text licensees) report
 
 abbrev pub IsBitsCall : Option Rows → ℕ → List ℕ → List ℕ → ℕ → Report → Type 0
-IsBitsCall list mode text bits count report = IsCall list (mode_of mode) of_truth (λ c m. IsTruthByBits c m text bits count) (λ c m. IsBitsFault c m text count) report
+IsBitsCall list mode text bits count report =
+    IsCall list (mode_of mode) of_truth (λ c m. IsTruthByBits c m text bits count)
+    (λ c m. IsBitsFault c m text count) report
 
 abbrev pub IsRequirementsCall : Option Rows → ℕ → List ℕ → List ℕ → List ℕ → Report → Type 0
-IsRequirementsCall list mode text old new report = IsCall list (mode_of mode) of_put (λ c m. PutsRequirements c m text old new) (λ c m. IsTextFault c m text) report
+IsRequirementsCall list mode text old new report =
+    IsCall list (mode_of mode) of_put (λ c m. PutsRequirements c m text old new)
+    (λ c m. IsTextFault c m text) report
 
 abbrev pub IsChoiceCall : Option Rows → ℕ → List ℕ → List ℕ → List ℕ → List ℕ → Report → Type 0
-IsChoiceCall list mode text licensees old new report = IsCall list (mode_of mode) of_put (λ c m. PutsChoice c m text licensees old new) (λ c m. IsChoiceFault c m text licensees) report
+IsChoiceCall list mode text licensees old new report =
+    IsCall list (mode_of mode) of_put (λ c m. PutsChoice c m text licensees old new)
+    (λ c m. IsChoiceFault c m text licensees) report
 
 abbrev pub IsLinesCall : Option Rows → ℕ → List ℕ → List ℕ → List ℕ → List ℕ → Report → Type 0
-IsLinesCall list mode licensees input old new report = IsCall list (line_mode_of mode) of_answered (λ c m. PutsLines c m licensees input old new) (λ c m. IsLinesFault c licensees) report
+IsLinesCall list mode licensees input old new report =
+    IsCall list (line_mode_of mode) of_answered (λ c m. PutsLines c m licensees input old new)
+    (λ c m. IsLinesFault c licensees) report

@@ -14,15 +14,22 @@ abbrev pub mode_of : ℕ → Option ParseMode
 mode_of n = if n == 0 then Some strict else (if n == 1 then Some lax else None)
 
 abbrev pub line_mode_of : ℕ → Option LineMode
-line_mode_of n = if n == 0 then Some Strict else (if n == 1 then Some Lax else (if n == 2 then Some Normal else None))
+line_mode_of n =
+    if n == 0 then Some Strict
+    else (if n == 1 then Some Lax else (if n == 2 then Some Normal else None))
 
 -- the bytes are no list, or memory was refused
 abbrev pub IsUnopened : List ℕ → Report → Type 0
-IsUnopened list report = ((fault : ReadFault) × (catalogue_in list ≡ Err fault) × (report ≡ plain 10)) ⊎ (report ≡ plain 11)
+IsUnopened list report =
+    ((fault : ReadFault) × (catalogue_in list ≡ Err fault) × (report ≡ plain 10)) ⊎
+    (report ≡ plain 11)
 
--- a closed handle gets the rows of the list, or stays closed; an open one is turned away and stays as it was
+-- a closed handle gets the rows of the list, or stays closed; an open one is turned away and stays
+-- as it was
 abbrev pub IsOpening : List ℕ → Option Rows → Option Rows → Report → Type 0
-IsOpening list None new report = ((rows : Rows) × (catalogue_in list ≡ Ok rows) × (new ≡ Some rows) × (report ≡ plain 0)) ⊎ ((new ≡ None) × IsUnopened list report)
+IsOpening list None new report =
+    ((rows : Rows) × (catalogue_in list ≡ Ok rows) × (new ≡ Some rows) × (report ≡ plain 0)) ⊎
+    ((new ≡ None) × IsUnopened list report)
 IsOpening list (Some rows) new report = (new ≡ Some rows) × (report ≡ plain 9)
 
 -- only an open handle is closed

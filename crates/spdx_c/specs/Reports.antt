@@ -8,16 +8,46 @@ use Rattle.spdx_calls.specs.declared.fault.CallFault.TheVariants.{NotText, Refus
 use Rattle.spdx_calls.specs.declared.texts.Answered.{Answered}
 use Rattle.spdx_c.specs.declared.report.Report.{Report}
 
--- a status: 0 ok, 1 refused, 2 no text, 3 a licensee refused, 4 a licensee no text, 5 unmet, 6 too many, 7 no fix, 8 short,
--- 9 an argument, 10 no list, 11 memory
+-- a status: 0 ok, 1 refused, 2 no text, 3 a licensee refused, 4 a licensee no text, 5 unmet, 6 too
+-- many, 7 no fix, 8 short, 9 an argument, 10 no list, 11 memory
 abbrev pub plain : ℕ → Report
-plain s = record { status = s; reason = 0; start = 0; end = 0; number = 0; length = 0; lines = 0; refused = 0 }
+plain s =
+    record {
+      status = s;
+      reason = 0;
+      start = 0;
+      end = 0;
+      number = 0;
+      length = 0;
+      lines = 0;
+      refused = 0;
+    }
 
 abbrev pub with_number : ℕ → ℕ → Report
-with_number s n = record { status = s; reason = 0; start = 0; end = 0; number = n; length = 0; lines = 0; refused = 0 }
+with_number s n =
+    record {
+      status = s;
+      reason = 0;
+      start = 0;
+      end = 0;
+      number = n;
+      length = 0;
+      lines = 0;
+      refused = 0;
+    }
 
 abbrev pub with_refusal : ℕ → ℕ → Refusal → Report
-with_refusal s n r = record { status = s; reason = r.reason; start = r.start; end = r.end; number = n; length = 0; lines = 0; refused = 0 }
+with_refusal s n r =
+    record {
+      status = s;
+      reason = r.reason;
+      start = r.start;
+      end = r.end;
+      number = n;
+      length = 0;
+      lines = 0;
+      refused = 0;
+    }
 
 abbrev pub of_fault : CallFault → Report
 of_fault NotText = plain 2
@@ -31,7 +61,17 @@ of_fault Memory = plain 11
 
 -- a text that is written, or too long for the buffer
 abbrev pub written : ℕ → ℕ → ℕ → ℕ → Report
-written s n lines refused = record { status = s; reason = 0; start = 0; end = 0; number = 0; length = n; lines = lines; refused = refused }
+written s n lines refused =
+    record {
+      status = s;
+      reason = 0;
+      start = 0;
+      end = 0;
+      number = 0;
+      length = n;
+      lines = lines;
+      refused = refused;
+    }
 
 abbrev pub put_with : ℕ → ℕ → Put → Report
 put_with lines refused (Whole n) = written 0 n lines refused

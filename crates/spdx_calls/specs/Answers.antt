@@ -29,19 +29,25 @@ Reads c m text = (e : Written) × IsReadFrom c m text e
 
 -- the canonical text of an expression is put
 abbrev pub PutsCanonical : Rows → ParseMode → List ℕ → List ℕ → List ℕ → Put → Type 0
-PutsCanonical c m text old new put = Reads c m text × ((canonical : List ℕ) × (canonical_of c text ≡ Ok canonical) × IsPut canonical old new put)
+PutsCanonical c m text old new put =
+    Reads c m text × ((canonical : List ℕ) × (canonical_of c text ≡ Ok canonical) ×
+    IsPut canonical old new put)
 
 -- the fix of the text is put, or it has none and nothing is put
 abbrev pub PutsFix : Rows → List ℕ → List ℕ → List ℕ → Option Put → Type 0
-PutsFix c text old new (Some put) = (mended : List ℕ) × IsFix c text mended × IsPut mended old new put
+PutsFix c text old new (Some put) =
+    (mended : List ℕ) × IsFix c text mended × IsPut mended old new put
 PutsFix c text old new None = HasNoFix c text × (new ≡ old)
 
 -- the normal text of the tree is put
 abbrev pub PutsNormal : Rows → ParseMode → List ℕ → List ℕ → List ℕ → Put → Type 0
-PutsNormal c m text old new put = (e : Written) × IsReadFrom c m text e × IsPut (normal_text e.tree) old new put
+PutsNormal c m text old new put =
+    (e : Written) × IsReadFrom c m text e × IsPut (normal_text e.tree) old new put
 
--- the truth of the expression where a requirement is met exactly if some licensee, one on each line, satisfies it
-pub record IsTruth (c : Rows) (m : ParseMode) (text licensees : List ℕ) (truth : Bool) : Type 0 where
+-- the truth of the expression where a requirement is met exactly if some licensee, one on each
+-- line, satisfies it
+pub record IsTruth (c : Rows) (m : ParseMode) (text licensees : List ℕ)
+    (truth : Bool) : Type 0 where
   pub expression : Written
   pub read : IsReadFrom c m text expression
   pub accepted : List Requirement
@@ -57,10 +63,12 @@ lines_text requirements = flat_map line_of requirements
 
 -- the requirements of the tree are put, from left to right
 abbrev pub PutsRequirements : Rows → ParseMode → List ℕ → List ℕ → List ℕ → Put → Type 0
-PutsRequirements c m text old new put = (e : Written) × IsReadFrom c m text e × IsPut (lines_text (leaves e.tree)) old new put
+PutsRequirements c m text old new put =
+    (e : Written) × IsReadFrom c m text e × IsPut (lines_text (leaves e.tree)) old new put
 
 -- the least choice among the licensees is put
-pub record PutsChoice (c : Rows) (m : ParseMode) (text licensees old new : List ℕ) (put : Put) : Type 0 where
+pub record PutsChoice (c : Rows) (m : ParseMode) (text licensees old new : List ℕ)
+    (put : Put) : Type 0 where
   pub expression : Written
   pub read : IsReadFrom c m text expression
   pub accepted : List Requirement
@@ -69,8 +77,10 @@ pub record PutsChoice (c : Rows) (m : ParseMode) (text licensees old new : List 
   pub least : choice_of (expression.tree ∷ []) accepted ≡ chosen choice
   pub is_put : IsPut (lines_text choice) old new put
 
--- the verdicts of the input's lines are put, each with its choice among the licensees, and they are counted
-pub record PutsLines (c : Rows) (mode : LineMode) (licensees input old new : List ℕ) (answer : Answered) : Type 0 where
+-- the verdicts of the input's lines are put, each with its choice among the licensees, and they are
+-- counted
+pub record PutsLines (c : Rows) (mode : LineMode) (licensees input old new : List ℕ)
+    (answer : Answered) : Type 0 where
   pub accepted : List Requirement
   pub named : AreNamed c (lines_of licensees) accepted
   pub verdict : List ℕ → Verdict

@@ -19,8 +19,10 @@ is_set bytes i = bit_at (slice_index_or bytes (i / 8) 0) (i % 8) == 1
 abbrev pub first_bits : List ℕ → ℕ → List Bool
 first_bits bytes count = map (is_set bytes) (range_with_len 0 count)
 
--- the truth of the tree where the i-th requirement is met exactly if bit i is set; there are as many bits as requirements
-pub record IsTruthByBits (c : Rows) (m : ParseMode) (text bits : List ℕ) (count : ℕ) (truth : Bool) : Type 0 where
+-- the truth of the tree where the i-th requirement is met exactly if bit i is set; there are as
+-- many bits as requirements
+pub record IsTruthByBits (c : Rows) (m : ParseMode) (text bits : List ℕ) (count : ℕ)
+    (truth : Bool) : Type 0 where
   pub expression : Written
   pub read : IsReadFrom c m text expression
   pub as_many : count ≡ length (leaves expression.tree)
@@ -28,5 +30,6 @@ pub record IsTruthByBits (c : Rows) (m : ParseMode) (text bits : List ℕ) (coun
 
 -- the text's fault, or that it has another number of requirements, which is told
 abbrev pub IsBitsFault : Rows → ParseMode → List ℕ → ℕ → CallFault → Type 0
-IsBitsFault c m text count (BitCount n) = (e : Written) × IsReadFrom c m text e × (n ≡ length (leaves e.tree)) × (count ≢ n)
+IsBitsFault c m text count (BitCount n) =
+    (e : Written) × IsReadFrom c m text e × (n ≡ length (leaves e.tree)) × (count ≢ n)
 IsBitsFault c m text count fault = IsTextFault c m text fault

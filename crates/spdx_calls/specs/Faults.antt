@@ -17,10 +17,12 @@ use Rattle.spdx_calls.specs.Reasons.{refusal_of}
 use Rattle.spdx_calls.specs.Answers.{Reads}
 use Rattle.spdx_calls.specs.Licensees.{AreNamed}
 
--- why bytes are no expression: they are no text, or a text whose first fault this is; of want of memory nothing
+-- why bytes are no expression: they are no text, or a text whose first fault this is; of want of
+-- memory nothing
 abbrev pub IsTextFault : Rows → ParseMode → List ℕ → CallFault → Type 0
 IsTextFault c m text NotText = ¬ (IsUtf8 text)
-IsTextFault c m text (Refused r) = (error : ParseError) × IsRefused c m text error × (r ≡ refusal_of error)
+IsTextFault c m text (Refused r) =
+    (error : ParseError) × IsRefused c m text error × (r ≡ refusal_of error)
 IsTextFault c m text Memory = Unit {0}
 IsTextFault c m text _ = ⊥
 
@@ -31,7 +33,8 @@ HasNoCanonical c m text error = Reads c m text × (canonical_of c text ≡ Err (
 -- the same, or the text has no canonical one
 abbrev pub IsCanonicalFault : Rows → ParseMode → List ℕ → CallFault → Type 0
 IsCanonicalFault c m text (Refused r) =
-    (error : ParseError) × (IsRefused c m text error ⊎ HasNoCanonical c m text error) × (r ≡ refusal_of error)
+    (error : ParseError) × (IsRefused c m text error ⊎ HasNoCanonical c m text error) ×
+    (r ≡ refusal_of error)
 IsCanonicalFault c m text fault = IsTextFault c m text fault
 
 abbrev pub IsFixFault : List ℕ → CallFault → Type 0
@@ -42,7 +45,10 @@ IsFixFault text _ = ⊥
 -- why a line names no licensee, which would have this number
 abbrev pub IsFaultOfLine : Rows → List ℕ → ℕ → CallFault → Type 0
 IsFaultOfLine c line n (LicenseeNotText k) = (k ≡ n) × ¬ (IsUtf8 line)
-IsFaultOfLine c line n (Licensee k r) = (k ≡ n) × (NamesNone c line × ((e : ParseError) × IsLicenseeFault c line (fault_of e.reason) (span_of e.span) × (r ≡ refusal_of e)))
+IsFaultOfLine c line n (Licensee k r) =
+    (k ≡ n) × (NamesNone c line ×
+    ((e : ParseError) × IsLicenseeFault c line (fault_of e.reason) (span_of e.span) ×
+    (r ≡ refusal_of e)))
 IsFaultOfLine c line n Memory = Unit {0}
 IsFaultOfLine c line n _ = ⊥
 

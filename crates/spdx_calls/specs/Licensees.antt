@@ -9,7 +9,8 @@ use Rattle.spdx_licensee.specs.Satisfies.{satisfies}
 -- each text names the licensee that stands at its place, and there are as many
 abbrev pub AreNamed : Rows → List (List ℕ) → List Requirement → Type 0
 AreNamed c [] [] = Unit {0}
-AreNamed c (text ∷ texts) (licensee ∷ licensees) = Names c text licensee × AreNamed c texts licensees
+AreNamed c (text ∷ texts) (licensee ∷ licensees) =
+    Names c text licensee × AreNamed c texts licensees
 AreNamed c [] (licensee ∷ licensees) = ⊥
 AreNamed c (text ∷ texts) [] = ⊥
 

@@ -19,12 +19,15 @@ IsQuestionFault c m text licensees fault =
     IsTextFault c m text fault ⊎ (Reads c m text × IsLicenseesFault c (lines_of licensees) fault)
 
 -- no choice of these licensees is enough, or too many of them are useful
-pub record HasNoChoice (c : Rows) (m : ParseMode) (text licensees : List ℕ) (fault : CallFault) : Type 0 where
+pub record HasNoChoice (c : Rows) (m : ParseMode) (text licensees : List ℕ)
+    (fault : CallFault) : Type 0 where
   pub expression : Written
   pub read : IsReadFrom c m text expression
   pub accepted : List Requirement
   pub named : AreNamed c (lines_of licensees) accepted
-  pub choice : ((fault ≡ Unmet) × (choice_of (expression.tree ∷ []) accepted ≡ unmet)) ⊎ ((n : ℕ) × (fault ≡ TooMany n) × (choice_of (expression.tree ∷ []) accepted ≡ too_many n))
+  pub choice : ((fault ≡ Unmet) × (choice_of (expression.tree ∷ []) accepted ≡ unmet)) ⊎
+      ((n : ℕ) × (fault ≡ TooMany n) × (choice_of (expression.tree ∷ []) accepted ≡ too_many n))
 
 abbrev pub IsChoiceFault : Rows → ParseMode → List ℕ → List ℕ → CallFault → Type 0
-IsChoiceFault c m text licensees fault = IsQuestionFault c m text licensees fault ⊎ HasNoChoice c m text licensees fault
+IsChoiceFault c m text licensees fault =
+    IsQuestionFault c m text licensees fault ⊎ HasNoChoice c m text licensees fault

@@ -25,4 +25,5 @@ IsReasonNumber number = (fault : Fault) × (number_of fault ≡ number)
 
 -- the place of an error, and the number of its reason
 abbrev pub refusal_of : ParseError → Refusal
-refusal_of e = record { start = e.span.start; end = e.span.end; reason = number_of (fault_of e.reason) }
+refusal_of e =
+    record { start = e.span.start; end = e.span.end; reason = number_of (fault_of e.reason) }

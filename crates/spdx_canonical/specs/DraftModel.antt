@@ -11,10 +11,16 @@ bytes_of text rest None = take (length text - length rest) text
 bytes_of text rest (Some written) = written
 
 abbrev pub draft_shown : Inside → Drafted
-draft_shown d = record { text = d.text.now; bytes = bytes_of d.text.now d.rest.now (option_map string_bytes d.written) }
+draft_shown d =
+    record {
+      text = d.text.now;
+      bytes = bytes_of d.text.now d.rest.now (option_map string_bytes d.written);
+    }
 
 -- the rest is the end of the text, and what was written instead is no front of it
 abbrev pub IsDraft : Inside → Type 0
 IsDraft d =
-    (length d.rest.now ≤ length d.text.now) × (d.rest.now ≡ drop (length d.text.now - length d.rest.now) d.text.now)
-    × ForSome (option_map string_bytes d.written) (λ written. starts_with nat_eq d.text.now written ≡ false)
+    (length d.rest.now ≤ length d.text.now) ×
+    (d.rest.now ≡ drop (length d.text.now - length d.rest.now) d.text.now)
+    × ForSome (option_map string_bytes d.written)
+    (λ written. starts_with nat_eq d.text.now written ≡ false)

@@ -24,7 +24,9 @@ EachName P (_ ∷ ws) = EachName P ws
 
 -- a listed licence has the name, and it is not deprecated
 abbrev pub is_good : Rows → List ℕ → Bool
-is_good c name = option_map_or (λ (r : LicenseRow). not (is_deprecated r.flags)) (LookUps.listed c.licenses name) false
+is_good c name =
+    option_map_or (λ (r : LicenseRow). not (is_deprecated r.flags)) (LookUps.listed c.licenses name)
+    false
 
 -- the name reads as a reference, since it is on no list
 pub record IsReferenceName (c : Rows) (name : List ℕ) : Type 0 where
@@ -46,8 +48,10 @@ only_license c (referred r) = referred r
 
 -- ---- the laws
 
--- a reader in this mode accepts the text: it finds these words, without a fault, and they mean this tree
-pub record Accepts (c : Rows) (m : ParseMode) (text : List ℕ) (ws : List Word) (t : Tree) : Type 0 where
+-- a reader in this mode accepts the text: it finds these words, without a fault, and they mean this
+-- tree
+pub record Accepts (c : Rows) (m : ParseMode) (text : List ℕ) (ws : List Word)
+    (t : Tree) : Type 0 where
   pub read : Spells c m text ws
   pub meant : Derives c m ws t
 
@@ -56,8 +60,9 @@ pub record IsSound (c : Rows) (text : List ℕ) (ws : List Word) (t : Tree) : Ty
   pub accepted : Accepts c lax text ws t
   pub good : EachName (λ name. IsTrue (is_good c name)) ws
 
--- The canonical text of the words ws, which mean t: a strict reader finds the canonical words in it, and for them
--- the tree with each bare GNU licence made `-only`, and no other; it is its own canonical text, and that of the canonical words.
+-- The canonical text of the words ws, which mean t: a strict reader finds the canonical words in
+-- it, and for them the tree with each bare GNU licence made `-only`, and no other; it is its own
+-- canonical text, and that of the canonical words.
 pub record IsFaithful (c : Rows) (ws : List Word) (t : Tree) : Type 0 where
   pub read : Spells c strict (canonical_text ws) (canonical_words c ws)
   pub meant : IsTheTree c strict (canonical_words c ws) (tree_by (only_license c) t)
@@ -67,11 +72,15 @@ pub record IsFaithful (c : Rows) (ws : List Word) (t : Tree) : Type 0 where
 -- what is said of each text that a lax reader accepts
 pub record CanonicalLaws (c : Rows) (text : List ℕ) : Type 0 where
   -- each text that a lax reader accepts has a canonical text
-  pub defined : (ws : List Word) (t : Tree) → Accepts c lax text ws t → canonical_of c text ≡ Ok (canonical_text ws)
+  pub defined : (ws : List Word) (t : Tree) → Accepts c lax text ws t →
+      canonical_of c text ≡ Ok (canonical_text ws)
   pub faithful : (ws : List Word) (t : Tree) → IsSound c text ws t → IsFaithful c ws t
   -- equal canonical texts are those of equal canonical words
-  pub telling : (ws : List Word) (t : Tree) → IsSound c text ws t → (other : List ℕ) (vs : List Word) (u : Tree) → IsSound c other vs u →
+  pub telling : (ws : List Word) (t : Tree) → IsSound c text ws t →
+      (other : List ℕ) (vs : List Word) (u : Tree) → IsSound c other vs u →
       (canonical_text ws ≡ canonical_text vs) ↔ (canonical_words c ws ≡ canonical_words c vs)
-  -- where some names are not good, a strict reader accepts it exactly if each of these reads as a reference
+  -- where some names are not good, a strict reader accepts it exactly if each of these reads as a
+  -- reference
   pub otherwise : (ws : List Word) (t : Tree) → Accepts c lax text ws t →
-      ((vs : List Word) × (u : Tree) × Accepts c strict (canonical_text ws) vs u) ↔ EachName (λ name. is_good c name ≡ false → IsReferenceName c name) ws
+      ((vs : List Word) × (u : Tree) × Accepts c strict (canonical_text ws) vs u) ↔
+      EachName (λ name. is_good c name ≡ false → IsReferenceName c name) ws

@@ -1,4 +1,5 @@
--- The text so far, where the name of the licence that was read last is not written yet: the next word decides it.
+-- The text so far, where the name of the licence that was read last is not written yet: the next
+-- word decides it.
 use Rattle.std.specs.Prelude.{ℕ, Bool, true, false, not, List, [], ◌++◌, Option, Some, None, if◌then◌else◌, codes}
 use Rattle.spdx_requirement.specs.Rows.{LicenseRow}
 use Rattle.spdx_requirement.specs.Flags.{is_gnu}
@@ -28,7 +29,8 @@ abbrev pub decided_text : Option LicenseRow → Bool → List ℕ
 decided_text None plus = []
 decided_text (Some r) plus = license_and_plus plus r
 
--- what is written for the word itself, of which a licence waits and a `+` belongs to the licence before
+-- what is written for the word itself, of which a licence waits and a `+` belongs to the licence
+-- before
 abbrev pub own_text : Word → List ℕ
 own_text (Spdx r) = []
 own_text Plus = []

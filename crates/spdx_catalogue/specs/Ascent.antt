@@ -6,4 +6,6 @@ use Rattle.std.specs.Cmp.Lexicographic.{slice_cmp}
 
 -- each key is less, by bytes, than the next
 unfoldable pub Ascends : {A : Type 0} → (A → List ℕ) → List A → Type 0
-Ascends {A} key xs = (i : ℕ) (d : A) → suc i < length xs → slice_cmp nat_cmp (key (get_or xs i d)) (key (get_or xs (suc i) d)) ≡ Less
+Ascends {A} key xs =
+    (i : ℕ) (d : A) → suc i < length xs →
+    slice_cmp nat_cmp (key (get_or xs i d)) (key (get_or xs (suc i) d)) ≡ Less

@@ -12,7 +12,14 @@ use Prim.Native.Nat.{ℕ}
 
 -- a catalogue shows its rows as bytes and numbers
 abbrev pub rows_shown : Inside → Rows
-rows_shown a = record { version = string_bytes a.version; licenses = map row_of a.licenses.items; exceptions = map exception_of a.exceptions.items; imprecise = map imprecise_of a.imprecise.items }
+rows_shown a =
+    record {
+      version = string_bytes a.version;
+      licenses = map row_of a.licenses.items;
+      exceptions =
+          map exception_of a.exceptions.items;
+      imprecise = map imprecise_of a.imprecise.items;
+    }
 
 -- an index, if there is one, is of those rows
 abbrev pub IsIndexed : {A : Type 0} → (A → Option (List ℕ)) → List A → Option Index → Type 0
@@ -21,6 +28,9 @@ IsIndexed keyed rows index = IfSome index (λ (i : Index). IsIndexOf keyed rows 
 -- no row of a catalogue breaks a rule, and its indices are of its rows
 pub record IsWellFormed (a : Inside) : Type 0 where
   pub rules : IsTrue (is_well_formed (rows_shown a))
-  pub licenses : IsIndexed (λ (r : License). Some (string_bytes r.name)) a.licenses.items a.license_index
-  pub exceptions : IsIndexed (λ (r : Exception). Some (string_bytes r.name)) a.exceptions.items a.exception_index
-  pub prefixes : IsIndexed (λ (r : ImpreciseName). whole_front (string_bytes r.prefix)) a.imprecise.items a.prefix_index
+  pub licenses : IsIndexed (λ (r : License). Some (string_bytes r.name)) a.licenses.items
+      a.license_index
+  pub exceptions : IsIndexed (λ (r : Exception). Some (string_bytes r.name)) a.exceptions.items
+      a.exception_index
+  pub prefixes : IsIndexed (λ (r : ImpreciseName). whole_front (string_bytes r.prefix))
+      a.imprecise.items a.prefix_index

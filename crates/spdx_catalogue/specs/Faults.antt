@@ -21,10 +21,12 @@ abbrev pub catalogue_fault_text : CatalogueError → List ℕ
 catalogue_fault_text (BadName l row) = row_text (list_text l) row (codes "bad name")
 catalogue_fault_text (OperatorName l row) = row_text (list_text l) row (codes "operator word")
 catalogue_fault_text (NotAscending l row) = row_text (list_text l) row (codes "names do not ascend")
-catalogue_fault_text (BadIndex l row) = row_text (list_text l) row (codes "index is not the position")
+catalogue_fault_text (BadIndex l row) =
+    row_text (list_text l) row (codes "index is not the position")
 catalogue_fault_text (TwoSuffixes row) = row_text (codes "licenses") row (codes "two GNU suffixes")
 catalogue_fault_text (EmptyPrefix row) = row_text (codes "imprecise") row (codes "empty prefix")
-catalogue_fault_text (UnlistedTarget row) = row_text (codes "imprecise") row (codes "target is not listed")
+catalogue_fault_text (UnlistedTarget row) =
+    row_text (codes "imprecise") row (codes "target is not listed")
 
 abbrev pub read_text : ReadFault → List ℕ
 read_text read.NotJson = codes "not JSON"

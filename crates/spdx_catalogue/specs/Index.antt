@@ -12,7 +12,8 @@ use Rattle.spdx_catalogue.specs.declared.index.Sought.TheVariants.{Named, Alike,
 abbrev pub mixed : ℕ → ℕ → ℕ
 mixed key b = ((key * 9) % 2 ^ 32 + bit_or b 32) % 2 ^ 32
 
--- the key of some bytes, in which the case of ASCII letters does not count; the product spreads it over all bits
+-- the key of some bytes, in which the case of ASCII letters does not count; the product spreads it
+-- over all bits
 abbrev pub key_of : List ℕ → ℕ
 key_of bytes = (fold mixed 0 bytes * 2654435761) % 2 ^ 32
 
@@ -25,10 +26,13 @@ abbrev pub code : ℕ → ℕ → ℕ
 code key place = key * 4294967296 + place
 
 -- the code of each row is among the codes, which rise
-pub record IsIndexOf {A : Type 0} (keyed : A → Option (List ℕ)) (rows : List A) (codes : List ℕ) : Type 0 where
+pub record IsIndexOf {A : Type 0} (keyed : A → Option (List ℕ)) (rows : List A)
+    (codes : List ℕ) : Type 0 where
   pub few : length rows ≤ 4294967296
   pub rise : IsNonDecreasing codes
-  pub holds : (k : ℕ) (d : A) → k < length rows → (bytes : List ℕ) × (keyed (get_or rows k d) ≡ Some bytes) × Contains codes (code (key_of bytes) k)
+  pub holds : (k : ℕ) (d : A) → k < length rows →
+      (bytes : List ℕ) × (keyed (get_or rows k d) ≡ Some bytes) ×
+      Contains codes (code (key_of bytes) k)
 
 -- whether a row of that text is looked for
 abbrev pub fits : Sought → List ℕ → Bool
@@ -45,4 +49,5 @@ sought_key (Front begun) = key_of (take 3 begun.now)
 -- each row that fits has that key
 abbrev pub IsRelevant : {A : Type 0} → (A → Option (List ℕ)) → (A → List ℕ) → Sought → Type 0
 IsRelevant {A} keyed text sought =
-    (r : A) (bytes : List ℕ) → fits sought (text r) ≡ true → keyed r ≡ Some bytes → key_of bytes ≡ sought_key sought
+    (r : A) (bytes : List ℕ) → fits sought (text r) ≡ true → keyed r ≡ Some bytes →
+    key_of bytes ≡ sought_key sought

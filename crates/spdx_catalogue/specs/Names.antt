@@ -18,7 +18,11 @@ is_name name = not (length name == 0) && list_all is_name_byte name
 
 -- an operator is all capitals or all small
 abbrev pub is_operator : List ℕ → Bool
-is_operator name = bytes_eq name (codes "AND") || (bytes_eq name (codes "and") || (bytes_eq name (codes "OR") || (bytes_eq name (codes "or") || (bytes_eq name (codes "WITH") || bytes_eq name (codes "with")))))
+is_operator name =
+    bytes_eq name (codes "AND") ||
+    (bytes_eq name (codes "and") ||
+    (bytes_eq name (codes "OR") ||
+    (bytes_eq name (codes "or") || (bytes_eq name (codes "WITH") || bytes_eq name (codes "with")))))
 
 -- greater by bytes than the name before, if there is one
 abbrev pub is_above : Option (List ℕ) → List ℕ → Bool
@@ -27,7 +31,9 @@ is_above (Some before) name = is_lt (slice_cmp nat_cmp before name)
 
 -- it has an ending, and so has what stands before that
 abbrev pub has_two_suffixes : List ℕ → Bool
-has_two_suffixes name = option_map_or has_suffix (without only name) false || option_map_or has_suffix (without or_later name) false
+has_two_suffixes name =
+    option_map_or has_suffix (without only name) false ||
+    option_map_or has_suffix (without or_later name) false
 
 abbrev pub is_plus : ℕ → Bool
 is_plus b = b == 43

@@ -21,9 +21,12 @@ before xs zero = None
 before xs (suc i) = slice_get xs i
 
 -- the rules of the row at that place
-abbrev pub rules_at : {A : Type 0} → (A → List ℕ) → (Option (List ℕ) → ℕ → A → List RowRule) → List A → ℕ → List RowRule
-rules_at name rules rows row = option_map_or (rules (option_map name (before rows row)) row) (slice_get rows row) []
+abbrev pub rules_at : {A : Type 0} → (A → List ℕ) → (Option (List ℕ) → ℕ → A → List RowRule) →
+    List A → ℕ → List RowRule
+rules_at name rules rows row =
+    option_map_or (rules (option_map name (before rows row)) row) (slice_get rows row) []
 
 -- those of the other spelling of that row
 abbrev pub imprecise_rules : List LicenseRow → List ImpreciseRow → ℕ → List RowRule
-imprecise_rules licenses rows row = option_map_or (imprecise_row_rules licenses row) (slice_get rows row) []
+imprecise_rules licenses rows row =
+    option_map_or (imprecise_row_rules licenses row) (slice_get rows row) []

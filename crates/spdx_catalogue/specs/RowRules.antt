@@ -1,4 +1,5 @@
--- Which rows a catalogue may have: a table of the rules in their order, and the first that is broken.
+-- Which rows a catalogue may have: a table of the rules in their order, and the first that is
+-- broken.
 use Rattle.std.specs.Prelude.{ℕ, suc, Bool, not, ◌&&◌, ◌==◌, List, [], ◌∷◌, ◌++◌, length, Option, Some, None, is_none, is_some, option_map, find}
 use Rattle.spdx_requirement.specs.Rows.{Rows, LicenseRow, ExceptionRow, ImpreciseRow}
 use Rattle.spdx_catalogue.specs.LookUps.{listed}
@@ -13,7 +14,8 @@ use Rattle.spdx_catalogue.specs.Names.{is_name, is_operator, is_above, has_two_s
 abbrev pub RowRule : Type 0
 RowRule = Bool × CatalogueError
 
--- the rules of a name: its bytes, that it is no operator, that it is above the one before, and its index
+-- the rules of a name: its bytes, that it is no operator, that it is above the one before, and its
+-- index
 abbrev pub name_rules : kind.List → List ℕ → Option (List ℕ) → ℕ → ℕ → List RowRule
 name_rules list name previous index row =
     (not (is_name name), BadName list row)
@@ -23,7 +25,9 @@ name_rules list name previous index row =
 
 -- those of a licence, whose GNU name has no two endings
 abbrev pub license_row_rules : Option (List ℕ) → ℕ → LicenseRow → List RowRule
-license_row_rules previous row r = name_rules Licenses r.name previous r.index row ++ (is_gnu r.flags && has_two_suffixes r.name, TwoSuffixes row) ∷ []
+license_row_rules previous row r =
+    name_rules Licenses r.name previous r.index row ++
+    (is_gnu r.flags && has_two_suffixes r.name, TwoSuffixes row) ∷ []
 
 -- those of an exception
 abbrev pub exception_row_rules : Option (List ℕ) → ℕ → ExceptionRow → List RowRule
@@ -31,18 +35,24 @@ exception_row_rules previous row r = name_rules Exceptions r.name previous r.ind
 
 -- those of another spelling: it is not empty, and its target is listed
 abbrev pub imprecise_row_rules : List LicenseRow → ℕ → ImpreciseRow → List RowRule
-imprecise_row_rules licenses row r = (length r.prefix == 0, EmptyPrefix row) ∷ (not (is_some (listed licenses r.name)), UnlistedTarget row) ∷ []
+imprecise_row_rules licenses row r =
+    (length r.prefix == 0, EmptyPrefix row) ∷
+    (not (is_some (listed licenses r.name)), UnlistedTarget row) ∷ []
 
--- those of all rows of a list, whose first stands at a place and behind another row, if there is one
-abbrev pub rules_from : {A : Type 0} → (Option A → ℕ → A → List RowRule) → Option A → ℕ → List A → List RowRule
+-- those of all rows of a list, whose first stands at a place and behind another row, if there is
+-- one
+abbrev pub rules_from : {A : Type 0} → (Option A → ℕ → A → List RowRule) → Option A → ℕ → List A →
+    List RowRule
 rules_from rules before row [] = []
 rules_from rules before row (r ∷ rs) = rules before row r ++ rules_from rules (Some r) (suc row) rs
 
 -- every rule of every row, in their order
 abbrev pub rules_of : Rows → List RowRule
 rules_of c =
-    rules_from (λ before. license_row_rules (option_map (λ (r : LicenseRow). r.name) before)) None 0 c.licenses
-    ++ (rules_from (λ before. exception_row_rules (option_map (λ (r : ExceptionRow). r.name) before)) None 0 c.exceptions
+    rules_from (λ before. license_row_rules (option_map (λ (r : LicenseRow). r.name) before)) None 0
+    c.licenses
+    ++ (rules_from (λ before.
+    exception_row_rules (option_map (λ (r : ExceptionRow). r.name) before)) None 0 c.exceptions
     ++ rules_from (λ before. imprecise_row_rules c.licenses) None 0 c.imprecise)
 
 -- the fault of the first that is broken, by list, then row, then rule

@@ -68,8 +68,10 @@ abbrev pub found_text : Form → Bool → Spot → Option Wrong → List ℕ
 found_text form is_first spot None = []
 found_text form is_first spot (Some wrong) = finding_text form is_first (told_at spot wrong)
 
--- the finding of the bytes is written behind what was written, and they are refused if they have one
-pub record ChecksOne (check : Check) (is_first : Bool) (spot : Spot) (bytes old new : List ℕ) (is_refused : Bool) : Type 0 where
+-- the finding of the bytes is written behind what was written, and they are refused if they have
+-- one
+pub record ChecksOne (check : Check) (is_first : Bool) (spot : Spot) (bytes old new : List ℕ)
+    (is_refused : Bool) : Type 0 where
   pub found : Option Wrong
   pub is : IsTheFinding check.catalogue.now (heirs_in check) check.mode bytes found
   pub written : new ≡ old ++ found_text check.form is_first spot found
@@ -88,9 +90,11 @@ is_blank expression = list_all is_ascii_whitespace expression
 
 -- the finding of a line's expression, if it has one; a blank line has none
 abbrev pub finding_in_line : (List ℕ → Option Wrong) → List ℕ → Option Wrong
-finding_in_line finding line = if is_blank (expression_of line) then None else finding (expression_of line)
+finding_in_line finding line =
+    if is_blank (expression_of line) then None else finding (expression_of line)
 
--- the expression of the line behind these lines, the first being line 1; the numbers end with those of 64 bits
+-- the expression of the line behind these lines, the first being line 1; the numbers end with those
+-- of 64 bits
 abbrev pub spot_behind : List ℕ → List (List ℕ) → Spot
 spot_behind file before = record { file = file; line = capped (length before + 1); column = 1 }
 
@@ -101,7 +105,9 @@ have_finding finding lines = list_any (λ line. is_some (finding_in_line finding
 -- each line gives its finding, if it has one; nothing stands behind them all
 abbrev pub rule_by : (List ℕ → Option Wrong) → Form → Bool → List ℕ → Rule
 rule_by finding form is_first file = record {
-  text = λ before line. found_text form (is_first && not (have_finding finding before)) (spot_behind file before) (finding_in_line finding line);
+  text =
+      λ before line. found_text form (is_first && not (have_finding finding before))
+      (spot_behind file before) (finding_in_line finding line);
   refuses = λ line. is_some (finding_in_line finding line);
   closing = λ lines. [];
 }
@@ -120,25 +126,34 @@ blank_count lines = count_by (λ line. is_blank (expression_of line)) lines
 abbrev pub found_in : (List ℕ → Option Wrong) → List (List ℕ) → List Wrong
 found_in finding lines = filter_map (finding_in_line finding) lines
 
--- A line of white space adds nothing, wherever it stands: nothing is written of it, it isn't refused, and in the other lines
--- the same is found. Any other line has the finding of its expression.
+-- A line of white space adds nothing, wherever it stands: nothing is written of it, it isn't
+-- refused, and in the other lines the same is found. Any other line has the finding of its
+-- expression.
 pub record LeavesOutWhite (finding : List ℕ → Option Wrong) (rule : Rule) : Type 0 where
-  pub text : (before : List (List ℕ)) (line : List ℕ) → is_white line ≡ true → rule.text before line ≡ []
+  pub text : (before : List (List ℕ)) (line : List ℕ) → is_white line ≡ true →
+      rule.text before line ≡ []
   pub refuses : (line : List ℕ) → is_white line ≡ true → rule.refuses line ≡ false
-  pub found : (front back : List (List ℕ)) (line : List ℕ) → is_white line ≡ true → found_in finding (front ++ line ∷ back) ≡ found_in finding (front ++ back)
-  pub others : (line : List ℕ) → is_white line ≡ false → finding_in_line finding line ≡ finding (expression_of line)
+  pub found : (front back : List (List ℕ)) (line : List ℕ) → is_white line ≡ true →
+      found_in finding (front ++ line ∷ back) ≡ found_in finding (front ++ back)
+  pub others : (line : List ℕ) → is_white line ≡ false →
+      finding_in_line finding line ≡ finding (expression_of line)
 
 -- ---- a run
 
 -- the lines and the refused ones
 abbrev pub summary_in : Result Checked RunFault → Result Summary RunFault
-summary_in result = result_map_both (λ (c : Checked). c.summary) (λ (fault : RunFault). fault) result
+summary_in result =
+    result_map_both (λ (c : Checked). c.summary) (λ (fault : RunFault). fault) result
 
--- the run writes the finding of each line that has one, and counts the lines; one of white space has none, and those are
--- counted apart
-pub record ChecksLines (check : Check) (is_first : Bool) (file : List ℕ) (d : Devices) (result : Result Checked RunFault) : Type 0 where
+-- the run writes the finding of each line that has one, and counts the lines; one of white space
+-- has none, and those are counted apart
+pub record ChecksLines (check : Check) (is_first : Bool) (file : List ℕ) (d : Devices)
+    (result : Result Checked RunFault) : Type 0 where
   pub finding : List ℕ → Option Wrong
-  pub findings : (bytes : List ℕ) → IsTheFinding check.catalogue.now (heirs_in check) check.mode bytes (finding bytes)
+  pub findings : (bytes : List ℕ) →
+      IsTheFinding check.catalogue.now (heirs_in check) check.mode bytes (finding bytes)
   pub runs : Runs (rule_by finding check.form is_first file) d (summary_in result)
   pub blank : LeavesOutWhite finding (rule_by finding check.form is_first file)
-  pub counts : IfOk result (λ (c : Checked). HasRunBehind (rule_by finding check.form is_first file) (λ lines. c.blanks ≡ capped (count_by is_white lines)) d c.summary)
+  pub counts : IfOk result
+      (λ (c : Checked). HasRunBehind (rule_by finding check.form is_first file)
+      (λ lines. c.blanks ≡ capped (count_by is_white lines)) d c.summary)

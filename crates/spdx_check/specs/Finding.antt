@@ -14,14 +14,16 @@ use Rattle.spdx_hints.specs.Phrase.{phrase_of}
 use Rattle.spdx_list.specs.Files.{InsteadRow}
 use Rattle.finding_forms.specs.Finding.{Aid, nothing, write, names}
 
--- what is wrong: the text that is shown, where the fault stands in it, why it is one, and what helps
+-- what is wrong: the text that is shown, where the fault stands in it, why it is one, and what
+-- helps
 pub record Wrong : Type 0 where
   pub shown : List ℕ
   pub place : Span
   pub reason : List ℕ
   pub aid : Aid
 
--- the words at the fault name no licence that may stand there; at other faults the names are known, and others don't help
+-- the words at the fault name no licence that may stand there; at other faults the names are known,
+-- and others don't help
 abbrev pub wants_name : Fault → Bool
 wants_name UnknownTerm = true
 wants_name UnknownLicense = true
@@ -35,7 +37,8 @@ name_at text s = let end = min s.to (length text) in slice_range text (min s.fro
 
 -- what the first row of that name says to write in its place
 abbrev pub heir_in : List InsteadRow → List ℕ → Option (List ℕ)
-heir_in heirs name = option_map (λ (r : InsteadRow). r.write) (find (λ (r : InsteadRow). bytes_eq r.name name) heirs)
+heir_in heirs name =
+    option_map (λ (r : InsteadRow). r.write) (find (λ (r : InsteadRow). bytes_eq r.name name) heirs)
 
 -- a deprecated name may have an heir; no other fault has
 abbrev pub heir_of : List InsteadRow → List ℕ → Fault → Span → Option (List ℕ)
@@ -67,21 +70,38 @@ aid_by c heirs text fault s None = name_by c text fault s (heir_of heirs text fa
 
 -- a text with a fault, which may have a fix
 abbrev pub wrong_in : Rows → List InsteadRow → List ℕ → Fault → Span → Option (List ℕ) → Wrong
-wrong_in c heirs text fault s fix = record { shown = text; place = s; reason = fault_text fault; aid = aid_by c heirs text fault s fix }
+wrong_in c heirs text fault s fix =
+    record {
+      shown = text;
+      place = s;
+      reason = fault_text fault;
+      aid = aid_by c heirs text fault s fix;
+    }
 
--- of bytes that are no text U+FFFD is shown for each invalid sequence, and the first one, of three bytes, is the fault
+-- of bytes that are no text U+FFFD is shown for each invalid sequence, and the first one, of three
+-- bytes, is the fault
 abbrev pub no_text : List ℕ → Wrong
 no_text bytes =
     let valid = utf8_valid_len bytes in
-    record { shown = utf8_lossy bytes; place = span valid 3; reason = codes "not UTF-8"; aid = nothing }
+    record {
+      shown = utf8_lossy bytes;
+      place = span valid 3;
+      reason = codes "not UTF-8";
+      aid = nothing;
+    }
 
--- nothing is wrong with a text that a reader in the mode accepts; else its fault is, or that the bytes are no text
-pub data IsFinding (c : Rows) (heirs : List InsteadRow) (m : ParseMode) (bytes : List ℕ) : Option Wrong → Type 0 where
+-- nothing is wrong with a text that a reader in the mode accepts; else its fault is, or that the
+-- bytes are no text
+pub data IsFinding (c : Rows) (heirs : List InsteadRow) (m : ParseMode) (bytes : List ℕ) : Option
+    Wrong → Type 0 where
   is_accepted : IsUtf8 bytes → Reads c m bytes → IsFinding c heirs m bytes None
-  is_refused : (fault : Fault) (s : Span) (fix : Option (List ℕ)) → IsUtf8 bytes → IsFaultOf c m bytes fault s → IsFixOf c bytes fix → IsFinding c heirs m bytes (Some (wrong_in c heirs bytes fault s fix))
+  is_refused : (fault : Fault) (s : Span) (fix : Option (List ℕ)) → IsUtf8 bytes →
+      IsFaultOf c m bytes fault s → IsFixOf c bytes fix →
+      IsFinding c heirs m bytes (Some (wrong_in c heirs bytes fault s fix))
   is_no_text : ¬ (IsUtf8 bytes) → IsFinding c heirs m bytes (Some (no_text bytes))
 
 -- this is the finding, and there is no other
-pub record IsTheFinding (c : Rows) (heirs : List InsteadRow) (m : ParseMode) (bytes : List ℕ) (found : Option Wrong) : Type 0 where
+pub record IsTheFinding (c : Rows) (heirs : List InsteadRow) (m : ParseMode) (bytes : List ℕ)
+    (found : Option Wrong) : Type 0 where
   pub given : IsFinding c heirs m bytes found
   pub only : (other : Option Wrong) → IsFinding c heirs m bytes other → other ≡ found

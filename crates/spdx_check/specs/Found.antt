@@ -1,5 +1,5 @@
--- The finding, found by reading: what the code's own contracts cite. The public ones speak of what is found by what the
--- definitions say of it.
+-- The finding, found by reading: what the code's own contracts cite. The public ones speak of what
+-- is found by what the definitions say of it.
 use Rattle.std.specs.Prelude.{ℕ, Bool, List, Option, None, Some, Result, Ok, Err, if◌then◌else◌}
 use Rattle.std.specs.Str.{is_utf8}
 use Rattle.line_engine.specs.Rule.{Rule}
@@ -35,8 +35,10 @@ finding_by c heirs text (Err fault) = Some (wrong_in c heirs text fault.0 fault.
 
 -- the finding of bytes
 unfoldable pub finding_of : Rows → List InsteadRow → ParseMode → List ℕ → Option Wrong
-finding_of c heirs m bytes = if is_utf8 bytes then finding_by c heirs bytes (outcome c m bytes) else Some (no_text bytes)
+finding_of c heirs m bytes =
+    if is_utf8 bytes then finding_by c heirs bytes (outcome c m bytes) else Some (no_text bytes)
 
 -- the rule of a check
 abbrev pub rule_of : Check → Bool → List ℕ → Rule
-rule_of check is_first file = rule_by (finding_of check.catalogue.now (heirs_in check) check.mode) check.form is_first file
+rule_of check is_first file =
+    rule_by (finding_of check.catalogue.now (heirs_in check) check.mode) check.form is_first file

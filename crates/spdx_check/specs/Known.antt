@@ -21,7 +21,8 @@ is_refused (Refused refusal) = true
 abbrev pub known_text : Form → Bool → Spot → Known → List ℕ
 known_text form is_first spot Accepted = []
 known_text form is_first spot (Framed frame) = framed frame spot.line
-known_text form is_first spot (Refused refusal) = finding_text form is_first (told_at spot (wrong_of refusal))
+known_text form is_first spot (Refused refusal) =
+    finding_text form is_first (told_at spot (wrong_of refusal))
 
 -- an expression that is a line of the file
 abbrev pub spot_in : List ℕ → ℕ → Spot
@@ -29,12 +30,16 @@ spot_in file line = record { file = file; line = line; column = 1 }
 
 -- in each line of the file what is known tells the finding, if there is one
 pub record Tells (form : Form) (file : List ℕ) (found : Option Wrong) (known : Known) : Type 0 where
-  pub text : (is_first : Bool) (line : ℕ) → known_text form is_first (spot_in file line) known ≡ found_text form is_first (spot_in file line) found
+  pub text : (is_first : Bool) (line : ℕ) →
+      known_text form is_first (spot_in file line) known ≡ found_text form is_first
+      (spot_in file line) found
   pub refuses : is_refused known ≡ is_some found
 
 -- what is known tells what is found of the expression
 abbrev pub IsKnownOf : Check → List ℕ → List ℕ → Known → Type 0
-IsKnownOf check file expression known = Tells check.form file (finding_of check.catalogue.now (heirs_in check) check.mode expression) known
+IsKnownOf check file expression known =
+    Tells check.form file (finding_of check.catalogue.now (heirs_in check) check.mode expression)
+    known
 
 -- a slot that is used holds what is known of its expression
 abbrev pub IsHeld : Check → List ℕ → Slot → Type 0

@@ -17,4 +17,6 @@ names_of accepted = map (λ x. requirement_text (requirement_of x)) accepted
 
 -- where the requirements of these names alone are accepted, the one holds and the other one doesn't
 abbrev pub TellApart : Tree → Tree → List (List ℕ) → Type 0
-TellApart t u names = (accepted : List LicenseReq) × (names ≡ names_of accepted) × (holds (accepts accepted) t ≡ true) × (holds (accepts accepted) u ≡ false)
+TellApart t u names =
+    (accepted : List LicenseReq) × (names ≡ names_of accepted) ×
+    (holds (accepts accepted) t ≡ true) × (holds (accepts accepted) u ≡ false)

@@ -18,7 +18,8 @@ pub record IsComparisonOf (t u : Tree) (x : Comparison) : Type 0 where
 
 -- so do the trees that the texts say
 abbrev pub IsComparison : Rows → ParseMode → List ℕ → List ℕ → Comparison → Type 0
-IsComparison c m one other x = (t u : Tree) × Says c m one t × Says c m other u × IsComparisonOf t u x
+IsComparison c m one other x =
+    (t u : Tree) × Says c m one t × Says c m other u × IsComparisonOf t u x
 
 -- of one of the texts it isn't told what it means
 abbrev pub IsUnmeantPair : Rows → ParseMode → List ℕ → List ℕ → Unmeant → Type 0

@@ -17,7 +17,8 @@ use Rattle.std.proofs.Common.{◌⊎◌}
 
 -- the text means that tree, and no other
 abbrev pub Says : Rows → ParseMode → List ℕ → Tree → Type 0
-Says c m text t = (read : List Placed) × (reading c m 0 text ≡ map Ok read) × IsTheTree c m (words read) t
+Says c m text t =
+    (read : List Placed) × (reading c m 0 text ≡ map Ok read) × IsTheTree c m (words read) t
 
 -- the nodes are those of the tree that the text says
 abbrev pub IsRead : Rows → ParseMode → List ℕ → List ExprNode → Type 0
@@ -26,7 +27,8 @@ IsRead c m text nodes = Says c m text (tree_in nodes)
 -- the text is no expression, for this fault; or too many sets are made of its tree, so many
 abbrev pub IsUnmeant : Rows → ParseMode → List ℕ → Unmeant → Type 0
 IsUnmeant c m text (Unread error) = IsRefused c m text error
-IsUnmeant c m text (TooMany many) = (t : Tree) × Says c m text t × ((made_in t ≡ Err many.0) ⊎ (made_by_rank t ≡ Err many.0))
+IsUnmeant c m text (TooMany many) =
+    (t : Tree) × Says c m text t × ((made_in t ≡ Err many.0) ⊎ (made_by_rank t ≡ Err many.0))
 
 -- what the text means, as its meaning text
 abbrev pub IsMeaningOf : Rows → ParseMode → List ℕ → List ℕ → Type 0

@@ -24,7 +24,8 @@ error_of made (failure.Refused e) = made e
 error_of made (failure.Memory e) = Memory e
 
 -- C, P or M of what was refused; of want of memory nothing
-abbrev pub ErrorBy : (ReadFault → Type 0) → (ParseError → Type 0) → (MinimizeError → Type 0) → Error → Type 0
+abbrev pub ErrorBy : (ReadFault → Type 0) → (ParseError → Type 0) → (MinimizeError → Type 0) →
+    Error → Type 0
 ErrorBy C P M (Catalogue fault) = C fault
 ErrorBy C P M (Parse e) = P e
 ErrorBy C P M (Minimize e) = M e

@@ -19,7 +19,8 @@ trees_behind (Op o ∷ ns) ts = trees_behind ns (join_trees o ts)
 
 -- the newest; a reference without a name where there is none, which no postfix list leaves
 abbrev pub newest : List Tree → Tree
-newest [] = Leaf (record { license = referred (record { document = None; name = [] }); addition = None })
+newest [] =
+    Leaf (record { license = referred (record { document = None; name = [] }); addition = None })
 newest (t ∷ ts) = t
 
 -- the tree whose postfix list the nodes are, if they are any

@@ -6,10 +6,12 @@ use Rattle.spdx_parser.specs.declared.node.Operator.{Operator}
 use Rattle.spdx_parser.specs.Tree.{Tree, Leaf, Join, Node, Op, postfix}
 use Rattle.spdx_evaluation.specs.Postfix.{trees_behind, newest, tree_of}
 
-pub regroup : (o : Operator) (l r : Tree) (ns : List Node) → postfix (Join o l r) ++ ns ≡ postfix l ++ (postfix r ++ Op o ∷ ns)
+pub regroup : (o : Operator) (l r : Tree) (ns : List Node) →
+    postfix (Join o l r) ++ ns ≡ postfix l ++ (postfix r ++ Op o ∷ ns)
 regroup o l r ns = simp append_assoc
 
-pub trees_behind_postfix : (t : Tree) (ns : List Node) (ts : List Tree) → trees_behind (postfix t ++ ns) ts ≡ trees_behind ns (t ∷ ts)
+pub trees_behind_postfix : (t : Tree) (ns : List Node) (ts : List Tree) →
+    trees_behind (postfix t ++ ns) ts ≡ trees_behind ns (t ∷ ts)
 trees_behind_postfix (Leaf r) ns ts = refl
 trees_behind_postfix (Join o l r) ns ts =
     ap (λ (z : List Node). trees_behind z ts) (regroup o l r ns)

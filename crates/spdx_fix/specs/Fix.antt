@@ -12,7 +12,8 @@ use Rattle.spdx_canonical.specs.Law.{Accepts, IsSound, IsFaithful}
 abbrev pub Reads : Rows → ParseMode → List ℕ → Type 0
 Reads c m text = (ws : List Word) × (t : Tree) × Accepts c m text ws t
 
--- strict parsing refuses the text, a lax reader accepts it, and strict parsing accepts its canonical text, which is the fix
+-- strict parsing refuses the text, a lax reader accepts it, and strict parsing accepts its
+-- canonical text, which is the fix
 pub record IsFix (c : Rows) (text fix : List ℕ) : Type 0 where
   pub refused : Reads c strict text → ⊥
   pub accepted : Reads c lax text
@@ -32,6 +33,7 @@ IsFixOf c text (Some fix) = IsFix c text fix
 pub record FixLaws (c : Rows) (text fix : List ℕ) : Type 0 where
   -- it needs no fix itself
   pub once : HasNoFix c fix
-  -- where all its names are good, it means the tree of the text, each bare GNU licence made `-only`, and no other
+  -- where all its names are good, it means the tree of the text, each bare GNU licence made
+  -- `-only`, and no other
   pub written : (ws : List Word) (t : Tree) → IsSound c text ws t → fix ≡ canonical_text ws
   pub faithful : (ws : List Word) (t : Tree) → IsSound c text ws t → IsFaithful c ws t

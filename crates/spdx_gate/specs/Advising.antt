@@ -30,7 +30,8 @@ abbrev pub unless : Bool → List (List ℕ) → List (List ℕ)
 unless true texts = []
 unless false texts = texts
 
--- what would allow a requirement that isn't allowed: the licences under which it may be had, but for what is denied
+-- what would allow a requirement that isn't allowed: the licences under which it may be had, but
+-- for what is denied
 abbrev pub wanted_of : Rules → List ℕ → Requirement → List (List ℕ)
 wanted_of p tables r = unless (allowed_in p tables r) (free_texts p tables (ways_of p r))
 
@@ -71,7 +72,8 @@ offered_texts offers numbers = map (offered_text offers) numbers
 
 -- the advice says what was chosen among the offers
 abbrev pub Advises : List NamedRow → Advice → Choice → Type 0
-Advises offers (advice.Allow texts) (chosen numbers) = map string_bytes texts.items ≡ offered_texts offers numbers
+Advises offers (advice.Allow texts) (chosen numbers) =
+    map string_bytes texts.items ≡ offered_texts offers numbers
 Advises offers (advice.Allow texts) unmet = ⊥
 Advises offers (advice.Allow texts) (too_many n) = ⊥
 Advises offers advice.Unmet c = c ≡ unmet
@@ -81,8 +83,8 @@ Advises offers (advice.TooMany n) c = c ≡ too_many n
 abbrev pub HasEntry : Rules → List NamedRow → List ℕ → Type 0
 HasEntry p more text = (n : NamedRow) × Contains more n × IsNamed p.list p.heirs text n
 
--- With entries of these texts in `allow`, whatever the policy's file makes of them, the expression passes; also where
--- others stand beside them.
+-- With entries of these texts in `allow`, whatever the policy's file makes of them, the expression
+-- passes; also where others stand beside them.
 abbrev pub AdviceWorks : Rules → List ℕ → Tree → Advice → Type 0
 AdviceWorks p tables t (advice.Allow texts) =
     (more : List NamedRow) → All (HasEntry p more) (map string_bytes texts.items)
@@ -90,10 +92,12 @@ AdviceWorks p tables t (advice.Allow texts) =
 AdviceWorks p tables t advice.Unmet = Unit {0}
 AdviceWorks p tables t (advice.TooMany n) = Unit {0}
 
--- the least choice among the offers that makes the tree pass beside what is allowed; with it the expression passes
+-- the least choice among the offers that makes the tree pass beside what is allowed; with it the
+-- expression passes
 pub record IsAdvised (p : Rules) (tables : List ℕ) (t : Tree) (a : Advice) : Type 0 where
   pub offers : List NamedRow
   pub are_offers : AreEntries p (wanted_in p tables t) offers
   pub advises : Advises offers a
-      (choice_among t (map (allowed_in p tables) (leaves t)) (serving_of p tables offers (ways_in p t)) (length offers))
+      (choice_among t (map (allowed_in p tables) (leaves t))
+      (serving_of p tables offers (ways_in p t)) (length offers))
   pub works : AdviceWorks p tables t a

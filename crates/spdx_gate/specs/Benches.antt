@@ -15,7 +15,8 @@ abbrev pub IsUnknown : List Judgement → List ℕ → List ℕ → Type 0
 IsUnknown js tables text = (k : ℕ) → IsAt js tables text k → ⊥
 
 -- one more, which is right and of this text under these exceptions, as none before it
-pub record AddsOne (c : Rows) (p : Rules) (tables text : List ℕ) (old new : List Judgement) : Type 0 where
+pub record AddsOne (c : Rows) (p : Rules) (tables text : List ℕ)
+    (old new : List Judgement) : Type 0 where
   pub judgement : Judgement
   pub last : new ≡ old ++ judgement ∷ []
   pub is_of : IsOf tables text judgement
@@ -27,7 +28,8 @@ abbrev pub Adds : Rows → Rules → List ℕ → List ℕ → List Judgement �
 Adds c p tables text old new = (new ≡ old) ⊎ AddsOne c p tables text old new
 
 -- what a package does to them: nothing where it states no text
-abbrev pub AddsOf : Rows → Rules → List ℕ → Option (List ℕ) → List Judgement → List Judgement → Type 0
+abbrev pub AddsOf : Rows → Rules → List ℕ → Option (List ℕ) → List Judgement → List Judgement →
+    Type 0
 AddsOf c p tables None old new = new ≡ old
 AddsOf c p tables (Some text) old new = Adds c p tables text old new
 
@@ -52,8 +54,11 @@ places_at by_key key = option_map_or (λ (v : Vec ℕ Global). v.items) (get_by_
 -- under that key the place stands last, and under each other one what stood there
 abbrev pub Notes : Index → List ℕ → ℕ → Index → Type 0
 Notes old key place new =
-    (q : List ℕ) → places_at new q ≡ (if bytes_eq q key then places_at old q ++ place ∷ [] else places_at old q)
+    (q : List ℕ) → places_at new
+    q ≡ (if bytes_eq q key then places_at old q ++ place ∷ [] else places_at old q)
 
 -- the place of each judgement stands under its key
 abbrev pub IsIndex : Index → List Judgement → Type 0
-IsIndex by_key js = (tables text : List ℕ) (k : ℕ) → IsAt js tables text k → Contains (places_at by_key (key_of tables text)) k
+IsIndex by_key js =
+    (tables text : List ℕ) (k : ℕ) → IsAt js tables text k →
+    Contains (places_at by_key (key_of tables text)) k

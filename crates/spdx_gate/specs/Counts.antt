@@ -28,9 +28,12 @@ abbrev pub HasRoom : BTreeMap (Bor (List ℕ)) ℕ → ℕ → Type 0
 HasRoom counts more = (q : List ℕ) → count_in counts q + more < 2 ^ 64
 
 -- each of the texts is counted once more
-abbrev pub CountsEach : BTreeMap (Bor (List ℕ)) ℕ → List (List ℕ) → BTreeMap (Bor (List ℕ)) ℕ → Type 0
+abbrev pub CountsEach : BTreeMap (Bor (List ℕ)) ℕ → List (List ℕ) → BTreeMap (Bor (List ℕ)) ℕ →
+    Type 0
 CountsEach old texts new = (q : List ℕ) → count_in new q ≡ count_in old q + times texts q
 
 -- each different one is
-abbrev pub CountsDifferent : BTreeMap (Bor (List ℕ)) ℕ → List (List ℕ) → BTreeMap (Bor (List ℕ)) ℕ → Type 0
-CountsDifferent old texts new = (q : List ℕ) → count_in new q ≡ count_in old q + (if is_among texts q then 1 else 0)
+abbrev pub CountsDifferent : BTreeMap (Bor (List ℕ)) ℕ → List (List ℕ) → BTreeMap (Bor (List ℕ)) ℕ →
+    Type 0
+CountsDifferent old texts new =
+    (q : List ℕ) → count_in new q ≡ count_in old q + (if is_among texts q then 1 else 0)

@@ -41,14 +41,16 @@ accepted_in ds = map allows (map mark_of ds)
 abbrev pub none_in : List Decision → List Bool
 none_in ds = none_of (map mark_of ds)
 
--- each requirement of the tree has its decision, and what is missing, advised and chosen follows from these
+-- each requirement of the tree has its decision, and what is missing, advised and chosen follows
+-- from these
 pub record IsDecided (p : Rules) (tables : List ℕ) (t : Tree) (j : Judged) : Type 0 where
   pub decisions_are : j.decisions.items ≡ map (decision_of p tables) (leaves t)
   pub missing_are : j.missing.items ≡ missing_of t (accepted_in j.decisions.items)
   pub cures : Cures t (accepted_in j.decisions.items) j.missing.items
   pub binds : Binds t (accepted_in j.decisions.items) j.missing.items
   pub advice_is : IsAdvised p tables t j.advice
-  pub choice_is : advised j.choice ≡ choice_of t (none_in j.decisions.items) (accepted_in j.decisions.items)
+  pub choice_is : advised j.choice ≡ choice_of t (none_in j.decisions.items)
+      (accepted_in j.decisions.items)
   pub verdict_is : j.verdict ≡ verdict_of p tables t
 
 -- the nodes are those of the text

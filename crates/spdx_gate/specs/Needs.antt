@@ -31,9 +31,12 @@ abbrev pub advice_of : Outcome → Option Advice
 advice_of (outcome.Judged j) = Some j.advice
 advice_of (outcome.Unreadable f) = None
 
--- the advice on a refused package; none where it passes, states no licence, or its text is no expression
+-- the advice on a refused package; none where it passes, states no licence, or its text is no
+-- expression
 abbrev pub advice_by : List Judgement → Verdict → Option ℕ → Option Advice
-advice_by js verdict.Refused place = option_and_then (λ k. option_and_then (λ (j : Judgement). advice_of j.outcome) (slice_get js k)) place
+advice_by js verdict.Refused place =
+    option_and_then (λ k. option_and_then (λ (j : Judgement). advice_of j.outcome) (slice_get js k))
+    place
 advice_by js v place = None
 
 abbrev pub advice_on : List Judgement → Row → Option Advice
@@ -55,7 +58,8 @@ entries_needed report = each_once (flat_map (needed_by report.judgements.items) 
 
 -- how many packages need that entry
 abbrev pub packages_needing : Report → List ℕ → ℕ
-packages_needing report text = count_by (λ row. is_among (needed_by report.judgements.items row) text) report.rows.items
+packages_needing report text =
+    count_by (λ row. is_among (needed_by report.judgements.items row) text) report.rows.items
 
 abbrev pub need_entry : Need → List ℕ
 need_entry n = string_bytes n.entry
@@ -85,13 +89,15 @@ is_unsought js row = is_unsought_by (advice_on js row)
 -- the refused package passes with these entries in `allow`
 abbrev pub PassesWith : Rules → List NamedRow → List Judgement → Row → Type 0
 PassesWith p more js row =
-    (k : ℕ) (j : Judgement) (d : Judged) → row.verdict ≡ verdict.Refused → row.judgement ≡ Some k → slice_get js k ≡ Some j → j.outcome ≡ outcome.Judged d
+    (k : ℕ) (j : Judgement) (d : Judged) → row.verdict ≡ verdict.Refused → row.judgement ≡ Some k →
+    slice_get js k ≡ Some j → j.outcome ≡ outcome.Judged d
     → is_unmet_by (Some d.advice) ≡ false → is_unsought_by (Some d.advice) ≡ false
     → passes (verdict_of (with_allowed p more) j.exceptions.items (tree_in d.nodes.items)) ≡ true
 
--- With entries of the texts in `allow`, whatever the policy's file makes of them, each refused package that something
--- helps passes.
+-- With entries of the texts in `allow`, whatever the policy's file makes of them, each refused
+-- package that something helps passes.
 abbrev pub NeedsWork : Report → List Need → Type 0
 NeedsWork report needs =
-    (c : Rows) (p : Rules) (xs : List Package) (more : List NamedRow) → IsReport c p xs report → All (HasEntry p more) (map need_entry needs)
+    (c : Rows) (p : Rules) (xs : List Package) (more : List NamedRow) → IsReport c p xs report →
+    All (HasEntry p more) (map need_entry needs)
     → All (PassesWith p more report.judgements.items) report.rows.items

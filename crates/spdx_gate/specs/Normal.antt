@@ -12,9 +12,10 @@ use Rattle.spdx_gate.specs.Reports.{Means}
 use Rattle.spdx_gate.specs.Spelling.{strictly}
 use Rattle.spdx_gate.specs.Alike.{BothSayAlike}
 
--- The normal text, read strictly, is judged as the text is: where the policy has texts read strictly; and where it
--- doesn't, if some text that is read strictly means the same tree.
+-- The normal text, read strictly, is judged as the text is: where the policy has texts read
+-- strictly; and where it doesn't, if some text that is read strictly means the same tree.
 abbrev pub NormalTextAgrees : Rows → Rules → List ℕ → List ℕ → Outcome → Type 0
 NormalTextAgrees c p tables text o =
     (t : Tree) → Means c (mode_of p) text t → (p.lax ≡ false) ⊎ IsStrict c t
-    → (normal : Outcome) → IsOutcome c (strictly p) tables (normal_text t) normal → BothSayAlike normal o
+    → (normal : Outcome) → IsOutcome c (strictly p) tables (normal_text t) normal →
+    BothSayAlike normal o

@@ -15,15 +15,18 @@ use Rattle.spdx_gate.specs.Alike.{SaysAlike}
 
 -- the same entries are advised
 abbrev pub IsSameAdvice : Advice → Advice → Type 0
-IsSameAdvice (advice.Allow texts) (advice.Allow others) = map string_bytes texts.items ≡ map string_bytes others.items
+IsSameAdvice (advice.Allow texts) (advice.Allow others) =
+    map string_bytes texts.items ≡ map string_bytes others.items
 IsSameAdvice advice.Unmet advice.Unmet = Unit {0}
 IsSameAdvice (advice.TooMany n) (advice.TooMany m) = n ≡ m
 IsSameAdvice a b = ⊥
 
--- the same is said of the same expression, whose requirements stand at the same places; or the fault is the same
+-- the same is said of the same expression, whose requirements stand at the same places; or the
+-- fault is the same
 abbrev pub IsSameOutcome : Outcome → Outcome → Type 0
 IsSameOutcome (outcome.Judged j) (outcome.Judged k) =
-    SaysAlike j k × IsSameAdvice j.advice k.advice × (requirement_spans j.nodes.items ≡ requirement_spans k.nodes.items)
+    SaysAlike j k × IsSameAdvice j.advice k.advice ×
+    (requirement_spans j.nodes.items ≡ requirement_spans k.nodes.items)
 IsSameOutcome (outcome.Judged j) (outcome.Unreadable g) = ⊥
 IsSameOutcome (outcome.Unreadable f) (outcome.Judged k) = ⊥
 IsSameOutcome (outcome.Unreadable f) (outcome.Unreadable g) =
@@ -57,4 +60,5 @@ pub record IsSameRow (js ks : List Judgement) (one other : Row) : Type 0 where
 
 -- row by row
 abbrev pub IsSameReport : Report → Report → Type 0
-IsSameReport one other = AllZip (IsSameRow one.judgements.items other.judgements.items) one.rows.items other.rows.items
+IsSameReport one other =
+    AllZip (IsSameRow one.judgements.items other.judgements.items) one.rows.items other.rows.items

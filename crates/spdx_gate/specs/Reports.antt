@@ -37,7 +37,8 @@ clarified_by p x = slice_get (places (holds x.name.now (option_copied x.version)
 
 -- the expression of the clarification, if there is one, else the licence
 abbrev pub text_by : Rules → Option ℕ → Option (List ℕ) → Option (List ℕ)
-text_by p clarification license = or_else (option_and_then (slice_get p.expressions) clarification) license
+text_by p clarification license =
+    or_else (option_and_then (slice_get p.expressions) clarification) license
 
 -- what is judged of it
 abbrev pub text_of : Rules → Package → Option (List ℕ)
@@ -45,13 +46,15 @@ text_of p x = text_by p (clarified_by p x) (option_copied x.license)
 
 -- the text means that tree, and no other
 abbrev pub Means : Rows → ParseMode → List ℕ → Tree → Type 0
-Means c m text t = (read : List Placed) × (reading c m 0 text ≡ map Ok read) × IsTheTree c m (words read) t
+Means c m text t =
+    (read : List Placed) × (reading c m 0 text ≡ map Ok read) × IsTheTree c m (words read) t
 
 -- the verdict of a text: it has no tree, or the verdict is that of its tree
 abbrev pub IsVerdictOfText : Rows → Rules → List ℕ → Option (List ℕ) → Verdict → Type 0
 IsVerdictOfText c p tables None v = v ≡ verdict.Unstated p.unstated
 IsVerdictOfText c p tables (Some text) v =
-    (HasNoTree c (mode_of p) text × (v ≡ verdict.Unreadable)) ⊎ ((t : Tree) × Means c (mode_of p) text t × (v ≡ verdict_of p tables t))
+    (HasNoTree c (mode_of p) text × (v ≡ verdict.Unreadable)) ⊎
+    ((t : Tree) × Means c (mode_of p) text t × (v ≡ verdict_of p tables t))
 
 abbrev pub IsVerdictOf : Rows → Rules → Package → Verdict → Type 0
 IsVerdictOf c p x v = IsVerdictOfText c p (tables_of p x) (text_of p x) v
@@ -77,7 +80,8 @@ pub record IsAt (js : List Judgement) (tables text : List ℕ) (k : ℕ) : Type 
 
 -- no two of the judgements are of the same text under the same exceptions
 abbrev pub AreDistinct : List Judgement → Type 0
-AreDistinct js = (tables text : List ℕ) (i k : ℕ) → IsAt js tables text i → IsAt js tables text k → i ≡ k
+AreDistinct js =
+    (tables text : List ℕ) (i k : ℕ) → IsAt js tables text i → IsAt js tables text k → i ≡ k
 
 abbrev pub IsPlaceOf : List Judgement → List ℕ → Option (List ℕ) → Option ℕ → Type 0
 IsPlaceOf js tables None place = place ≡ None
@@ -85,7 +89,8 @@ IsPlaceOf js tables (Some text) None = ⊥
 IsPlaceOf js tables (Some text) (Some k) = IsAt js tables text k
 
 -- what a report says of one package
-pub record IsRow (c : Rows) (p : Rules) (js : List Judgement) (x : Package) (row : Row) : Type 0 where
+pub record IsRow (c : Rows) (p : Rules) (js : List Judgement) (x : Package)
+    (row : Row) : Type 0 where
   pub verdict : IsVerdictOf c p x row.verdict
   pub exceptions : row.exceptions.items ≡ tables_of p x
   pub clarification : row.clarification ≡ clarified_by p x
@@ -93,9 +98,12 @@ pub record IsRow (c : Rows) (p : Rules) (js : List Judgement) (x : Package) (row
 
 -- the judgement is of the text of one of the packages, under its exceptions
 abbrev pub IsAsked : Rules → List Package → Judgement → Type 0
-IsAsked p xs j = (x : Package) × Contains xs x × (text_of p x ≡ Some (string_bytes j.text)) × (tables_of p x ≡ j.exceptions.items)
+IsAsked p xs j =
+    (x : Package) × Contains xs x × (text_of p x ≡ Some (string_bytes j.text)) ×
+    (tables_of p x ≡ j.exceptions.items)
 
--- A row for each package, in order; each judgement is right, of one of the packages, and there once.
+-- A row for each package, in order; each judgement is right, of one of the packages, and there
+-- once.
 pub record IsReport (c : Rows) (p : Rules) (xs : List Package) (report : Report) : Type 0 where
   pub rows : AllZip (IsRow c p report.judgements.items) xs report.rows.items
   pub right : All (IsRight c p) report.judgements.items

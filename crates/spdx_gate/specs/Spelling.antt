@@ -21,9 +21,10 @@ IsJudgedAlike (outcome.Judged j) (outcome.Judged k) =
 IsJudgedAlike (outcome.Judged j) (outcome.Unreadable f) = ⊥
 IsJudgedAlike (outcome.Unreadable f) o = ⊥
 
--- A text that a lax reader accepts, and in whose canonical text each name is listed and undeprecated, is judged as
--- its canonical text is, read strictly.
+-- A text that a lax reader accepts, and in whose canonical text each name is listed and
+-- undeprecated, is judged as its canonical text is, read strictly.
 abbrev pub NoSpellingMatters : Rows → Rules → List ℕ → List ℕ → Outcome → Type 0
 NoSpellingMatters c p tables text o =
     p.lax ≡ true → p.list ≡ c → (ws : List Word) (t : Tree) → IsSound c text ws t
-    → (canonical : Outcome) → IsOutcome c (strictly p) tables (canonical_text ws) canonical → IsJudgedAlike canonical o
+    → (canonical : Outcome) → IsOutcome c (strictly p) tables (canonical_text ws) canonical →
+    IsJudgedAlike canonical o

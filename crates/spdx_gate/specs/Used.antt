@@ -23,15 +23,18 @@ has_number numbers n = tree.contains nat_cmp numbers n
 
 -- the entries are those that decided a requirement of one of the texts
 abbrev pub AreDecided : BTreeSet Entry → List Judgement → Type 0
-AreDecided entries js = (e : Entry) → has_entry entries e ≡ list_any (λ (j : Judgement). decided_in e j.outcome) js
+AreDecided entries js =
+    (e : Entry) → has_entry entries e ≡ list_any (λ (j : Judgement). decided_in e j.outcome) js
 
 -- the exceptions are those that hold for one of the packages
 abbrev pub AreExceptions : BTreeSet ℕ → List Row → Type 0
-AreExceptions numbers rows = (table : ℕ) → has_number numbers table ≡ list_any (has_exception table) rows
+AreExceptions numbers rows =
+    (table : ℕ) → has_number numbers table ≡ list_any (has_exception table) rows
 
 -- the clarifications are
 abbrev pub AreClarifications : BTreeSet ℕ → List Row → Type 0
-AreClarifications numbers rows = (table : ℕ) → has_number numbers table ≡ list_any (has_clarification table) rows
+AreClarifications numbers rows =
+    (table : ℕ) → has_number numbers table ≡ list_any (has_clarification table) rows
 
 -- besides the entries that there were, those of the test
 abbrev pub AddsEntries : BTreeSet Entry → (Entry → Bool) → BTreeSet Entry → Type 0

@@ -22,7 +22,8 @@ abbrev pub slot_owns : Ptr → Option the_row.Denot → Fml
 slot_owns p None = ftrue
 slot_owns p (Some x) = box_owns (ghosts.dealloc_token the_heap) the_row p x
 
--- a share of the token of the lifetime a, and what a `&` to the catalogue at p holds for that lifetime
+-- a share of the token of the lifetime a, and what a `&` to the catalogue at p holds for that
+-- lifetime
 abbrev pub seen_owns : Ptr → ℕ → the_row.Denot → Fml
 seen_owns p a x = fsep (fex Share (λ e. flft (a ∷ []) e)) (lent_at the_row p x (a ∷ []))
 

@@ -20,7 +20,8 @@ is_approved r = is_osi_approved r.flags
 abbrev pub six_or_none : List LicenseRow → List LicenseRow
 six_or_none rows = if nat_le (length rows) 6 then rows else []
 
--- where there are more than six, those that the Open Source Initiative has approved, if these are six at most
+-- where there are more than six, those that the Open Source Initiative has approved, if these are
+-- six at most
 abbrev pub few : List LicenseRow → List LicenseRow
 few rows = if nat_le (length rows) 6 then rows else six_or_none (filter is_approved rows)
 
@@ -38,7 +39,8 @@ gives found phrase rows rule = not (length (given_by found phrase rows rule) == 
 
 -- the licences that the rule gives, if the phrase can mean any
 abbrev pub meant_by : Rows → List ℕ → Rule → List LicenseRow
-meant_by c phrase rule = if can_mean phrase then given_by (spellings c.imprecise phrase) phrase c.licenses rule else []
+meant_by c phrase rule =
+    if can_mean phrase then given_by (spellings c.imprecise phrase) phrase c.licenses rule else []
 
 -- they are some
 abbrev pub means_by : Rows → List ℕ → Rule → Bool
@@ -60,7 +62,8 @@ rule_of c phrase = find (gives_names c phrase) rules_asked
 unfoldable pub hints_of : Rows → List ℕ → List (List ℕ)
 hints_of c phrase = option_map_or (names_by c phrase) (rule_of c phrase) []
 
--- The rule gives these names for the phrase, and they are some; those that are asked before it give none.
+-- The rule gives these names for the phrase, and they are some; those that are asked before it give
+-- none.
 pub record IsFirst (c : Rows) (phrase : List ℕ) (names : List (List ℕ)) (rule : Rule) : Type 0 where
   pub given : names ≡ names_by c phrase rule
   pub some : names ≢ []

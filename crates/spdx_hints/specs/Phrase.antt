@@ -18,7 +18,8 @@ has_gap text i = option_map_or is_gap (slice_get text i) true
 
 -- this word stands at the head of the text, whatever the case of ASCII letters, and ends there
 abbrev pub begins_with_word : List ℕ → List ℕ → Bool
-begins_with_word w text = nat_le (length w) (length text) && (same (take (length w) text) w && has_gap text (length w))
+begins_with_word w text =
+    nat_le (length w) (length text) && (same (take (length w) text) w && has_gap text (length w))
 
 -- the length of the operator that the text begins with, and 0 if it begins with none
 abbrev pub operator_len : List ℕ → ℕ
@@ -37,7 +38,9 @@ has_parenthesis text i = option_map_or is_parenthesis (slice_get text i) false
 
 -- the length of the parenthesis or the operator word that stands there, and 0 if none does
 abbrev pub break_len : List ℕ → ℕ → ℕ
-break_len text i = if has_parenthesis text i then 1 else if begins_word text i then operator_len (drop i text) else 0
+break_len text i =
+    if has_parenthesis text i then 1 else if begins_word text i then operator_len (drop i text)
+    else 0
 
 -- the end of the last of these that begins before that place, and 0 if none does
 abbrev pub last_break : List ℕ → ℕ → ℕ

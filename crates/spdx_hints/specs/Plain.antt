@@ -22,9 +22,11 @@ link_from text i = next_link text (length text - i) i
 -- what stands before the first link, unless nothing does
 abbrev pub before_link : List ℕ → List ℕ
 before_link text =
-    if length (trimmed (take (link_from text 0) text)) == 0 then text else trimmed (take (link_from text 0) text)
+    if length (trimmed (take (link_from text 0) text)) == 0 then text
+    else trimmed (take (link_from text 0) text)
 
--- without each dot behind a letter that stands alone; the flags say whether the byte before is a letter, and a lone one
+-- without each dot behind a letter that stands alone; the flags say whether the byte before is a
+-- letter, and a lone one
 abbrev pub undotted_from : Bool → Bool → List ℕ → List ℕ
 undotted_from is_letter is_lone [] = []
 undotted_from is_letter is_lone (b ∷ bs) =

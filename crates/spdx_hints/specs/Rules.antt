@@ -39,9 +39,11 @@ spellings names phrase = filter (λ (m : ImpreciseRow). alike phrase m.prefix) n
 abbrev pub is_spelled : List ImpreciseRow → LicenseRow → Bool
 is_spelled found r = list_any (λ (m : ImpreciseRow). bytes_eq m.name r.name) found
 
--- the licence's name, its full name or an imprecise name that means it has the phrase's words and numbers
+-- the licence's name, its full name or an imprecise name that means it has the phrase's words and
+-- numbers
 abbrev pub has_same_words : List ImpreciseRow → List ℕ → LicenseRow → Bool
-has_same_words found phrase r = alike phrase r.name || (alike phrase r.full_name || is_spelled found r)
+has_same_words found phrase r =
+    alike phrase r.name || (alike phrase r.full_name || is_spelled found r)
 
 -- a text of the phrase's words that has the phrase's numbers, and others if it likes
 abbrev pub is_titled : List ℕ → List ℕ → Bool
@@ -59,8 +61,8 @@ family_word r = word (base r.name)
 abbrev pub is_recognised : LicenseRow → Bool
 is_recognised r = is_osi_approved r.flags || is_fsf_free_libre r.flags
 
--- the licence is recognised; the family's word, of three letters or more, is one of the phrase's; the phrase's numbers are
--- the name's, and its telling words are those of the name or the full name
+-- the licence is recognised; the family's word, of three letters or more, is one of the phrase's;
+-- the phrase's numbers are the name's, and its telling words are those of the name or the full name
 abbrev pub has_same_family : List ℕ → LicenseRow → Bool
 has_same_family phrase r =
     is_recognised r && (nat_le 3 (length (family_word r)) && (has_word phrase (family_word r)
@@ -68,16 +70,20 @@ has_same_family phrase r =
 
 -- the phrase has a word, and the licence's name or full name has its words, whatever the numbers
 abbrev pub has_other_numbers : List ℕ → LicenseRow → Bool
-has_other_numbers phrase r = not (has_words [] phrase) && (same_words phrase r.name || same_words phrase r.full_name)
+has_other_numbers phrase r =
+    not (has_words [] phrase) && (same_words phrase r.name || same_words phrase r.full_name)
 
 -- how many bytes must be put in, taken out or written over, the case of ASCII letters aside
 abbrev pub edits : List ℕ → List ℕ → ℕ
-edits a b = levenshtein_row nat_eq (str_to_ascii_lowercase a) (str_to_ascii_lowercase b) (length (str_to_ascii_lowercase b))
+edits a b =
+    levenshtein_row nat_eq (str_to_ascii_lowercase a) (str_to_ascii_lowercase b)
+    (length (str_to_ascii_lowercase b))
 
 -- no more than n edits from a name of at least five times as many bytes, which has the same numbers
 abbrev pub is_near : ℕ → List ℕ → List ℕ → Bool
 is_near n phrase name =
-    nat_le (n * 5) (length name) && (nat_le (max (length phrase) (length name) - min (length phrase) (length name)) n
+    nat_le (n * 5) (length name) &&
+    (nat_le (max (length phrase) (length name) - min (length phrase) (length name)) n
     && (same_numbers phrase name && nat_le (edits phrase name) n))
 
 -- what the rule says of a licence

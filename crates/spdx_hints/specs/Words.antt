@@ -26,9 +26,12 @@ ends_in_v word = ends_with nat_eq word (codes "v") || ends_with nat_eq word (cod
 abbrev pub less_last : List ℕ → List ℕ
 less_last word = take (length word - 1) word
 
--- the word of a piece: its letters, but for a `v` at their end that something follows, as in `GPLv3`
+-- the word of a piece: its letters, but for a `v` at their end that something follows, as in
+-- `GPLv3`
 abbrev pub word : List ℕ → List ℕ
-word piece = if not (length (letters piece) == length piece) && ends_in_v (letters piece) then less_last (letters piece) else letters piece
+word piece =
+    if not (length (letters piece) == length piece) && ends_in_v (letters piece)
+    then less_last (letters piece) else letters piece
 
 -- the piece from its first digit on
 abbrev pub from_digit : List ℕ → List ℕ
@@ -38,7 +41,8 @@ from_digit piece = drop (prefix_len (λ b. not (is_ascii_digit b)) piece) piece
 abbrev pub less : List ℕ → List ℕ → List ℕ
 less ending number = unwrap_or (without ending number) number
 
--- the number of a piece: the digits and dots from its first digit on, a `.` and a `.0` at the end aside, so that `2` is `2.0`
+-- the number of a piece: the digits and dots from its first digit on, a `.` and a `.0` at the end
+-- aside, so that `2` is `2.0`
 abbrev pub number : List ℕ → List ℕ
 number piece = less (codes ".0") (less (codes ".") (take_while is_number_byte (from_digit piece)))
 
@@ -49,9 +53,16 @@ same a b = str_eq_ignore_ascii_case a b
 abbrev pub is_noise : List ℕ → Bool
 is_noise w =
     length w == 0
-    || (same w (codes "the") || (same w (codes "a") || (same w (codes "license") || (same w (codes "licence") || (same w (codes "licensed") || (same w (codes "unlicensed")
-    || (same w (codes "version") || (same w (codes "v") || (same w (codes "gnu") || (same w (codes "only") || (same w (codes "or") || (same w (codes "later")
-    || (same w (codes "international") || (same w (codes "unported") || same w (codes "universal")))))))))))))))
+    || (same w (codes "the") ||
+    (same w (codes "a") ||
+    (same w (codes "license") ||
+    (same w (codes "licence") || (same w (codes "licensed") || (same w (codes "unlicensed")
+    || (same w (codes "version") ||
+    (same w (codes "v") ||
+    (same w (codes "gnu") ||
+    (same w (codes "only") || (same w (codes "or") || (same w (codes "later")
+    || (same w (codes "international") ||
+    (same w (codes "unported") || same w (codes "universal")))))))))))))))
 
 -- one of the text's words is this one, the case of ASCII letters aside
 abbrev pub has_word : List ℕ → List ℕ → Bool
@@ -79,7 +90,8 @@ names_another w =
 -- words of an older, a newer or a changed text
 abbrev pub names_an_age : List ℕ → Bool
 names_an_age w =
-    same w (codes "old") || (same w (codes "original") || (same w (codes "new") || (same w (codes "revised")
+    same w (codes "old") ||
+    (same w (codes "original") || (same w (codes "new") || (same w (codes "revised")
     || (same w (codes "simplified") || (same w (codes "modification") || (same w (codes "shortened")
     || (same w (codes "variant") || (same w (codes "clear") || (same w (codes "zero"))))))))))
 
@@ -95,10 +107,12 @@ names_a_holder w =
 abbrev pub names_a_limit : List ℕ → Bool
 names_a_limit w =
     same w (codes "classpath") || (same w (codes "exception") || (same w (codes "font")
-    || (same w (codes "invariants") || (same w (codes "commercial") || (same w (codes "noncommercial")
+    || (same w (codes "invariants") ||
+    (same w (codes "commercial") || (same w (codes "noncommercial")
     || (same w (codes "derivatives") || (same w (codes "sharealike"))))))))
 
--- a word that makes another licence of one, as `Affero` does: by them the licences of a family differ
+-- a word that makes another licence of one, as `Affero` does: by them the licences of a family
+-- differ
 abbrev pub is_telling : List ℕ → Bool
 is_telling w = names_another w || (names_an_age w || (names_a_holder w || names_a_limit w))
 

@@ -40,14 +40,16 @@ abbrev pub number_of : List Requirement → Requirement → ℕ
 number_of [] r = 0
 number_of (m ∷ ms) r = cond (same_requirement m r) 0 (number_of ms r + 1)
 
--- an expression with what is allowed, and of each of its requirements the number of the member that is the same
+-- an expression with what is allowed, and of each of its requirements the number of the member that
+-- is the same
 pub record Asked : Type 0 where
   pub tree : Tree
   pub allowed : List Bool
   pub numbers : List ℕ
 
 abbrev pub asked : List Requirement → Offered → Asked
-asked members o = record { tree = o.tree; allowed = o.allowed; numbers = map (number_of members) (leaves o.tree) }
+asked members o =
+    record { tree = o.tree; allowed = o.allowed; numbers = map (number_of members) (leaves o.tree) }
 
 -- which requirements are allowed and have their member chosen
 abbrev pub met : List Bool → List ℕ → List Bool → List Bool
@@ -74,8 +76,8 @@ own_in selection q = choice_of q.tree (replicate (length q.allowed) false) (met_
 abbrev pub own_choice : Offered → Choice
 own_choice o = choice_of o.tree (replicate (length o.allowed) false) o.allowed
 
--- what each expression is used under; or not even all that is allowed suffices; or so many members, more than the limit,
--- are there
+-- what each expression is used under; or not even all that is allowed suffices; or so many members,
+-- more than the limit, are there
 pub data Told : Type 0 where
   together : List Choice → Told
   unmet : Told
@@ -85,10 +87,12 @@ abbrev pub choices_by : List Asked → Option (List Bool) → Told
 choices_by qs None = unmet
 choices_by qs (Some selection) = together (map (own_in selection) qs)
 
--- the first sufficient selection: of two the one that leaves out the last member on which they differ comes first
+-- the first sufficient selection: of two the one that leaves out the last member on which they
+-- differ comes first
 abbrev pub joint_among : List Requirement → List Asked → Told
 joint_among members qs =
-    cond (nat_lt 1024 (length members)) (too_many (length members)) (choices_by qs (least_of (suffices_for qs) (length members)))
+    cond (nat_lt 1024 (length members)) (too_many (length members))
+    (choices_by qs (least_of (suffices_for qs) (length members)))
 
 abbrev pub asked_all : List Offered → List Asked
 asked_all offers = map (asked (members_of offers)) offers
@@ -101,8 +105,8 @@ told (joint.Together v) = together (map advised v.items)
 told joint.Unmet = unmet
 told (joint.TooMany n) = too_many n
 
--- the sufficient selection that, against each other one, leaves out the last member on which they differ; none of its
--- members can be left out with the rest sufficient
+-- the sufficient selection that, against each other one, leaves out the last member on which they
+-- differ; none of its members can be left out with the rest sufficient
 pub record IsLeastTogether (offers : List Offered) (choices : List Choice) : Type 0 where
   pub selection : List Bool
   pub least : IsLeast (suffices_for (asked_all offers)) (length (members_of offers)) selection
@@ -112,5 +116,6 @@ pub record IsLeastTogether (offers : List Offered) (choices : List Choice) : Typ
 -- what it is among other choices
 abbrev pub IsLeastJoint : List Offered → Joint → Type 0
 IsLeastJoint offers (joint.Together v) = IsLeastTogether offers (map advised v.items)
-IsLeastJoint offers joint.Unmet = NoneSuffices (suffices_for (asked_all offers)) (length (members_of offers))
+IsLeastJoint offers joint.Unmet =
+    NoneSuffices (suffices_for (asked_all offers)) (length (members_of offers))
 IsLeastJoint offers (joint.TooMany n) = n ≡ length (members_of offers)

@@ -11,4 +11,5 @@ shown reqs = map requirement_of reqs
 -- the members, and behind them each of the others that is the same as none before it
 abbrev pub grown : List Requirement → List Requirement → List Requirement
 grown members [] = members
-grown members (r ∷ rs) = grown (members ++ cond (list_any (λ m. same_requirement m r) members) [] (r ∷ [])) rs
+grown members (r ∷ rs) =
+    grown (members ++ cond (list_any (λ m. same_requirement m r) members) [] (r ∷ [])) rs

@@ -5,7 +5,8 @@ use Rattle.spdx_joint.specs.declared.question.Question.{Question}
 use Rattle.spdx_joint.specs.Choice.{Asked}
 
 abbrev pub asked_of : Question → Asked
-asked_of q = record { tree = tree_in q.nodes.now; allowed = q.allowed.now; numbers = q.numbers.items }
+asked_of q =
+    record { tree = tree_in q.nodes.now; allowed = q.allowed.now; numbers = q.numbers.items }
 
 -- the nodes of the longest
 abbrev pub longest : List Question → ℕ

@@ -19,7 +19,8 @@ abbrev pub offered : Rules → List ℕ → Tree → Offered
 offered p tables t = record { tree = t; allowed = map (allowed_in p tables) (leaves t) }
 
 -- the text means a tree, of which that is offered, and what was chosen is its own least choice
-pub record IsAllowed (c : Rows) (p : Rules) (tables text : List ℕ) (j : Judged) (o : Offered) : Type 0 where
+pub record IsAllowed (c : Rows) (p : Rules) (tables text : List ℕ) (j : Judged)
+    (o : Offered) : Type 0 where
   pub tree : Tree
   pub means : Means c (mode_of p) text tree
   pub offer_is : o ≡ offered p tables tree
@@ -27,4 +28,6 @@ pub record IsAllowed (c : Rows) (p : Rules) (tables text : List ℕ) (j : Judged
 
 -- whatever text it was that was judged, under whatever exceptions
 abbrev pub IsAllowedOf : Judged → Offered → Type 0
-IsAllowedOf j o = (c : Rows) → (p : Rules) → (tables text : List ℕ) → IsJudged c p tables text j → IsAllowed c p tables text j o
+IsAllowedOf j o =
+    (c : Rows) → (p : Rules) → (tables text : List ℕ) → IsJudged c p tables text j →
+    IsAllowed c p tables text j o

@@ -37,7 +37,8 @@ description_text (Unexpected words) = codes "unexpected term"
 description_text SeparatedPlus = codes "`+` must not follow whitespace"
 description_text UnknownTerm = codes "unknown term"
 description_text GnuNoPlus = codes "a GNU license was followed by a `+`"
-description_text GnuPlusWithSuffix = codes "a GNU license was followed by a `+` even though it ended in `-only` or `-or-later`"
+description_text GnuPlusWithSuffix =
+    codes "a GNU license was followed by a `+` even though it ended in `-only` or `-or-later`"
 description_text DeprecatedLicenseId = codes "a deprecated license identifier was used"
 
 abbrev pub quoted : List ℕ → List ℕ
@@ -51,7 +52,8 @@ quoted_words words = join_by quoted (codes ", ") words
 abbrev pub unexpected_text : List (List ℕ) → List ℕ
 unexpected_text [] = codes "the term was not expected here"
 unexpected_text (word ∷ []) = codes "expected a " ++ (quoted word ++ codes " here")
-unexpected_text (one ∷ two ∷ words) = codes "expected one of " ++ (quoted_words (one ∷ two ∷ words) ++ codes " here")
+unexpected_text (one ∷ two ∷ words) =
+    codes "expected one of " ++ (quoted_words (one ∷ two ∷ words) ++ codes " here")
 
 abbrev pub fault_text : Fault → List ℕ
 fault_text (Unexpected words) = unexpected_text words
@@ -65,7 +67,9 @@ marks fault len = repeat len (codes "^")
 
 -- the text, and below it a blank for each byte before the span, the marks, and the fault
 abbrev pub fault_display : List ℕ → ℕ → ℕ → Fault → List ℕ
-fault_display text from to fault = text ++ (codes "\n" ++ (repeat from (codes " ") ++ (marks fault (to - from) ++ (codes " " ++ fault_text fault))))
+fault_display text from to fault =
+    text ++ (codes "\n" ++
+    (repeat from (codes " ") ++ (marks fault (to - from) ++ (codes " " ++ fault_text fault))))
 
 abbrev pub error_text : ParseError → List ℕ
 error_text e = fault_display e.original.now e.span.start e.span.end (fault_of e.reason)

@@ -21,11 +21,15 @@ exact c run = first_of (
 
 -- a reference to a licence, with a document or without
 abbrev pub license_reference : List ℕ → Found
-license_reference run = first_of (document_reference (codes "LicenseRef-") LicenseRef run ∷ reference (codes "LicenseRef-") LicenseRef run ∷ [])
+license_reference run =
+    first_of (document_reference (codes "LicenseRef-") LicenseRef run ∷
+    reference (codes "LicenseRef-") LicenseRef run ∷ [])
 
 -- a reference to an addition, with a document or without
 abbrev pub addition_reference : List ℕ → Found
-addition_reference run = first_of (document_reference (codes "AdditionRef-") AdditionRef run ∷ reference (codes "AdditionRef-") AdditionRef run ∷ [])
+addition_reference run =
+    first_of (document_reference (codes "AdditionRef-") AdditionRef run ∷
+    reference (codes "AdditionRef-") AdditionRef run ∷ [])
 
 -- a reference at the front of the run
 abbrev pub referred : List ℕ → Found
@@ -48,7 +52,9 @@ unknown m run = if m.allow_unknown then whole run (Some (Unknown run)) else None
 
 -- an imprecise spelling at the front of the text, which may go on behind the run or end within it
 abbrev pub imprecise : Rows → ParseMode → List ℕ → Found
-imprecise c m text = if m.allow_imprecise_license_names then option_map (λ (f : LicenseRow × ℕ). (Spdx f.0, f.1)) (imprecise_license c text) else None
+imprecise c m text =
+    if m.allow_imprecise_license_names
+    then option_map (λ (f : LicenseRow × ℕ). (Spdx f.0, f.1)) (imprecise_license c text) else None
 
 -- by the run, else by an imprecise spelling, else as an unknown word
 abbrev pub grouped : Rows → ParseMode → List ℕ → List ℕ → Found
@@ -56,4 +62,5 @@ grouped c m text run = first_of (by_run c m run ∷ imprecise c m text ∷ unkno
 
 -- the word at the front of the text, by the groups
 abbrev pub grouped_lexeme : Rows → ParseMode → List ℕ → Result (Word × ℕ) (Fault × ℕ)
-grouped_lexeme c m text = lexeme_of text (run_at text) (sign m text) (grouped c m text (run_at text))
+grouped_lexeme c m text =
+    lexeme_of text (run_at text) (sign m text) (grouped c m text (run_at text))

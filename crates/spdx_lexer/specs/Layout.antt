@@ -13,22 +13,29 @@ use Rattle.spdx_requirement.specs.Texts.{reference_text}
 
 -- the name, or the name but for the case of ASCII letters where the mode allows it
 abbrev pub IsNamed : ParseMode → List ℕ → List ℕ → Type 0
-IsNamed m name text = (text ≡ name) ⊎ ((m.allow_caseless_ids ≡ true) × (str_eq_ignore_ascii_case name text ≡ true))
+IsNamed m name text =
+    (text ≡ name) ⊎ ((m.allow_caseless_ids ≡ true) × (str_eq_ignore_ascii_case name text ≡ true))
 
--- the prefix of an imprecise name of that licence, but for the case of ASCII letters, where the mode allows it
+-- the prefix of an imprecise name of that licence, but for the case of ASCII letters, where the
+-- mode allows it
 abbrev pub IsImprecise : Rows → ParseMode → LicenseRow → List ℕ → Type 0
 IsImprecise c m r text =
     (m.allow_imprecise_license_names ≡ true)
-    × ((row : ℕ) × ((n : ImpreciseRow) × ((slice_get c.imprecise row ≡ Some n) × ((n.name ≡ r.name) × (str_eq_ignore_ascii_case n.prefix text ≡ true)))))
+    × ((row : ℕ) × ((n : ImpreciseRow) ×
+    ((slice_get c.imprecise row ≡ Some n) ×
+    ((n.name ≡ r.name) × (str_eq_ignore_ascii_case n.prefix text ≡ true)))))
 
 -- the prefixes and the parts, which are of a name's bytes
 abbrev pub IsReference : List ℕ → Option (List ℕ) → List ℕ → List ℕ → Type 0
 IsReference prefix d y text =
-    (text ≡ reference_text prefix d y) × ((list_all is_name_byte y ≡ true) × IfSome d (λ (x : List ℕ). list_all is_name_byte x ≡ true))
+    (text ≡ reference_text prefix d y) ×
+    ((list_all is_name_byte y ≡ true) ×
+    IfSome d (λ (x : List ℕ). list_all is_name_byte x ≡ true))
 
 -- an id names the row of the catalogue that stands at its index
 abbrev pub IsSpelt : Rows → ParseMode → Word → List ℕ → Type 0
-IsSpelt c m (Spdx r) text = (slice_get c.licenses r.index ≡ Some r) × (IsNamed m r.name text ⊎ IsImprecise c m r text)
+IsSpelt c m (Spdx r) text =
+    (slice_get c.licenses r.index ≡ Some r) × (IsNamed m r.name text ⊎ IsImprecise c m r text)
 IsSpelt c m (LicenseRef d y) text = IsReference (codes "LicenseRef-") d y text
 IsSpelt c m (Exception r) text = (slice_get c.exceptions r.index ≡ Some r) × IsNamed m r.name text
 IsSpelt c m (AdditionRef d y) text = IsReference (codes "AdditionRef-") d y text
@@ -38,7 +45,9 @@ IsSpelt c m OpenParen text = text ≡ codes "("
 IsSpelt c m CloseParen text = text ≡ codes ")"
 IsSpelt c m With text = (text ≡ codes "WITH") ⊎ (text ≡ codes "with")
 IsSpelt c m And text = (text ≡ codes "AND") ⊎ (text ≡ codes "and")
-IsSpelt c m Or text = ((text ≡ codes "OR") ⊎ (text ≡ codes "or")) ⊎ ((m.allow_slash_as_or_operator ≡ true) × (text ≡ codes "/"))
+IsSpelt c m Or text =
+    ((text ≡ codes "OR") ⊎ (text ≡ codes "or")) ⊎
+    ((m.allow_slash_as_or_operator ≡ true) × (text ≡ codes "/"))
 
 -- ---- places
 
@@ -61,12 +70,16 @@ IsGap text from to = (from ≤ to) × IsWhite (between text from to)
 abbrev pub IsLexical : Fault → Type 0
 IsLexical fault = (fault ≡ InvalidCharacters) ⊎ ((fault ≡ SeparatedPlus) ⊎ (fault ≡ UnknownTerm))
 
--- The items behind a place of the text: each behind white space alone, on boundaries of characters, a word over the
--- bytes that it stands for; behind a fault there is none, and behind the last word there is white space alone.
+-- The items behind a place of the text: each behind white space alone, on boundaries of characters,
+-- a word over the bytes that it stands for; behind a fault there is none, and behind the last word
+-- there is white space alone.
 pub data AreLaid (c : Rows) (m : ParseMode) (text : List ℕ) : ℕ → List Item → Type 0 where
   ended : {at : ℕ} → IsWhite (drop at text) → AreLaid c m text at []
-  stopped : {at : ℕ} {fault : Fault} {s : Span} → IsLexical fault → IsGap text at s.from → IsPlace text s → AreLaid c m text at (Err (fault, s) ∷ [])
-  goes_on : {at : ℕ} {word : Word} {s : Span} {rest : List Item} → IsGap text at s.from → IsPlace text s → s.from < s.to → IsSpelt c m word (between text s.from s.to) → AreLaid c m text s.to rest → AreLaid c m text at (Ok (word, s) ∷ rest)
+  stopped : {at : ℕ} {fault : Fault} {s : Span} → IsLexical fault → IsGap text at s.from →
+      IsPlace text s → AreLaid c m text at (Err (fault, s) ∷ [])
+  goes_on : {at : ℕ} {word : Word} {s : Span} {rest : List Item} → IsGap text at s.from →
+      IsPlace text s → s.from < s.to → IsSpelt c m word (between text s.from s.to) →
+      AreLaid c m text s.to rest → AreLaid c m text at (Ok (word, s) ∷ rest)
 
 abbrev pub place_of : Item → Span
 place_of (Ok found) = found.1

@@ -22,7 +22,8 @@ white text = length (encode_utf8_all (take_while is_whitespace (chars text)))
 
 -- what follows the prefix, if the text begins with it
 abbrev pub strip : List ℕ → List ℕ → Option (List ℕ)
-strip prefix text = if starts_with nat_eq text prefix then Some (drop (length prefix) text) else None
+strip prefix text =
+    if starts_with nat_eq text prefix then Some (drop (length prefix) text) else None
 
 abbrev pub begins_plus : List ℕ → Bool
 begins_plus [] = false

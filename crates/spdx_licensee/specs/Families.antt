@@ -13,4 +13,5 @@ abbrev pub parts_left : FamilyParts → List (List ℕ)
 parts_left reader = parts_of reader.rest
 
 abbrev pub family_left : FamilyParts → List (List ℕ)
-family_left reader = if reader.version_passed then parts_left reader else without_version (parts_left reader)
+family_left reader =
+    if reader.version_passed then parts_left reader else without_version (parts_left reader)

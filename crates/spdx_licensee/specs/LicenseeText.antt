@@ -11,20 +11,25 @@ use Rattle.spdx_lexer.specs.Reading.{reading}
 -- a listed licence that is not deprecated, without a mark, or a reference
 abbrev pub license_named : Word → Option LicenseTerm
 license_named (Spdx row) = if is_deprecated row.flags then None else Some (listed row false)
-license_named (LicenseRef document name) = Some (referred (record { document = document; name = name }))
+license_named (LicenseRef document name) =
+    Some (referred (record { document = document; name = name }))
 license_named w = None
 
 -- an exception, deprecated or not, or a reference
 abbrev pub addition_named : Word → Option Addition
 addition_named (Exception row) = Some (excepted row)
-addition_named (AdditionRef document name) = Some (added (record { document = document; name = name }))
+addition_named (AdditionRef document name) =
+    Some (added (record { document = document; name = name }))
 addition_named w = None
 
 -- a licence, or a licence, WITH and an addition
 abbrev pub licensee_named : List Word → Option Requirement
-licensee_named (l ∷ []) = option_map (λ license. record { license = license; addition = None }) (license_named l)
+licensee_named (l ∷ []) =
+    option_map (λ license. record { license = license; addition = None }) (license_named l)
 licensee_named (l ∷ With ∷ a ∷ []) =
-    option_and_then (λ license. option_map (λ addition. record { license = license; addition = Some addition }) (addition_named a)) (license_named l)
+    option_and_then (λ license.
+    option_map (λ addition. record { license = license; addition = Some addition })
+    (addition_named a)) (license_named l)
 licensee_named ws = None
 
 -- the words begin a licensee's, or are all of them
@@ -46,21 +51,28 @@ licensee_end_fault len (l ∷ ws) = (Unexpected (codes "<addition>" ∷ []), spa
 
 -- the text reads, in the strict form, as the words of a licensee
 abbrev pub Names : Rows → List ℕ → Requirement → Type 0
-Names c text req = (read : List Placed) × (reading c strict 0 text ≡ map Ok read) × (licensee_named (words read) ≡ Some req)
+Names c text req =
+    (read : List Placed) × (reading c strict 0 text ≡ map Ok read) ×
+    (licensee_named (words read) ≡ Some req)
 
 -- the text names no licensee
 abbrev pub NamesNone : Rows → List ℕ → Type 0
 NamesNone c text = (req : Requirement) → Names c text req → ⊥
 
--- The fault of a text: that of the first word with which no licensee goes on; where there is none, that of the
--- first place that is no word; where there is none, that of the end.
+-- The fault of a text: that of the first word with which no licensee goes on; where there is none,
+-- that of the first place that is no word; where there is none, that of the end.
 pub data IsLicenseeFault (c : Rows) (text : List ℕ) : Fault → Span → Type 0 where
-  at_word : (read : List Placed) (w : Word) {s : Span} (more : List Item) → reading c strict 0 text ≡ map Ok read ++ Ok (w, s) ∷ more
-      → Begins (words read) → (Begins (words read ++ w ∷ []) → ⊥) → IsLicenseeFault c text (licensee_word_fault (words read) w) s
-  at_place : (read : List Placed) {f : Fault} {s : Span} (more : List Item) → reading c strict 0 text ≡ map Ok read ++ Err (f, s) ∷ more
+  at_word : (read : List Placed) (w : Word) {s : Span} (more : List Item) →
+      reading c strict 0 text ≡ map Ok read ++ Ok (w, s) ∷ more
+      → Begins (words read) → (Begins (words read ++ w ∷ []) → ⊥) →
+      IsLicenseeFault c text (licensee_word_fault (words read) w) s
+  at_place : (read : List Placed) {f : Fault} {s : Span} (more : List Item) →
+      reading c strict 0 text ≡ map Ok read ++ Err (f, s) ∷ more
       → Begins (words read) → IsLicenseeFault c text f s
   at_end : (read : List Placed) → reading c strict 0 text ≡ map Ok read
-      → Begins (words read) → licensee_named (words read) ≡ None → IsLicenseeFault c text (licensee_end_fault (length text) (words read)).0 (licensee_end_fault (length text) (words read)).1
+      → Begins (words read) → licensee_named (words read) ≡ None →
+      IsLicenseeFault c text (licensee_end_fault (length text) (words read)).0
+      (licensee_end_fault (length text) (words read)).1
 
 abbrev pub is_reference : Word → Bool
 is_reference (LicenseRef document name) = true

@@ -26,13 +26,16 @@ is_as_late held required =
     pointwise bytes_eq (family held) (family required)
     && not_older (version (versioned_name held)) (version (versioned_name required))
 
--- the same licence, whatever its mark, or where later versions are meant, one as late; of references the same
+-- the same licence, whatever its mark, or where later versions are meant, one as late; of
+-- references the same
 abbrev pub covers : LicenseTerm → LicenseTerm → Bool
-covers (listed held mark) (listed required or_later) = held.index == required.index || (allows_later required or_later && is_as_late held required)
+covers (listed held mark) (listed required or_later) =
+    held.index == required.index || (allows_later required or_later && is_as_late held required)
 covers (referred held) (referred required) = same_reference held required
 covers (listed held mark) (referred required) = false
 covers (referred held) (listed required or_later) = false
 
 -- the held requirement satisfies the required one
 abbrev pub satisfies : Requirement → Requirement → Bool
-satisfies held required = option_eq same_addition held.addition required.addition && covers held.license required.license
+satisfies held required =
+    option_eq same_addition held.addition required.addition && covers held.license required.license

@@ -26,15 +26,19 @@ fault_line Memory = codes "out of memory\n"
 -- the status and the line that is told, by what came of the plan
 pub data Ends (plan : Result Rule Refusal) (d : Devices) : ℕ → List ℕ → Type 0 where
   -- the run came to its end
-  done : {rule : Rule} {summary : Summary} → plan ≡ Ok rule → Runs rule d (Ok summary) → Ends plan d (if summary.refused == 0 then 0 else 1) []
+  done : {rule : Rule} {summary : Summary} → plan ≡ Ok rule → Runs rule d (Ok summary) →
+      Ends plan d (if summary.refused == 0 then 0 else 1) []
   -- it broke off
-  broken : {rule : Rule} {fault : RunFault} → plan ≡ Ok rule → Runs rule d (Err fault) → Ends plan d 3 (fault_line fault)
+  broken : {rule : Rule} {fault : RunFault} → plan ≡ Ok rule → Runs rule d (Err fault) →
+      Ends plan d 3 (fault_line fault)
   -- there was none
-  refused : {refusal : Refusal} → plan ≡ Err refusal → HasMovedNothing d → Ends plan d 2 (refusal_line refusal)
+  refused : {refusal : Refusal} → plan ≡ Err refusal → HasMovedNothing d →
+      Ends plan d 2 (refusal_line refusal)
   -- memory was wanted before the run, in it, or for the line that tells of it
   short : {rule : Rule} → plan ≡ Ok rule → HasBegun rule d → Ends plan d 3 (fault_line Memory)
   -- memory was wanted where there was none
-  short_of_all : {refusal : Refusal} → plan ≡ Err refusal → HasMovedNothing d → Ends plan d 3 (fault_line Memory)
+  short_of_all : {refusal : Refusal} → plan ≡ Err refusal → HasMovedNothing d →
+      Ends plan d 3 (fault_line Memory)
 
 -- ---- what the program's own type says, what it borrows aside
 
@@ -46,7 +50,8 @@ abbrev pub stop_line : Stop → List ℕ
 stop_line stop.Usage = refusal_line Usage
 stop_line stop.Unreadable = refusal_line Unreadable
 stop_line (stop.Catalogue fault) = refusal_line (NoCatalogue fault)
-stop_line (stop.Licensee n error) = refusal_line (NoLicensee n (fault_of error.reason) (span_of error.span))
+stop_line (stop.Licensee n error) =
+    refusal_line (NoLicensee n (fault_of error.reason) (span_of error.span))
 stop_line (stop.Run fault) = fault_line fault
 
 -- the run ended so, or stopped so
@@ -61,13 +66,15 @@ StopsAt plan (stop.Run fault) = ⊥
 StopsAt plan stop.Usage = plan ≡ Err Usage
 StopsAt plan stop.Unreadable = plan ≡ Err Unreadable
 StopsAt plan (stop.Catalogue fault) = plan ≡ Err (NoCatalogue fault)
-StopsAt plan (stop.Licensee n error) = plan ≡ Err (NoLicensee n (fault_of error.reason) (span_of error.span))
+StopsAt plan (stop.Licensee n error) =
+    plan ≡ Err (NoLicensee n (fault_of error.reason) (span_of error.span))
 
 -- ---- the whole program
 
--- It ends as the words and the catalogue's bytes have it, by what they and the lines mean; the status says how, and so
--- does the line that is told, unless the device for it has failed.
-pub record Serves (words : Option (Bor (List (Bor (List ℕ))))) (catalogue : Option (Bor (List ℕ))) (d : Devices) (old new : Told) (status : ℕ) : Type 0 where
+-- It ends as the words and the catalogue's bytes have it, by what they and the lines mean; the
+-- status says how, and so does the line that is told, unless the device for it has failed.
+pub record Serves (words : Option (Bor (List (Bor (List ℕ))))) (catalogue : Option (Bor (List ℕ)))
+    (d : Devices) (old new : Told) (status : ℕ) : Type 0 where
   pub by : Meaning
   pub is_meant : IsTheMeaning by
   pub line : List ℕ

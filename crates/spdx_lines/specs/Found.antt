@@ -1,5 +1,5 @@
--- What lines and licensees mean, found by reading them: what the code's own contracts cite. The public ones
--- speak of what is found by what the definitions say of it.
+-- What lines and licensees mean, found by reading them: what the code's own contracts cite. The
+-- public ones speak of what is found by what the definitions say of it.
 use Rattle.std.specs.Prelude.{ℕ, List, [], length, Result, Ok, Err, if◌then◌else◌, unwrap_or}
 use Rattle.std.specs.Str.{is_utf8}
 use Rattle.std.specs.Result.{result_ok}
@@ -32,7 +32,9 @@ verdict_of column (Ok t) = Accepted t (column t)
 verdict_of column (Err fault) = Refused fault.0 fault.1
 
 unfoldable pub verdict : Rows → LineMode → List ℕ → Verdict
-verdict c mode line = if is_utf8 line then verdict_of (column c mode line) (outcome c (parse_mode mode) line) else BadUtf8
+verdict c mode line =
+    if is_utf8 line then verdict_of (column c mode line) (outcome c (parse_mode mode) line)
+    else BadUtf8
 
 abbrev pub accepted_trees : Rows → LineMode → List (List ℕ) → List Tree
 accepted_trees c mode lines = trees_by (verdict c mode) lines

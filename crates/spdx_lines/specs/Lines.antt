@@ -21,7 +21,8 @@ rule_by verdict accepted = record {
   closing = λ lines. [];
 }
 
--- each line gives the text of its verdict without a choice, and behind them all stands the one for all accepted ones
+-- each line gives the text of its verdict without a choice, and behind them all stands the one for
+-- all accepted ones
 abbrev pub rule_by_all : (List ℕ → Verdict) → List Requirement → Rule
 rule_by_all verdict accepted = record {
   text = λ before line. verdict_text (λ t. []) (verdict line);
@@ -31,17 +32,22 @@ rule_by_all verdict accepted = record {
 
 -- what stands behind all lines sees which lines there are, and not how often or in what order
 abbrev pub ClosesAlike : Rule → Type 0
-ClosesAlike rule = (lines others : List (List ℕ)) → SameMembers lines others → rule.closing lines ≡ rule.closing others
+ClosesAlike rule =
+    (lines others : List (List ℕ)) → SameMembers lines others →
+    rule.closing lines ≡ rule.closing others
 
--- the run answers each line by its verdict and its own choice; an input cut behind newlines is answered piece by piece
-pub record RunsByLine (c : Rows) (mode : LineMode) (accepted : List Requirement) (d : Devices) (result : Result Summary RunFault) : Type 0 where
+-- the run answers each line by its verdict and its own choice; an input cut behind newlines is
+-- answered piece by piece
+pub record RunsByLine (c : Rows) (mode : LineMode) (accepted : List Requirement) (d : Devices)
+    (result : Result Summary RunFault) : Type 0 where
   pub verdict : List ℕ → Verdict
   pub verdicts : (line : List ℕ) → IsTheVerdict c mode line (verdict line)
   pub splits : SplitsAtLines (rule_by verdict accepted)
   pub runs : Runs (rule_by verdict accepted) d result
 
 -- the run answers each line by its verdict, and gives one choice for all of them, doubled or not
-pub record RunsForAll (c : Rows) (mode : LineMode) (accepted : List Requirement) (d : Devices) (result : Result Summary RunFault) : Type 0 where
+pub record RunsForAll (c : Rows) (mode : LineMode) (accepted : List Requirement) (d : Devices)
+    (result : Result Summary RunFault) : Type 0 where
   pub verdict : List ℕ → Verdict
   pub verdicts : (line : List ℕ) → IsTheVerdict c mode line (verdict line)
   pub doubles : ClosesAlike (rule_by_all verdict accepted)

@@ -33,9 +33,11 @@ abbrev pub read_task : List ℕ → Option Task
 read_task text =
     if bytes_eq text (codes "strict") then Some (record { mode = Strict; is_joint = false }) else
     (if bytes_eq text (codes "lax") then Some (record { mode = Lax; is_joint = false }) else
-    (if bytes_eq text (codes "strict-all") then Some (record { mode = Strict; is_joint = true }) else
+    (if bytes_eq text (codes "strict-all") then Some (record { mode = Strict; is_joint = true })
+    else
     (if bytes_eq text (codes "lax-all") then Some (record { mode = Lax; is_joint = true }) else
-    (if bytes_eq text (codes "normal") then Some (record { mode = Normal; is_joint = false }) else None))))
+    (if bytes_eq text (codes "normal") then Some (record { mode = Normal; is_joint = false })
+    else None))))
 
 -- the second word names it
 abbrev pub task_in : List (List ℕ) → Option Task
@@ -44,7 +46,8 @@ task_in texts = option_and_then read_task (slice_get texts 1)
 -- ---- the licensees
 
 -- this is the licensee, or the fault, and there is no other
-pub record IsTheLicensee (c : Rows) (text : List ℕ) (r : Result Requirement (Fault × Span)) : Type 0 where
+pub record IsTheLicensee (c : Rows) (text : List ℕ)
+    (r : Result Requirement (Fault × Span)) : Type 0 where
   pub given : MatchResult r (Names c text) (λ fault. IsLicenseeFault c text fault.0 fault.1)
   pub only_licensee : (req : Requirement) → Names c text req → r ≡ Ok req
   pub only_fault : (fault : Fault) (s : Span) → IsLicenseeFault c text fault s → r ≡ Err (fault, s)
@@ -59,7 +62,8 @@ pub record Meaning : Type 0 where
 -- it is what the definitions say of each, and there is no other
 pub record IsTheMeaning (by : Meaning) : Type 0 where
   pub licensees : (c : Rows) (text : List ℕ) → IsTheLicensee c text (by.licensee c text)
-  pub verdicts : (c : Rows) (mode : LineMode) (line : List ℕ) → IsTheVerdict c mode line (by.verdict c mode line)
+  pub verdicts : (c : Rows) (mode : LineMode) (line : List ℕ) →
+      IsTheVerdict c mode line (by.verdict c mode line)
 
 -- ---- what comes of it
 
@@ -72,7 +76,8 @@ and_then (Err refusal) more = Err refusal
 abbrev pub licensees_from : Meaning → Rows → ℕ → List (List ℕ) → Result (List Requirement) Refusal
 licensees_from by c n [] = Ok []
 licensees_from by c n (text ∷ texts) =
-    and_then (result_map_both (λ req. req) (λ fault. NoLicensee n fault.0 fault.1) (by.licensee c text)) (λ req.
+    and_then (result_map_both (λ req. req) (λ fault. NoLicensee n fault.0 fault.1)
+    (by.licensee c text)) (λ req.
     and_then (licensees_from by c (n + 1) texts) (λ reqs.
     Ok (req ∷ reqs)))
 
@@ -83,9 +88,10 @@ planned by c task texts =
     let verdict = by.verdict c task.mode in
     Ok (if task.is_joint then rule_by_all verdict accepted else rule_by verdict accepted))
 
--- The rule of a run: by the mode, the catalogue and the licensees that the words and the bytes name. Or the first of
--- them that is refused, in this order.
-abbrev pub plan_of : Meaning → Option (Bor (List (Bor (List ℕ)))) → Option (Bor (List ℕ)) → Result Rule Refusal
+-- The rule of a run: by the mode, the catalogue and the licensees that the words and the bytes
+-- name. Or the first of them that is refused, in this order.
+abbrev pub plan_of : Meaning → Option (Bor (List (Bor (List ℕ)))) → Option (Bor (List ℕ)) →
+    Result Rule Refusal
 plan_of by words catalogue =
     and_then (ok_or words Usage) (λ words.
     and_then (ok_or (task_in (texts_of words.now)) Usage) (λ task.
@@ -96,7 +102,9 @@ plan_of by words catalogue =
 -- ---- what is told of it
 
 abbrev pub refusal_line : Refusal → List ℕ
-refusal_line Usage = codes "usage: spdx_lines CATALOGUE strict|lax|strict-all|lax-all|normal [LICENSEE]..\n"
+refusal_line Usage =
+    codes "usage: spdx_lines CATALOGUE strict|lax|strict-all|lax-all|normal [LICENSEE]..\n"
 refusal_line Unreadable = codes "catalogue: unreadable\n"
 refusal_line (NoCatalogue fault) = codes "catalogue: " ++ (read_text fault ++ 10 ∷ [])
-refusal_line (NoLicensee n fault s) = codes "licensee " ++ (decimal n ++ (codes ": " ++ (refusal_text fault s ++ 10 ∷ [])))
+refusal_line (NoLicensee n fault s) =
+    codes "licensee " ++ (decimal n ++ (codes ": " ++ (refusal_text fault s ++ 10 ∷ [])))

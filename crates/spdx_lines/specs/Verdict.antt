@@ -19,7 +19,8 @@ use Rattle.spdx_minimize.specs.Choice.{Choice, chosen, too_many, unmet, choice_o
 use Rattle.spdx_lines.specs.declared.lines.LineMode.{LineMode}
 use Rattle.spdx_lines.specs.declared.lines.LineMode.TheVariants.{Strict, Lax, Normal}
 
--- an accepted line has a tree, and a text of it as its second column; a refused one a fault and its place
+-- an accepted line has a tree, and a text of it as its second column; a refused one a fault and its
+-- place
 pub data Verdict : Type 0 where
   Accepted : Tree → List ℕ → Verdict
   Refused : Fault → Span → Verdict
@@ -39,10 +40,15 @@ IsColumn c Normal line t column = column ≡ normal_text t
 
 -- ---- the verdict, by what the words mean
 
--- A line that is text is accepted if the grammar derives a tree from its words, and no other; else it has a fault.
+-- A line that is text is accepted if the grammar derives a tree from its words, and no other; else
+-- it has a fault.
 pub data IsVerdict (c : Rows) (mode : LineMode) (line : List ℕ) : Verdict → Type 0 where
-  is_accepted : (read : List Placed) (t : Tree) (column : List ℕ) → IsUtf8 line → reading c (parse_mode mode) 0 line ≡ map Ok read → IsTheTree c (parse_mode mode) (words read) t → IsColumn c mode line t column → IsVerdict c mode line (Accepted t column)
-  is_refused : (fault : Fault) (s : Span) → IsUtf8 line → IsFaultOf c (parse_mode mode) line fault s → IsVerdict c mode line (Refused fault s)
+  is_accepted : (read : List Placed) (t : Tree) (column : List ℕ) → IsUtf8 line →
+      reading c (parse_mode mode) 0 line ≡ map Ok read →
+      IsTheTree c (parse_mode mode) (words read) t → IsColumn c mode line t column →
+      IsVerdict c mode line (Accepted t column)
+  is_refused : (fault : Fault) (s : Span) → IsUtf8 line →
+      IsFaultOf c (parse_mode mode) line fault s → IsVerdict c mode line (Refused fault s)
   is_no_text : ¬ (IsUtf8 line) → IsVerdict c mode line BadUtf8
 
 -- this is the verdict, and there is no other
@@ -77,9 +83,11 @@ choice_text unmet = codes "unmet"
 
 -- the span and the fault
 abbrev pub refusal_text : Fault → Span → List ℕ
-refusal_text fault s = decimal s.from ++ (codes ".." ++ (decimal s.to ++ (codes " " ++ fault_text fault)))
+refusal_text fault s =
+    decimal s.from ++ (codes ".." ++ (decimal s.to ++ (codes " " ++ fault_text fault)))
 
--- the columns of an accepted line have a tab between them, the first two of them and what its tree has behind
+-- the columns of an accepted line have a tab between them, the first two of them and what its tree
+-- has behind
 abbrev pub verdict_text : (Tree → List ℕ) → Verdict → List ℕ
 verdict_text behind (Accepted t text) = codes "accepted" ++ (9 ∷ (text ++ (behind t ++ 10 ∷ [])))
 verdict_text behind (Refused fault s) = codes "refused " ++ (refusal_text fault s ++ 10 ∷ [])

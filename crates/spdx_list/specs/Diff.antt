@@ -43,14 +43,21 @@ module _ {A : Type 0} (name_of : A → List ℕ) (is_same : A → A → Bool) wh
   -- all of these, in the order of the newer rows
   abbrev pub changes : List A → List A → List (A × A)
   changes olds [] = []
-  changes olds (new ∷ news) = with_change (change is_same (named name_of olds (name_of new)) new) (changes olds news)
+  changes olds (new ∷ news) =
+      with_change (change is_same (named name_of olds (name_of new)) new) (changes olds news)
 
-  -- a row is told as added exactly if only the newer rows have its name, as removed exactly if only the older ones have
-  -- it, and as changed exactly if both have it and say something else
+  -- a row is told as added exactly if only the newer rows have its name, as removed exactly if only
+  -- the older ones have it, and as changed exactly if both have it and say something else
   pub record TellsEach (olds news added removed : List A) (changed : List (A × A)) : Type 0 where
-    pub is_added : (r : A) → (Contains added r → Contains news r × (named name_of olds (name_of r) ≡ None))
+    pub is_added : (r : A) →
+        (Contains added r → Contains news r × (named name_of olds (name_of r) ≡ None))
         × (Contains news r → named name_of olds (name_of r) ≡ None → Contains added r)
-    pub is_removed : (r : A) → (Contains removed r → Contains olds r × (named name_of news (name_of r) ≡ None))
+    pub is_removed : (r : A) →
+        (Contains removed r → Contains olds r × (named name_of news (name_of r) ≡ None))
         × (Contains olds r → named name_of news (name_of r) ≡ None → Contains removed r)
-    pub is_changed : (old new : A) → (Contains changed (old, new) → Contains news new × (named name_of olds (name_of new) ≡ Some old) × (is_same old new ≡ false))
-        × (Contains news new → named name_of olds (name_of new) ≡ Some old → is_same old new ≡ false → Contains changed (old, new))
+    pub is_changed : (old new : A) →
+        (Contains changed (old, new) →
+        Contains news new × (named name_of olds (name_of new) ≡ Some old) ×
+        (is_same old new ≡ false))
+        × (Contains news new → named name_of olds (name_of new) ≡ Some old →
+        is_same old new ≡ false → Contains changed (old, new))

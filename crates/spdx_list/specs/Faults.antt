@@ -42,5 +42,7 @@ abbrev pub list_fault_text : ListFault → List ℕ
 list_fault_text (fault.NotJson f) = file_text f ++ codes ": not JSON"
 list_fault_text fault.NoVersion = codes "bad or missing licenseListVersion"
 list_fault_text (fault.NoTable t) = codes "bad or missing " ++ table_text t
-list_fault_text (fault.Item t index m) = table_text t ++ (codes " item " ++ (decimal index ++ (codes ": bad or missing " ++ member_text m)))
+list_fault_text (fault.Item t index m) =
+    table_text t ++ (codes " item " ++
+    (decimal index ++ (codes ": bad or missing " ++ member_text m)))
 list_fault_text (fault.Catalogue e) = catalogue_fault_text e

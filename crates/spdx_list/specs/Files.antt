@@ -41,7 +41,8 @@ bit n is = if is then n else 0
 
 -- each flag is a bit of its own
 abbrev pub flags_of : Bool → Bool → Bool → Bool → Bool → ℕ
-flags_of fsf_libre osi_approved deprecated copyleft gnu = bit 1 fsf_libre + bit 2 osi_approved + bit 4 deprecated + bit 8 copyleft + bit 16 gnu
+flags_of fsf_libre osi_approved deprecated copyleft gnu =
+    bit 1 fsf_libre + bit 2 osi_approved + bit 4 deprecated + bit 8 copyleft + bit 16 gnu
 
 -- the names of the GNU family
 abbrev pub is_gnu_name : List ℕ → Bool
@@ -63,7 +64,13 @@ entry_row d =
     need member.FsfLibre (flag_at (codes "isFsfLibre") d) (λ fsf_libre.
     need member.OsiApproved (flag_at (codes "isOsiApproved") d) (λ osi_approved.
     need member.Deprecated (flag_at (codes "isDeprecatedLicenseId") d) (λ deprecated.
-    Ok (record { name = name; full_name = full_name; fsf_libre = fsf_libre; osi_approved = osi_approved; deprecated = deprecated }))))))
+    Ok (record {
+      name = name;
+      full_name = full_name;
+      fsf_libre = fsf_libre;
+      osi_approved = osi_approved;
+      deprecated = deprecated;
+    }))))))
 
 -- the exception of an item, whose place is not known yet
 abbrev pub exception_row : Data → Result ExceptionRow Member
@@ -80,13 +87,15 @@ copyleft_name d = need member.Itself (as_str d) Ok
 abbrev pub imprecise_row : Data → Result ImpreciseRow Member
 imprecise_row d =
     need member.Prefix (text_at (codes "prefix") d) (λ prefix.
-    need member.Name (text_at (codes "name") d) (λ name. Ok (record { prefix = prefix; name = name })))
+    need member.Name (text_at (codes "name") d)
+    (λ name. Ok (record { prefix = prefix; name = name })))
 
 -- what an item says to write in place of a name
 abbrev pub instead_row : Data → Result InsteadRow Member
 instead_row d =
     need member.Name (text_at (codes "name") d) (λ name.
-    need member.Write (text_at (codes "write") d) (λ write. Ok (record { name = name; write = write })))
+    need member.Write (text_at (codes "write") d)
+    (λ write. Ok (record { name = name; write = write })))
 
 -- ---- files
 
@@ -138,7 +147,13 @@ is_listed e = not (ends_in_plus e.name)
 
 -- the licence of an entry, whose place is not known yet
 abbrev pub license_row : Bool → EntryRow → LicenseRow
-license_row copyleft e = record { name = e.name; full_name = e.full_name; index = 0; flags = flags_of e.fsf_libre e.osi_approved e.deprecated copyleft (is_gnu_name e.name) }
+license_row copyleft e =
+    record {
+      name = e.name;
+      full_name = e.full_name;
+      index = 0;
+      flags = flags_of e.fsf_libre e.osi_approved e.deprecated copyleft (is_gnu_name e.name);
+    }
 
 -- the same, copyleft where its name is one of these
 abbrev pub license_of : List (List ℕ) → EntryRow → LicenseRow
@@ -148,4 +163,10 @@ license_of copyleft e = license_row (is_among copyleft e.name) e
 unfoldable pub gathered : List ℕ → List ℕ → ExtraRows → Result Rows ListFault
 gathered licenses exceptions extras =
     on_ok (stated_in licenses) (λ stated. on_ok (exceptions_in exceptions) (λ excepted.
-    Ok (record { version = stated.version; licenses = map (license_of extras.copyleft) (filter is_listed stated.entries); exceptions = excepted; imprecise = extras.imprecise })))
+    Ok (record {
+      version = stated.version;
+      licenses = map (license_of extras.copyleft) (filter is_listed stated.entries);
+      exceptions =
+          excepted;
+      imprecise = extras.imprecise;
+    })))

@@ -74,12 +74,15 @@ ends_in_license name = ends_in_word (codes "license") name || ends_in_word (code
 
 -- the same without that word at the end of the name, where it stands there
 abbrev pub without_license : List ℕ → List ℕ → List (List ℕ)
-without_license name version = if ends_in_license name then with_version (before_last name) version else []
+without_license name version =
+    if ends_in_license name then with_version (before_last name) version else []
 
--- the forms of a full name: its version as `2.0` and as `v2.0`, with `License` before it and without, or at the end
+-- the forms of a full name: its version as `2.0` and as `v2.0`, with `License` before it and
+-- without, or at the end
 abbrev pub forms_of : List ℕ → List (List ℕ)
 forms_of full_name =
-    with_version (name_of full_name) (version_of full_name) ++ without_license (name_of full_name) (version_of full_name)
+    with_version (name_of full_name) (version_of full_name) ++
+    without_license (name_of full_name) (version_of full_name)
 
 -- ---- imprecise names
 
@@ -95,7 +98,9 @@ all_forms licenses = flat_map forms_for licenses
 
 -- the form begins the full name of a licence of another name, which is not deprecated
 abbrev pub fits_full : ImpreciseRow → LicenseRow → Bool
-fits_full f o = not (is_deprecated o.flags) && (not (bytes_eq o.name f.name) && begins_caseless f.prefix o.full_name)
+fits_full f o =
+    not (is_deprecated o.flags) &&
+    (not (bytes_eq o.name f.name) && begins_caseless f.prefix o.full_name)
 
 -- it begins a form of a licence of another name
 abbrev pub fits_form : ImpreciseRow → ImpreciseRow → Bool
@@ -107,11 +112,14 @@ is_begun rows text = list_any (λ (m : ImpreciseRow). begins_caseless m.prefix t
 
 -- among these forms it stands for its licence alone
 abbrev pub is_alone : List LicenseRow → List ImpreciseRow → ImpreciseRow → Bool
-is_alone licenses forms f = not (list_any (fits_full f) licenses) && not (list_any (fits_form f) forms)
+is_alone licenses forms f =
+    not (list_any (fits_full f) licenses) && not (list_any (fits_form f) forms)
 
--- none of the given imprecise names begins with the form, and none of these nor of the full names in front begins it
+-- none of the given imprecise names begins with the form, and none of these nor of the full names
+-- in front begins it
 abbrev pub is_apart : List ImpreciseRow → List ImpreciseRow → ImpreciseRow → Bool
-is_apart full rows f = not (fits_row rows f.prefix) && (not (is_begun full f.prefix) && not (is_begun rows f.prefix))
+is_apart full rows f =
+    not (fits_row rows f.prefix) && (not (is_begun full f.prefix) && not (is_begun rows f.prefix))
 
 -- the form can be read, stands for its licence alone, and is apart
 abbrev pub is_new : List LicenseRow → List ExceptionRow → List ImpreciseRow → ImpreciseRow → Bool
@@ -125,10 +133,15 @@ new_forms licenses exceptions rows = filter (is_new licenses exceptions rows) (a
 
 -- the full names, the given imprecise names, and behind them the forms
 abbrev pub with_forms : List LicenseRow → List ExceptionRow → List ImpreciseRow → List ImpreciseRow
-with_forms licenses exceptions rows = with_full_names licenses exceptions rows ++ new_forms licenses exceptions rows
+with_forms licenses exceptions rows =
+    with_full_names licenses exceptions rows ++ new_forms licenses exceptions rows
 
--- each form that is taken means its licence, and any text that a full name or a given imprecise name begins, what it meant
-pub record ReadsForms (licenses : List LicenseRow) (exceptions : List ExceptionRow) (rows all : List ImpreciseRow) : Type 0 where
+-- each form that is taken means its licence, and any text that a full name or a given imprecise
+-- name begins, what it meant
+pub record ReadsForms (licenses : List LicenseRow) (exceptions : List ExceptionRow)
+    (rows all : List ImpreciseRow) : Type 0 where
   pub form : (f : ImpreciseRow) → Contains (new_forms licenses exceptions rows) f
       → option_map (λ (m : ImpreciseRow). m.name) (first_fit all f.prefix) ≡ Some f.name
-  pub kept : (text : List ℕ) (m : ImpreciseRow) → first_fit (with_full_names licenses exceptions rows) text ≡ Some m → first_fit all text ≡ Some m
+  pub kept : (text : List ℕ) (m : ImpreciseRow) →
+      first_fit (with_full_names licenses exceptions rows) text ≡ Some m →
+      first_fit all text ≡ Some m

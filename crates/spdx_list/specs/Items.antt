@@ -33,11 +33,14 @@ of_item table index (Err m) = Err (fault.Item table index m)
 of_item table index (Ok x) = Ok x
 
 -- the rows of a table, from the given index on, or the first item that is none
-abbrev pub rows_from : {A : Type 0} → (Data → Result A Member) → Table → ℕ → Items → Result (List A) ListFault
+abbrev pub rows_from : {A : Type 0} → (Data → Result A Member) → Table → ℕ → Items →
+    Result (List A) ListFault
 rows_from row table index no_items = Ok []
 rows_from row table index (item d ds) =
-    on_ok (of_item table index (row d)) (λ r. on_ok (rows_from row table (suc index) ds) (λ rs. Ok (r ∷ rs)))
+    on_ok (of_item table index (row d))
+    (λ r. on_ok (rows_from row table (suc index) ds) (λ rs. Ok (r ∷ rs)))
 
 -- the rows of the array at a key
-abbrev pub rows_at : {A : Type 0} → (Data → Result A Member) → Table → List ℕ → Data → Result (List A) ListFault
+abbrev pub rows_at : {A : Type 0} → (Data → Result A Member) → Table → List ℕ → Data →
+    Result (List A) ListFault
 rows_at row table key d = need (fault.NoTable table) (items_at key d) (rows_from row table 0)

@@ -12,14 +12,17 @@ use Rattle.spdx_list.specs.declared.error.ListFault.TheVariants as fault
 use Rattle.spdx_list.specs.Files.{ExtraRows, gathered}
 use Rattle.spdx_list.specs.Forms.{with_forms}
 
--- the same rows, rearranged so that no name is less, by bytes, than the one before; each with its place
-pub record Arranges {A : Type 0} (name_of : A → List ℕ) (place : ℕ → A → A) (rows arranged : List A) : Type 0 where
+-- the same rows, rearranged so that no name is less, by bytes, than the one before; each with its
+-- place
+pub record Arranges {A : Type 0} (name_of : A → List ℕ) (place : ℕ → A → A)
+    (rows arranged : List A) : Type 0 where
   pub ordered : List A
   pub same : IsPermutation rows ordered
   pub ascends : IsSortedByKey name_of (slice_cmp nat_cmp) ordered
   pub places : arranged ≡ numbered place 0 ordered
 
--- the version as it is, the licences and exceptions in order, the full names before the imprecise names, their forms behind
+-- the version as it is, the licences and exceptions in order, the full names before the imprecise
+-- names, their forms behind
 pub record IsInOrder (rows made : Rows) : Type 0 where
   pub version : made.version ≡ rows.version
   pub licenses : Arranges license_name license_at rows.licenses made.licenses
@@ -28,14 +31,17 @@ pub record IsInOrder (rows made : Rows) : Type 0 where
 
 -- the files make these rows
 abbrev pub Makes : List ℕ → List ℕ → ExtraRows → Rows → Type 0
-Makes licenses exceptions extras made = (rows : Rows) × (gathered licenses exceptions extras ≡ Ok rows) × IsInOrder rows made
+Makes licenses exceptions extras made =
+    (rows : Rows) × (gathered licenses exceptions extras ≡ Ok rows) × IsInOrder rows made
 
 -- the files have this fault, or the rows that they make break this rule of a catalogue first
 abbrev pub IsRefused : List ℕ → List ℕ → ExtraRows → ListFault → Type 0
 IsRefused licenses exceptions extras f =
     (gathered licenses exceptions extras ≡ Err f)
-    ⊎ ((made : Rows) × Makes licenses exceptions extras made × (option_map fault.Catalogue (first_fault made) ≡ Some f))
+    ⊎ ((made : Rows) × Makes licenses exceptions extras made ×
+    (option_map fault.Catalogue (first_fault made) ≡ Some f))
 
 -- the text reads back as the rows that the files make
 abbrev pub IsTextOf : List ℕ → List ℕ → ExtraRows → List ℕ → Type 0
-IsTextOf licenses exceptions extras text = (made : Rows) × Makes licenses exceptions extras made × (catalogue_in text ≡ Ok made)
+IsTextOf licenses exceptions extras text =
+    (made : Rows) × Makes licenses exceptions extras made × (catalogue_in text ≡ Ok made)

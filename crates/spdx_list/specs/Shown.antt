@@ -9,7 +9,14 @@ use Rattle.spdx_list.specs.Files.{EntryRow, StatedRows, InsteadRow, ExtraRows}
 
 -- an entry as bytes and flags
 abbrev pub entry_of : Entry → EntryRow
-entry_of e = record { name = string_bytes e.name; full_name = string_bytes e.full_name; fsf_libre = e.fsf_libre; osi_approved = e.osi_approved; deprecated = e.deprecated }
+entry_of e =
+    record {
+      name = string_bytes e.name;
+      full_name = string_bytes e.full_name;
+      fsf_libre = e.fsf_libre;
+      osi_approved = e.osi_approved;
+      deprecated = e.deprecated;
+    }
 
 -- the same of all that the licences state
 abbrev pub shown_stated : Stated → StatedRows
@@ -21,4 +28,9 @@ instead_of r = record { name = string_bytes r.name; write = string_bytes r.write
 
 -- the extras as bytes
 abbrev pub shown_extras : Extras → ExtraRows
-shown_extras x = record { copyleft = map string_bytes x.copyleft.items; imprecise = map imprecise_of x.imprecise.items; instead = map instead_of x.instead.items }
+shown_extras x =
+    record {
+      copyleft = map string_bytes x.copyleft.items;
+      imprecise = map imprecise_of x.imprecise.items;
+      instead = map instead_of x.instead.items;
+    }

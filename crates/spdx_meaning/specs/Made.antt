@@ -20,18 +20,22 @@ join_sets Or ls rs = either ls rs
 -- the same, or how many are made, where they are more than the limit
 abbrev pub made_of : Operator → List (List ℕ) → List (List ℕ) → Result (List (List ℕ)) ℕ
 made_of o ls rs =
-    cond (nat_lt 4096 (count_made o (length ls) (length rs))) (Err (count_made o (length ls) (length rs))) (Ok (join_sets o ls rs))
+    cond (nat_lt 4096 (count_made o (length ls) (length rs)))
+    (Err (count_made o (length ls) (length rs))) (Ok (join_sets o ls rs))
 
-abbrev pub made_beside : Operator → List (List ℕ) → Result (List (List ℕ)) ℕ → Result (List (List ℕ)) ℕ
+abbrev pub made_beside : Operator → List (List ℕ) → Result (List (List ℕ)) ℕ →
+    Result (List (List ℕ)) ℕ
 made_beside o ls (Ok rs) = made_of o ls rs
 made_beside o ls (Err n) = Err n
 
-abbrev pub made_from : Operator → Result (List (List ℕ)) ℕ → Result (List (List ℕ)) ℕ → Result (List (List ℕ)) ℕ
+abbrev pub made_from : Operator → Result (List (List ℕ)) ℕ → Result (List (List ℕ)) ℕ →
+    Result (List (List ℕ)) ℕ
 made_from o (Ok ls) rs = made_beside o ls rs
 made_from o (Err n) rs = Err n
 
--- The least sets of a tree whose requirements are numbers; of a tree that makes too many, how many its first part makes that
--- does, an operator's left side before its right side, and both before itself.
+-- The least sets of a tree whose requirements are numbers; of a tree that makes too many, how many
+-- its first part makes that does, an operator's left side before its right side, and both before
+-- itself.
 abbrev pub made_by : (Requirement → ℕ) → Tree → Result (List (List ℕ)) ℕ
 made_by f (Leaf r) = Ok ((f r ∷ []) ∷ [])
 made_by f (Join o l r) = made_from o (made_by f l) (made_by f r)

@@ -1,4 +1,5 @@
--- What the minimal sets of a tree are. A requirement is the place where it first stands among the tree's requirements.
+-- What the minimal sets of a tree are. A requirement is the place where it first stands among the
+-- tree's requirements.
 use Rattle.std.specs.Prelude.{◌≡◌, ℕ, Bool, true, List, All}
 use Rattle.std.specs.List.{list_all, AllByRecursion}
 use Rattle.std.specs.List.Sorted.{IsStrictlyIncreasing}
@@ -16,12 +17,16 @@ holds_at p t = holds (λ r. p (place_in (leaves t) r)) t
 
 -- where no other places are accepted, the tree holds only if all of the set are
 abbrev pub NeedsAll : Tree → List ℕ → Type 0
-NeedsAll t s = (p : ℕ → Bool) → ((k : ℕ) → p k ≡ true → is_in s k ≡ true) → holds_at p t ≡ true → list_all p s ≡ true
+NeedsAll t s =
+    (p : ℕ → Bool) → ((k : ℕ) → p k ≡ true → is_in s k ≡ true) → holds_at p t ≡ true →
+    list_all p s ≡ true
 
--- The tree holds exactly if all of one of the sets is accepted, whatever is accepted; none of them includes another, and each
--- needs all of its requirements; of each the places ascend, and the sets by size and then in order.
+-- The tree holds exactly if all of one of the sets is accepted, whatever is accepted; none of them
+-- includes another, and each needs all of its requirements; of each the places ascend, and the sets
+-- by size and then in order.
 pub record AreMinimalSets (t : Tree) (sets : List (List ℕ)) : Type 0 where
-  pub means : (h : Requirement → Bool) → IsAcceptance h → holds h t ≡ met_by (answer_at (leaves t) h) sets
+  pub means : (h : Requirement → Bool) → IsAcceptance h →
+      holds h t ≡ met_by (answer_at (leaves t) h) sets
   pub at_places : (p : ℕ → Bool) → holds_at p t ≡ met_by p sets
   pub apart : AreApart sets
   pub needed : AllByRecursion (NeedsAll t) sets

@@ -16,7 +16,8 @@ abbrev pub AreFew : List (List (List ℕ)) → Type 0
 AreFew [] = Unit {0}
 AreFew (s ∷ ss) = (length s ≤ 4096) × AreFew ss
 
-abbrev pub pushed : Result (List (List ℕ)) ℕ → List (List (List ℕ)) → Result (List (List (List ℕ))) ℕ
+abbrev pub pushed : Result (List (List ℕ)) ℕ → List (List (List ℕ)) →
+    Result (List (List (List ℕ))) ℕ
 pushed (Ok s) stack = Ok (s ∷ stack)
 pushed (Err n) stack = Err n
 

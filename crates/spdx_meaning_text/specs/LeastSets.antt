@@ -1,4 +1,5 @@
--- The least sets of requirements that make a tree hold, in the order of requirements, and their tree.
+-- The least sets of requirements that make a tree hold, in the order of requirements, and their
+-- tree.
 use Rattle.std.specs.Prelude.{◌≡◌, Bool, true, List, [], ◌∷◌}
 use Rattle.std.specs.List.{list_any, list_all, AllByRecursion}
 use Rattle.spdx_requirement.specs.Items.{Requirement}
@@ -15,8 +16,9 @@ use Rattle.spdx_meaning_text.specs.Sets.{In, AllLater, is_before, differ, sets_c
 abbrev pub accepts_one : (Requirement → Bool) → List (List Requirement) → Bool
 accepts_one h sets = list_any (list_all h) sets
 
--- The tree holds exactly if all of one of the sets is accepted, whatever is accepted; none of them includes another; of each
--- the requirements ascend, and the sets by size and then in order; and each requirement is one of the tree's.
+-- The tree holds exactly if all of one of the sets is accepted, whatever is accepted; none of them
+-- includes another; of each the requirements ascend, and the sets by size and then in order; and
+-- each requirement is one of the tree's.
 pub record AreLeastSets (t : Tree) (sets : List (List Requirement)) : Type 0 where
   pub means : (h : Requirement → Bool) → IsAcceptance h → holds h t ≡ accepts_one h sets
   pub apart : AllLater (differ same_requirement) sets
@@ -30,7 +32,9 @@ AcceptsOnly h s = (r : Requirement) → h r ≡ true → list_any (λ q. same_re
 
 -- there the tree holds only if all of the set are
 abbrev pub NeedsAll : Tree → List Requirement → Type 0
-NeedsAll t s = (h : Requirement → Bool) → IsAcceptance h → AcceptsOnly h s → holds h t ≡ true → list_all h s ≡ true
+NeedsAll t s =
+    (h : Requirement → Bool) → IsAcceptance h → AcceptsOnly h s → holds h t ≡ true →
+    list_all h s ≡ true
 
 -- requirements joined by AND; chains lean right, as the grammar has them
 abbrev pub all_from : Requirement → List Requirement → Tree

@@ -13,6 +13,7 @@ pub record IsMeaningText (t : Tree) (text : List ℕ) : Type 0 where
   pub least : AreLeastSets t sets
   pub written : text ≡ sets_text sets
 
--- the sets that are made of a tree whose requirements are their ranks, or how many, where they are too many
+-- the sets that are made of a tree whose requirements are their ranks, or how many, where they are
+-- too many
 abbrev pub made_by_rank : Tree → Result (List (List ℕ)) ℕ
 made_by_rank t = made_by (rank_in (leaves t)) t

@@ -1,4 +1,5 @@
--- How a meaning text is written: from the names of the requirements of an expression, each with its rank.
+-- How a meaning text is written: from the names of the requirements of an expression, each with its
+-- rank.
 use Rattle.std.specs.Prelude.{ℕ, ◌==◌, cond, List, [], ◌∷◌, string_bytes}
 use Rattle.spdx_requirement.specs.Items.{Requirement}
 use Rattle.spdx_requirement.specs.Texts.{requirement_text}

@@ -21,14 +21,16 @@ pub record Piece : Type 0 where
 
 -- where the expression of a piece stands that begins at this offset
 abbrev pub span_at : ℕ → Piece → Span
-span_at offset p = record { start = offset + length p.before; end = offset + length p.before + length p.text }
+span_at offset p =
+    record { start = offset + length p.before; end = offset + length p.before + length p.text }
 
 -- the same of pieces, the first of which begins at this offset
 abbrev pub spans_from : ℕ → List Piece → List Span
 spans_from offset [] = []
 spans_from offset (p ∷ ps) = span_at offset p ∷ spans_from (span_at offset p).end ps
 
--- the text is these pieces and the rest behind them, and the spans are the places of the expressions
+-- the text is these pieces and the rest behind them, and the spans are the places of the
+-- expressions
 pub record IsCutAtSpans (text : Marked) (pieces : List Piece) (rest : List ℕ) : Type 0 where
   pub whole : flat_map (λ p. p.before ++ p.text) pieces ++ rest ≡ text.bytes
   pub places : spans_from 0 pieces ≡ text.spans
@@ -56,8 +58,8 @@ old_piece s = record { before = s.before; text = s.text }
 abbrev pub new_piece : Site → Piece
 new_piece s = record { before = s.before; text = unwrap_or s.fix s.text }
 
--- the new text is the old one with each expression that has a fix replaced by it, of which there are `count`, and its spans
--- are the places of the same expressions
+-- the new text is the old one with each expression that has a fix replaced by it, of which there
+-- are `count`, and its spans are the places of the same expressions
 pub record Mends (c : Rows) (old new : Marked) (count : ℕ) : Type 0 where
   pub sites : List Site
   pub rest : List ℕ

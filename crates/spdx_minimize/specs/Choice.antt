@@ -12,7 +12,9 @@ pub use Rattle.spdx_evaluation.specs.Truth.{holds}
 -- those that are the same as none before them
 abbrev pub first_ones : List Requirement → List Requirement → List Requirement
 first_ones before [] = []
-first_ones before (r ∷ rs) = cond (list_any (λ b. same_requirement b r) before) [] (r ∷ []) ++ first_ones (before ++ r ∷ []) rs
+first_ones before (r ∷ rs) =
+    cond (list_any (λ b. same_requirement b r) before) [] (r ∷ []) ++
+    first_ones (before ++ r ∷ []) rs
 
 -- whether the licensee satisfies a requirement of some tree
 abbrev pub satisfies_some : List Tree → Requirement → Bool
@@ -37,7 +39,8 @@ abbrev pub without_and_with : List (List Bool) → List (List Bool)
 without_and_with [] = []
 without_and_with (s ∷ ss) = (false ∷ s) ∷ (true ∷ s) ∷ without_and_with ss
 
--- every selection of n members; of two the one that leaves out the last member on which they differ comes first
+-- every selection of n members; of two the one that leaves out the last member on which they differ
+-- comes first
 abbrev pub selections : ℕ → List (List Bool)
 selections zero = [] ∷ []
 selections (suc n) = without_and_with (selections n)
@@ -52,7 +55,8 @@ chosen_of [] selection = []
 chosen_of (m ∷ ms) [] = []
 chosen_of (m ∷ ms) (b ∷ bs) = cond b (m ∷ []) [] ++ chosen_of ms bs
 
--- the requirements that are chosen; or so many licensees are useful, more than the limit; or not even all of them suffice
+-- the requirements that are chosen; or so many licensees are useful, more than the limit; or not
+-- even all of them suffice
 pub data Choice : Type 0 where
   chosen : List Requirement → Choice
   too_many : ℕ → Choice
@@ -62,14 +66,17 @@ pub data Choice : Type 0 where
 abbrev pub choice_among : List Tree → List Requirement → Choice
 choice_among trees members =
     cond (nat_lt 1024 (length members)) (too_many (length members))
-    (option_map_or (λ selection. chosen (chosen_of members selection)) (find (suffices_for trees members) (selections (length members))) unmet)
+    (option_map_or (λ selection. chosen (chosen_of members selection))
+    (find (suffices_for trees members) (selections (length members))) unmet)
 
 abbrev pub choice_of : List Tree → List Requirement → Choice
 choice_of trees licensees = choice_among trees (useful trees licensees)
 
--- what the least choice is among other choices: the useful licensees of the sufficient selection that, against each other
--- one, leaves out the last member on which they differ; and none of its members can be left out with the rest sufficient
-pub record IsLeastChoice (trees : List Tree) (members : List Requirement) (chosen : List Requirement) : Type 0 where
+-- what the least choice is among other choices: the useful licensees of the sufficient selection
+-- that, against each other one, leaves out the last member on which they differ; and none of its
+-- members can be left out with the rest sufficient
+pub record IsLeastChoice (trees : List Tree) (members : List Requirement)
+    (chosen : List Requirement) : Type 0 where
   pub selection : List Bool
   pub least : IsLeast (suffices_for trees members) (length members) selection
   pub needed : NeedsEach (suffices_for trees members) selection

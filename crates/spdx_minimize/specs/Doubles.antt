@@ -9,4 +9,6 @@ abbrev pub SameMembers : {A : Type 0} → List A → List A → Type 0
 SameMembers {A} xs ys = (x : A) → Contains xs x ↔ Contains ys x
 
 abbrev pub DoublesChangeNoChoice : Type 0
-DoublesChangeNoChoice = (trees others : List Tree) (licensees : List Requirement) → SameMembers trees others → choice_of trees licensees ≡ choice_of others licensees
+DoublesChangeNoChoice =
+    (trees others : List Tree) (licensees : List Requirement) → SameMembers trees others →
+    choice_of trees licensees ≡ choice_of others licensees

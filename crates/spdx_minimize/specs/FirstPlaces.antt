@@ -8,9 +8,12 @@ use Rattle.spdx_licensee.specs.Satisfies.{satisfies}
 use Rattle.spdx_minimize.specs.declared.found.Found.{Found}
 
 -- the places, counted from k, of those that pass the test and are the same as none before them
-abbrev pub first_places_from : (Requirement → Bool) → ℕ → List Requirement → List Requirement → List ℕ
+abbrev pub first_places_from : (Requirement → Bool) → ℕ → List Requirement → List Requirement →
+    List ℕ
 first_places_from test k before [] = []
-first_places_from test k before (r ∷ rs) = cond (list_any (λ b. same_requirement b r) before) [] (cond (test r) (k ∷ []) []) ++ first_places_from test (k + 1) (before ++ r ∷ []) rs
+first_places_from test k before (r ∷ rs) =
+    cond (list_any (λ b. same_requirement b r) before) [] (cond (test r) (k ∷ []) []) ++
+    first_places_from test (k + 1) (before ++ r ∷ []) rs
 
 -- the same of all licensees
 abbrev pub first_places : List Requirement → (Requirement → Bool) → List ℕ
@@ -27,7 +30,8 @@ at_places licensees (k ∷ ks) = take 1 (drop k licensees) ++ at_places licensee
 
 -- the places that are held for a requirement are those of the licensees
 abbrev pub IsFound : List Requirement → Found → Type 0
-IsFound licensees found = found.places.items ≡ places_for licensees (requirement_of found.requirement)
+IsFound licensees found =
+    found.places.items ≡ places_for licensees (requirement_of found.requirement)
 
 abbrev pub AreFound : List Requirement → List (Option Found) → Type 0
 AreFound licensees slots = All (λ slot. ForSome slot (IsFound licensees)) slots

@@ -41,4 +41,5 @@ parens (w ∷ ws) = paren_of w + parens ws
 -- no words that mean the tree have fewer parentheses than those of the text
 abbrev pub HasFewestParens : Rows → List ℕ → Tree → Type 0
 HasFewestParens c text t =
-    (words other : List Word) → Spells c strict text words → Derives c strict other t → parens words ≤ parens other
+    (words other : List Word) → Spells c strict text words → Derives c strict other t →
+    parens words ≤ parens other

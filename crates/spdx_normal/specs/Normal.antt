@@ -1,5 +1,5 @@
--- The normal text of a tree: its requirements as they print, its operators in capitals, and parentheses where the tree
--- needs them.
+-- The normal text of a tree: its requirements as they print, its operators in capitals, and
+-- parentheses where the tree needs them.
 use Rattle.std.specs.Prelude.{ℕ, Bool, true, false, List, ◌++◌, codes}
 use Rattle.spdx_requirement.specs.Texts.{requirement_text}
 use Rattle.spdx_parser.specs.declared.node.Operator.{Operator}
@@ -16,7 +16,8 @@ is_or (Op Or) = true
 is_or (Op And) = false
 is_or (Req r) = false
 
--- whether an operand with this root has parentheses there: AND binds tighter, and chains of one operator lean right
+-- whether an operand with this root has parentheses there: AND binds tighter, and chains of one
+-- operator lean right
 abbrev pub left_in_parens : Operator → Node → Bool
 left_in_parens And (Req r) = false
 left_in_parens And (Op o) = true

@@ -33,8 +33,9 @@ needs_parens Place.Whole n = false
 needs_parens (Place.Left o) n = left_in_parens o n
 needs_parens (Place.Right o) n = right_in_parens o n
 
--- What the node at `at`, the root of an operand, adds to the pieces, and what it leaves to be done, the last first: a
--- requirement is a piece; the parts of an operator wait, but for a closing parenthesis.
+-- What the node at `at`, the root of an operand, adds to the pieces, and what it leaves to be done,
+-- the last first: a requirement is a piece; the parts of an operator wait, but for a closing
+-- parenthesis.
 abbrev pub pieces_for : Place → ℕ → Node → List Piece
 pieces_for place at (Req r) = Piece.Node at ∷ []
 pieces_for place at (Op o) = if needs_parens place (Op o) then Piece.Close ∷ [] else []
@@ -43,4 +44,5 @@ abbrev pub tasks_for : Place → ℕ → Node → List Task
 tasks_for place at (Req r) = []
 tasks_for place at (Op o) =
     (if needs_parens place (Op o) then Task.Write Piece.Open ∷ [] else [])
-    ++ (Task.Operand (Place.Left o) ∷ Task.Write (Piece.Node at) ∷ Task.Operand (Place.Right o) ∷ [])
+    ++ (Task.Operand (Place.Left o) ∷ Task.Write (Piece.Node at) ∷ Task.Operand (Place.Right o) ∷
+    [])

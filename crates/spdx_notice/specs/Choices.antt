@@ -20,9 +20,10 @@ held lists = map (λ reqs. map requirement_of reqs.items) lists
 abbrev pub those_in : List Requirement → List Requirement → List Requirement
 those_in some licensees = filter (λ l. list_any (λ r. same_requirement r l) some) licensees
 
--- There is one choice for all of the expressions, and each stands under its own least choice among the licensees that
--- are in it.
-pub record IsJoint (licensees : List Requirement) (trees : List Tree) (choices : List (List Requirement)) : Type 0 where
+-- There is one choice for all of the expressions, and each stands under its own least choice among
+-- the licensees that are in it.
+pub record IsJoint (licensees : List Requirement) (trees : List Tree)
+    (choices : List (List Requirement)) : Type 0 where
   pub joint : List Requirement
   pub for_all : choice_of trees licensees ≡ chosen joint
   pub own : map (own_choice (those_in joint licensees)) trees ≡ map chosen choices

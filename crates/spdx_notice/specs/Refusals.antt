@@ -20,10 +20,14 @@ pub record IsFirstRefused (choices : List Choice) (place : ℕ) (e : MinimizeErr
 
 -- an expression has no choice of its own, and it is the first
 abbrev pub TellsOwn : List Requirement → List Tree → Unmet → Type 0
-TellsOwn licensees trees (Expression place e) = IsFirstRefused (map (own_choice licensees) trees) place e
+TellsOwn licensees trees (Expression place e) =
+    IsFirstRefused (map (own_choice licensees) trees) place e
 TellsOwn licensees trees (Together e) = ⊥
 
--- an expression has no choice of its own, and it is the first; or each has one, and there is none for all of them
+-- an expression has no choice of its own, and it is the first; or each has one, and there is none
+-- for all of them
 abbrev pub TellsJoint : List Requirement → List Tree → Unmet → Type 0
-TellsJoint licensees trees (Expression place e) = IsFirstRefused (map (own_choice licensees) trees) place e
-TellsJoint licensees trees (Together e) = (choice_of trees licensees ≡ refused_choice e) × AreChosen (map (own_choice licensees) trees)
+TellsJoint licensees trees (Expression place e) =
+    IsFirstRefused (map (own_choice licensees) trees) place e
+TellsJoint licensees trees (Together e) =
+    (choice_of trees licensees ≡ refused_choice e) × AreChosen (map (own_choice licensees) trees)

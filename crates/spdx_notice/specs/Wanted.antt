@@ -3,7 +3,8 @@ use Rattle.std.specs.Prelude.{ℕ, List, [], ◌∷◌, Option, Some, None, code
 use Rattle.spdx_requirement.specs.Items.{LicenseTerm, listed, referred, Addition, Requirement}
 use Rattle.spdx_requirement.specs.Texts.{reference_text, addition_text}
 
--- of a listed licence that of its row, whatever its mark; of a reference the one that it is written by
+-- of a listed licence that of its row, whatever its mark; of a reference the one that it is written
+-- by
 abbrev pub license_wants : LicenseTerm → List ℕ
 license_wants (listed r mark) = r.name
 license_wants (referred r) = reference_text (codes "LicenseRef-") r.document r.name

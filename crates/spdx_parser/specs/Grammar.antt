@@ -23,42 +23,55 @@ may_stand m r = not (is_deprecated r.flags) || m.allow_deprecated
 abbrev pub later_row : Rows → LicenseRow → Option LicenseRow
 later_row c r = LookUps.listed c.licenses (without_only r.name ++ or_later)
 
--- A listed licence; a `+` directly behind it marks it, but for a GNU licence, which it turns into the one
--- that is listed with `-or-later` in place of `-only`: the mode must allow that, the name must not end in
--- `-or-later`, and the licence that comes of it may be deprecated. Or a reference; an unknown word is one.
+-- A listed licence; a `+` directly behind it marks it, but for a GNU licence, which it turns into
+-- the one that is listed with `-or-later` in place of `-only`: the mode must allow that, the name
+-- must not end in `-or-later`, and the licence that comes of it may be deprecated. Or a reference;
+-- an unknown word is one.
 pub data LicenseIs (c : Rows) (m : ParseMode) : List Word → LicenseTerm → Type 0 where
   plain : {r : LicenseRow} → may_stand m r ≡ true → LicenseIs c m (Spdx r ∷ []) (listed r false)
-  marked : {r : LicenseRow} → may_stand m r ≡ true → is_gnu r.flags ≡ false → LicenseIs c m (Spdx r ∷ Plus ∷ []) (listed r true)
-  later : {r next : LicenseRow} → may_stand m r ≡ true → is_gnu r.flags ≡ true → m.allow_postfix_plus_on_gpl ≡ true → ends_or_later r.name ≡ false → later_row c r ≡ Some next → LicenseIs c m (Spdx r ∷ Plus ∷ []) (listed next false)
-  named : {d : Option (List ℕ)} {n : List ℕ} → LicenseIs c m (LicenseRef d n ∷ []) (referred (record { document = d; name = n }))
-  unknown : {n : List ℕ} → LicenseIs c m (Unknown n ∷ []) (referred (record { document = None; name = n }))
+  marked : {r : LicenseRow} → may_stand m r ≡ true → is_gnu r.flags ≡ false →
+      LicenseIs c m (Spdx r ∷ Plus ∷ []) (listed r true)
+  later : {r next : LicenseRow} → may_stand m r ≡ true → is_gnu r.flags ≡ true →
+      m.allow_postfix_plus_on_gpl ≡ true → ends_or_later r.name ≡ false →
+      later_row c r ≡ Some next → LicenseIs c m (Spdx r ∷ Plus ∷ []) (listed next false)
+  named : {d : Option (List ℕ)} {n : List ℕ} →
+      LicenseIs c m (LicenseRef d n ∷ []) (referred (record { document = d; name = n }))
+  unknown : {n : List ℕ} →
+      LicenseIs c m (Unknown n ∷ []) (referred (record { document = None; name = n }))
 
 -- an exception, deprecated or not, or a reference; an unknown word is one
 pub data AdditionIs : Word → Addition → Type 0 where
   exception : {r : ExceptionRow} → AdditionIs (Exception r) (excepted r)
-  named_addition : {d : Option (List ℕ)} {n : List ℕ} → AdditionIs (AdditionRef d n) (added (record { document = d; name = n }))
-  unknown_addition : {n : List ℕ} → AdditionIs (Unknown n) (added (record { document = None; name = n }))
+  named_addition : {d : Option (List ℕ)} {n : List ℕ} →
+      AdditionIs (AdditionRef d n) (added (record { document = d; name = n }))
+  unknown_addition : {n : List ℕ} →
+      AdditionIs (Unknown n) (added (record { document = None; name = n }))
 
 -- a licence, perhaps with an addition
 pub data LeafIs (c : Rows) (m : ParseMode) : List Word → Requirement → Type 0 where
-  alone : {xs : List Word} {l : LicenseTerm} → LicenseIs c m xs l → LeafIs c m xs (record { license = l; addition = None })
-  joined : {xs : List Word} {x : Word} {l : LicenseTerm} {a : Addition} → LicenseIs c m xs l → AdditionIs x a → LeafIs c m (xs ++ With ∷ x ∷ []) (record { license = l; addition = Some a })
+  alone : {xs : List Word} {l : LicenseTerm} → LicenseIs c m xs l →
+      LeafIs c m xs (record { license = l; addition = None })
+  joined : {xs : List Word} {x : Word} {l : LicenseTerm} {a : Addition} → LicenseIs c m xs l →
+      AdditionIs x a → LeafIs c m (xs ++ With ∷ x ∷ []) (record { license = l; addition = Some a })
 
 mutual
   -- a leaf, or an expression in parentheses
   pub data PrimaryIs (c : Rows) (m : ParseMode) : List Word → Tree → Type 0 where
     leaf : {xs : List Word} {r : Requirement} → LeafIs c m xs r → PrimaryIs c m xs (Leaf r)
-    group : {xs : List Word} {t : Tree} → Derives c m xs t → PrimaryIs c m (OpenParen ∷ (xs ++ CloseParen ∷ [])) t
+    group : {xs : List Word} {t : Tree} → Derives c m xs t →
+        PrimaryIs c m (OpenParen ∷ (xs ++ CloseParen ∷ [])) t
 
   -- a chain of AND
   pub data AndIs (c : Rows) (m : ParseMode) : List Word → Tree → Type 0 where
     one_primary : {xs : List Word} {t : Tree} → PrimaryIs c m xs t → AndIs c m xs t
-    and_more : {xs ys : List Word} {t u : Tree} → PrimaryIs c m xs t → AndIs c m ys u → AndIs c m (xs ++ And ∷ ys) (Join Operator.And t u)
+    and_more : {xs ys : List Word} {t u : Tree} → PrimaryIs c m xs t → AndIs c m ys u →
+        AndIs c m (xs ++ And ∷ ys) (Join Operator.And t u)
 
   -- a chain of OR: so the words, all of them, are an expression that means the tree
   pub data Derives (c : Rows) (m : ParseMode) : List Word → Tree → Type 0 where
     one_and : {xs : List Word} {t : Tree} → AndIs c m xs t → Derives c m xs t
-    or_more : {xs ys : List Word} {t u : Tree} → AndIs c m xs t → Derives c m ys u → Derives c m (xs ++ Or ∷ ys) (Join Operator.Or t u)
+    or_more : {xs ys : List Word} {t u : Tree} → AndIs c m xs t → Derives c m ys u →
+        Derives c m (xs ++ Or ∷ ys) (Join Operator.Or t u)
 
 -- the words are a beginning of some expression
 abbrev pub IsViable : Rows → ParseMode → List Word → Type 0

@@ -13,7 +13,8 @@ module _ {A : Type 0} (Hears : A → Option LicenseRow → Option Word → A →
   -- word by word, behind such a one
   abbrev pub Along : A → Last → List Word → A → Type 0
   Along from last [] to = from ≡ to
-  Along from last (w ∷ ws) to = (next : A) × Hears from (listed_last last) (Some w) next × Along next (next_last last w) ws to
+  Along from last (w ∷ ws) to =
+      (next : A) × Hears from (listed_last last) (Some w) next × Along next (next_last last w) ws to
 
   -- all of them, from the start, and then the end
   pub record HearsAll (from : A) (ws : List Word) (to : A) : Type 0 where

@@ -31,9 +31,10 @@ abbrev pub IsOfRows : Rows → Tree → Type 0
 IsOfRows c (Leaf r) = IsLicenseOf c r.license × IsAdditionOf c r.addition
 IsOfRows c (Join o l r) = IsOfRows c l × IsOfRows c r
 
--- the text reads without a fault, its words mean the tree and no other, and the nodes are the tree's
--- postfix form, of which each requirement has the place of its licence's word
-pub record IsParsed (c : Rows) (m : ParseMode) (text : List ℕ) (nodes : List ExprNode) : Type 0 where
+-- the text reads without a fault, its words mean the tree and no other, and the nodes are the
+-- tree's postfix form, of which each requirement has the place of its licence's word
+pub record IsParsed (c : Rows) (m : ParseMode) (text : List ℕ)
+    (nodes : List ExprNode) : Type 0 where
   pub read : List Placed
   pub tree : Tree
   pub reads : reading c m 0 text ≡ map Ok read

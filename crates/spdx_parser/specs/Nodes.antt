@@ -1,4 +1,5 @@
--- The order of operators, nodes with their places, and those that take no memory when they are copied.
+-- The order of operators, nodes with their places, and those that take no memory when they are
+-- copied.
 use Rattle.std.specs.Prelude.{Option}
 use Rattle.std.specs.declared.cmp.Ordering.{Ordering}
 use Rattle.std.specs.declared.cmp.Ordering.TheVariants.{Less, Equal, Greater}

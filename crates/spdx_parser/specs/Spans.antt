@@ -8,7 +8,9 @@ use Rattle.spdx_parser.specs.Last.{Last, next_last, is_license}
 -- the spans of the licences, from left to right, among the words that come behind such a one
 abbrev pub license_spans : Last → List Placed → List Span
 license_spans last [] = []
-license_spans last (p ∷ read) = if is_license last p.0 then p.1 ∷ license_spans (next_last last p.0) read else license_spans (next_last last p.0) read
+license_spans last (p ∷ read) =
+    if is_license last p.0 then p.1 ∷ license_spans (next_last last p.0) read
+    else license_spans (next_last last p.0) read
 
 -- a requirement has a place
 abbrev pub node_span : ExprNode → Option Span

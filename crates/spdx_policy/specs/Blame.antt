@@ -24,13 +24,15 @@ IsNoEntry c text = (r : Requirement) → IsEntry c text r → ⊥
 -- the text, which stands at the place, is no entry; why it names no licensee is told
 abbrev pub BlamesName : Rows → Place → List ℕ → PolicyFault → Type 0
 BlamesName c p text (fault.NotALicensee q t s r) =
-    (q ≡ p) × (string_bytes t ≡ text) × IsLicenseeFault c text (fault_of r) (span_of s) × IsNoEntry c text
+    (q ≡ p) × (string_bytes t ≡ text) × IsLicenseeFault c text (fault_of r) (span_of s) ×
+    IsNoEntry c text
 BlamesName c p text f = ⊥
 
 -- the first of the texts at a key that is none
 abbrev pub BlamesNames : Rows → Section → Key → List (List ℕ) → PolicyFault → Type 0
 BlamesNames c s k texts f =
-    (i : ℕ) × (text : List ℕ) × (slice_get texts i ≡ Some text) × AtEachBefore (HasOne (IsEntry c)) texts i
+    (i : ℕ) × (text : List ℕ) × (slice_get texts i ≡ Some text) ×
+    AtEachBefore (HasOne (IsEntry c)) texts i
     × BlamesName c (one s k i) text f
 
 -- the names of an exception are entries

@@ -55,13 +55,15 @@ alone w = record { license = w.license; addition = None }
 
 -- `allow`, or an exception that holds, stands for just that
 abbrev pub is_named : Rules → List ℕ → Requirement → Bool
-is_named p tables w = list_any (names w) p.allow || list_any (λ table. list_any (names w) (allowed_by p table)) tables
+is_named p tables w =
+    list_any (names w) p.allow || list_any (λ table. list_any (names w) (allowed_by p table)) tables
 
 -- What is denied without an addition is denied with any, unless that very pair is named.
 abbrev pub is_exposed : Rules → List ℕ → Requirement → Bool
 is_exposed p tables w = not (is_some w.addition && is_named p tables w)
 
--- an entry of `deny` denies what it stands for, and with any addition what it stands for without one
+-- an entry of `deny` denies what it stands for, and with any addition what it stands for without
+-- one
 abbrev pub entry_denies : Bool → Requirement → NamedRow → Bool
 entry_denies exposed w n = names w n || (exposed && names (alone w) n)
 
@@ -78,7 +80,8 @@ abbrev pub or_else : {A : Type 0} → Option A → Option A → Option A
 or_else None next = next
 or_else (Some x) next = Some x
 
--- the first entry that denies a licence with its addition, where what denies the licence alone counts or not
+-- the first entry that denies a licence with its addition, where what denies the licence alone
+-- counts or not
 abbrev pub denied_where : Bool → Rules → Requirement → Option Entry
 denied_where exposed p w =
     or_else (option_map entry.Deny (position (entry_denies exposed w) p.deny))
@@ -108,7 +111,8 @@ frees p tables ws n = at_free p tables (λ w. names w n) ws
 abbrev pub flag_frees : Rules → List ℕ → List Requirement → Flag → Bool
 flag_frees p tables ws f = at_free p tables (λ w. flag_allows w f) ws
 
--- the first entry that allows them among what these exceptions allow, exception by exception; all of them hold
+-- the first entry that allows them among what these exceptions allow, exception by exception; all
+-- of them hold
 abbrev pub exempted_by : Rules → List ℕ → List ℕ → List Requirement → Option Entry
 exempted_by p held [] ws = None
 exempted_by p held (table ∷ tables) ws =
@@ -125,12 +129,14 @@ allowed_among p tables ws =
 -- where each of them is denied, the first entry that denies the first of them
 abbrev pub denied_among : Rules → List ℕ → List Requirement → Option Entry
 denied_among p tables ws =
-    if list_all (is_denied_way p tables) ws then option_and_then (denied_by p tables) (slice_get ws 0) else None
+    if list_all (is_denied_way p tables) ws
+    then option_and_then (denied_by p tables) (slice_get ws 0) else None
 
 abbrev pub decision_among : Rules → List ℕ → List Requirement → Decision
 decision_among p tables ws =
     unwrap_or
-    (or_else (option_map decision.Allowed (allowed_among p tables ws)) (option_map decision.Denied (denied_among p tables ws)))
+    (or_else (option_map decision.Allowed (allowed_among p tables ws))
+    (option_map decision.Denied (denied_among p tables ws)))
     decision.Open
 
 -- the licences under which a requirement may be had, by the policy's list

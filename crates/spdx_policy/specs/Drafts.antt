@@ -33,7 +33,9 @@ pub record DraftRows : Type 0 where
 
 -- the keys of each table
 abbrev pub policy_keys : List Key
-policy_keys = key.Read ∷ key.Unstated ∷ key.Allow ∷ key.AllowIf ∷ key.Deny ∷ key.DenyIf ∷ key.Exception ∷ key.Clarify ∷ []
+policy_keys =
+    key.Read ∷ key.Unstated ∷ key.Allow ∷ key.AllowIf ∷ key.Deny ∷ key.DenyIf ∷ key.Exception ∷
+    key.Clarify ∷ []
 
 abbrev pub exception_keys : List Key
 exception_keys = key.Package ∷ key.Versions ∷ key.Allow ∷ key.Reason ∷ []
@@ -45,10 +47,12 @@ clarify_keys = key.Package ∷ key.Versions ∷ key.Expression ∷ []
 abbrev pub is_second : Place → List ℕ → List ℕ → Option (List ℕ) → Result Bool Shape
 is_second p first second None = Ok false
 is_second p first second (Some word) =
-    if bytes_eq word first then Ok false else if bytes_eq word second then Ok true else Err (unknown_word p word)
+    if bytes_eq word first then Ok false else if bytes_eq word second then Ok true
+    else Err (unknown_word p word)
 
 abbrev pub choice_at : Key → List ℕ → List ℕ → Members → Result Bool Shape
-choice_at k first second ms = on_ok (text_at section.Policy k ms) (is_second (whole section.Policy k) first second)
+choice_at k first second ms =
+    on_ok (text_at section.Policy k ms) (is_second (whole section.Policy k) first second)
 
 -- the flag of a word
 abbrev pub flag_named : List ℕ → Option Flag
@@ -62,7 +66,8 @@ flag_named word =
 abbrev pub flags_from : Key → ℕ → List (List ℕ) → Result (List Flag) Shape
 flags_from k i [] = Ok []
 flags_from k i (word ∷ words) =
-    need (unknown_word (one section.Policy k i) word) (flag_named word) (λ f. on_ok (flags_from k (suc i) words) (λ more. Ok (f ∷ more)))
+    need (unknown_word (one section.Policy k i) word) (flag_named word)
+    (λ f. on_ok (flags_from k (suc i) words) (λ more. Ok (f ∷ more)))
 
 abbrev pub flags_at : Key → Members → Result (List Flag) Shape
 flags_at k ms = on_ok (texts_at section.Policy k ms) (flags_from k 0)
@@ -100,4 +105,13 @@ draft_of ms =
     on_ok (flags_at key.DenyIf ms) (λ deny_if.
     on_ok (rows_at exception_of key.Exception ms) (λ exceptions.
     on_ok (rows_at clarify_of key.Clarify ms) (λ clarifications.
-    Ok (record { lax = lax; unstated = unstated; allow = allow; allow_if = allow_if; deny = deny; deny_if = deny_if; exceptions = exceptions; clarifications = clarifications }))))))))))
+    Ok (record {
+      lax = lax;
+      unstated = unstated;
+      allow = allow;
+      allow_if = allow_if;
+      deny = deny;
+      deny_if = deny_if;
+      exceptions = exceptions;
+      clarifications = clarifications;
+    }))))))))))

@@ -6,10 +6,21 @@ use Rattle.spdx_policy.specs.declared.draft.Draft.{Draft}
 use Rattle.spdx_policy.specs.Drafts.{ExceptionRow, ClarifyRow, DraftRows}
 
 abbrev pub exception_row : ExceptionDraft → ExceptionRow
-exception_row e = record { name = string_bytes e.name; versions = option_map string_bytes e.versions; allow = map string_bytes e.allow.items; reason = option_map string_bytes e.reason }
+exception_row e =
+    record {
+      name = string_bytes e.name;
+      versions = option_map string_bytes e.versions;
+      allow = map string_bytes e.allow.items;
+      reason = option_map string_bytes e.reason;
+    }
 
 abbrev pub clarify_row : ClarifyDraft → ClarifyRow
-clarify_row c = record { name = string_bytes c.name; versions = option_map string_bytes c.versions; expression = string_bytes c.expression }
+clarify_row c =
+    record {
+      name = string_bytes c.name;
+      versions = option_map string_bytes c.versions;
+      expression = string_bytes c.expression;
+    }
 
 abbrev pub draft_rows : Draft → DraftRows
 draft_rows d = record {

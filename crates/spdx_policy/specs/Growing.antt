@@ -26,10 +26,11 @@ with_exempted p table n = record p { exempting = with_entry_in table n p.exempti
 -- what the one policy allows, the other allows
 abbrev pub AllowsAsMuch : List ℕ → Rules → Rules → Type 0
 AllowsAsMuch tables p q =
-    (r : Requirement) → is_allowed (decision_of p tables r) ≡ true → is_allowed (decision_of q tables r) ≡ true
+    (r : Requirement) → is_allowed (decision_of p tables r) ≡ true →
+    is_allowed (decision_of q tables r) ≡ true
 
--- entries more in `deny` or `deny-if` allow nothing more, entries more in `allow` or in an exception refuse nothing
--- more
+-- entries more in `deny` or `deny-if` allow nothing more, entries more in `allow` or in an
+-- exception refuse nothing more
 pub record GrowsRight (p : Rules) (tables : List ℕ) : Type 0 where
   pub more_denied : (ns : List NamedRow) → AllowsAsMuch tables (with_denied p ns) p
   pub more_flags_denied : (fs : List Flag) → AllowsAsMuch tables (with_denied_flags p fs) p

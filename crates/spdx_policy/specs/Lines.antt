@@ -10,6 +10,7 @@ is_newline b = b == 10
 abbrev pub line_behind : List ℕ → ℕ
 line_behind before = suc (count_by is_newline before)
 
--- the character in that line, from 1: one more than those behind the last newline, each counted by its first byte
+-- the character in that line, from 1: one more than those behind the last newline, each counted by
+-- its first byte
 abbrev pub column_behind : List ℕ → ℕ
 column_behind before = suc (count_by is_char_start (after_last is_newline before))

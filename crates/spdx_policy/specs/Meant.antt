@@ -60,7 +60,8 @@ pub record IsOldEntry (c : Rows) (text : List ℕ) (r : Requirement) : Type 0 wh
   pub means : IsTheTree c entry_mode (words read) (Leaf r)
   pub unmarked : is_marked r.license ≡ false
 
--- the requirement that the text of an entry names: a licensee, or where it names none, one under a deprecated name
+-- the requirement that the text of an entry names: a licensee, or where it names none, one under a
+-- deprecated name
 pub data IsEntry (c : Rows) (text : List ℕ) (r : Requirement) : Type 0 where
   licensee : Names c text r → IsEntry c text r
   old : NamesNone c text → IsOldEntry c text r → IsEntry c text r

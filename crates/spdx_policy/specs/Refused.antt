@@ -39,19 +39,25 @@ pub record AreRead (c : Rows) (d : DraftRows) (allow deny : List (List ℕ)) : T
   pub allowed : AtEach (HasOne (IsEntry c)) allow
   pub denied : AtEach (HasOne (IsEntry c)) deny
 
--- The first fault of a draft: a flag of which the list says nothing, then a name of `allow`, of `deny`, a range of an
--- exception, a name of one, a range of a clarification.
+-- The first fault of a draft: a flag of which the list says nothing, then a name of `allow`, of
+-- `deny`, a range of an exception, a name of one, a range of a clarification.
 pub data IsRefusedDraft (c : Rows) (d : DraftRows) : PolicyFault → Type 0 where
   by_list : (p : Place) → unknown_flag c d ≡ Some p → IsRefusedDraft c d (fault.UnknownFlag p)
-  in_allow : {f : PolicyFault} → AreRead c d [] [] → BlamesNames c section.Policy key.Allow d.allow f
+  in_allow : {f : PolicyFault} → AreRead c d [] [] →
+      BlamesNames c section.Policy key.Allow d.allow f
       → IsRefusedDraft c d f
-  in_deny : {f : PolicyFault} → AreRead c d d.allow [] → BlamesNames c section.Policy key.Deny d.deny f
+  in_deny : {f : PolicyFault} → AreRead c d d.allow [] →
+      BlamesNames c section.Policy key.Deny d.deny f
       → IsRefusedDraft c d f
-  in_ranges : {f : PolicyFault} → AreRead c d d.allow d.deny → BlamesExempted d.exceptions f → IsRefusedDraft c d f
-  in_exceptions : {f : PolicyFault} → AreRead c d d.allow d.deny → AtEach (HasOne IsExempted) d.exceptions
+  in_ranges : {f : PolicyFault} → AreRead c d d.allow d.deny → BlamesExempted d.exceptions f →
+      IsRefusedDraft c d f
+  in_exceptions : {f : PolicyFault} → AreRead c d d.allow d.deny →
+      AtEach (HasOne IsExempted) d.exceptions
       → BlamesExempting c d.exceptions f → IsRefusedDraft c d f
-  in_clarifications : {f : PolicyFault} → AreRead c d d.allow d.deny → AtEach (HasOne IsExempted) d.exceptions
-      → AtEach (AreEntries c) d.exceptions → BlamesClarified d.clarifications f → IsRefusedDraft c d f
+  in_clarifications : {f : PolicyFault} → AreRead c d d.allow d.deny →
+      AtEach (HasOne IsExempted) d.exceptions
+      → AtEach (AreEntries c) d.exceptions → BlamesClarified d.clarifications f →
+      IsRefusedDraft c d f
 
 -- a draft that the text says has a fault
 pub record HasFault (c : Rows) (text : List ℕ) (f : PolicyFault) : Type 0 where
@@ -69,6 +75,7 @@ pub record HasShapeFault (text : List ℕ) (f : PolicyFault) : Type 0 where
   pub document : parse_document text ≡ Some members
   pub shape : RefusesShape members f
 
--- the text is no UTF-8 or no TOML, or its table has another shape, or a name or a range in it is none
+-- the text is no UTF-8 or no TOML, or its table has another shape, or a name or a range in it is
+-- none
 abbrev pub IsRefusedText : Rows → List ℕ → PolicyFault → Type 0
 IsRefusedText c text f = RefusesRead text f ⊎ (HasShapeFault text f ⊎ HasFault c text f)

@@ -14,10 +14,10 @@ pub record NamedRow : Type 0 where
   pub text : List ℕ
   pub sense : Requirement
 
--- The lists in the order of the file. `exempted` has the packages of the exceptions, `exempting` what each of them allows
--- and `reasons` why; `clarified` has the packages of the clarifications, and `expressions` what each of them says.
--- `list` is the list of licences that the file was read by, and `heirs` what stands in the place of its deprecated
--- names.
+-- The lists in the order of the file. `exempted` has the packages of the exceptions, `exempting`
+-- what each of them allows and `reasons` why; `clarified` has the packages of the clarifications,
+-- and `expressions` what each of them says. `list` is the list of licences that the file was read
+-- by, and `heirs` what stands in the place of its deprecated names.
 pub record Rules : Type 0 where
   pub list : Rows
   pub heirs : List Heir

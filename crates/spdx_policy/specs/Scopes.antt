@@ -27,7 +27,8 @@ holds name version s = bytes_eq name s.name && is_meant (version_in version) s.v
 -- the places at which the test passes, counted from the given one
 abbrev pub places_from : {A : Type 0} → ℕ → (A → Bool) → List A → List ℕ
 places_from i test [] = []
-places_from i test (x ∷ xs) = if test x then i ∷ places_from (suc i) test xs else places_from (suc i) test xs
+places_from i test (x ∷ xs) =
+    if test x then i ∷ places_from (suc i) test xs else places_from (suc i) test xs
 
 -- the places at which the test passes, ascending
 abbrev pub places : {A : Type 0} → (A → Bool) → List A → List ℕ
@@ -35,7 +36,8 @@ places test xs = places_from 0 test xs
 
 -- the range of the table at that place means the version
 abbrev pub is_meant_at : List ScopeRow → Option Parts → ℕ → Bool
-is_meant_at rows version table = option_map_or (λ (s : ScopeRow). is_meant version s.versions) (slice_get rows table) false
+is_meant_at rows version table =
+    option_map_or (λ (s : ScopeRow). is_meant version s.versions) (slice_get rows table) false
 
 -- the package of a table
 abbrev pub package_at : List ScopeRow → ℕ → Option (List ℕ)

@@ -87,7 +87,9 @@ required_at s k ms = on_ok (text_at s k ms) (λ o. need (missing (whole s k)) o 
 -- texts, from the given place of their list on
 abbrev pub texts_from : Section → Key → ℕ → Items → Result (List (List ℕ)) Shape
 texts_from s k i no_items = Ok []
-texts_from s k i (item d ds) = need (wrong_kind (one s k i) kind.Text) (as_str d) (λ text. on_ok (texts_from s k (suc i) ds) (λ more. Ok (text ∷ more)))
+texts_from s k i (item d ds) =
+    need (wrong_kind (one s k i) kind.Text) (as_str d)
+    (λ text. on_ok (texts_from s k (suc i) ds) (λ more. Ok (text ∷ more)))
 
 -- a list of texts; none stands for an empty one
 abbrev pub texts_of : Section → Key → Option Data → Result (List (List ℕ)) Shape
@@ -99,21 +101,27 @@ texts_at s k ms = texts_of s k (get_member (key_word k) ms)
 
 -- a list of texts that has to stand there
 abbrev pub required_texts_at : Section → Key → Members → Result (List (List ℕ)) Shape
-required_texts_at s k ms = need (missing (whole s k)) (get_member (key_word k) ms) (λ d. texts_of s k (Some d))
+required_texts_at s k ms =
+    need (missing (whole s k)) (get_member (key_word k) ms) (λ d. texts_of s k (Some d))
 
 -- the row of an item that has to be a table
 abbrev pub row_of : {A : Type 0} → (ℕ → Members → Result A Shape) → Key → ℕ → Data → Result A Shape
 row_of row k i d = need (wrong_kind (one section.Policy k i) kind.Table) (as_table d) (row i)
 
 -- rows of tables, from the given place of their list on
-abbrev pub rows_from : {A : Type 0} → (ℕ → Members → Result A Shape) → Key → ℕ → Items → Result (List A) Shape
+abbrev pub rows_from : {A : Type 0} → (ℕ → Members → Result A Shape) → Key → ℕ → Items →
+    Result (List A) Shape
 rows_from row k i no_items = Ok []
-rows_from row k i (item d ds) = on_ok (row_of row k i d) (λ r. on_ok (rows_from row k (suc i) ds) (λ rs. Ok (r ∷ rs)))
+rows_from row k i (item d ds) =
+    on_ok (row_of row k i d) (λ r. on_ok (rows_from row k (suc i) ds) (λ rs. Ok (r ∷ rs)))
 
 -- a list of tables; none stands for an empty one
-abbrev pub rows_of : {A : Type 0} → (ℕ → Members → Result A Shape) → Key → Option Data → Result (List A) Shape
+abbrev pub rows_of : {A : Type 0} → (ℕ → Members → Result A Shape) → Key → Option Data →
+    Result (List A) Shape
 rows_of row k None = Ok []
-rows_of row k (Some d) = need (wrong_kind (whole section.Policy k) kind.Tables) (as_array d) (rows_from row k 0)
+rows_of row k (Some d) =
+    need (wrong_kind (whole section.Policy k) kind.Tables) (as_array d) (rows_from row k 0)
 
-abbrev pub rows_at : {A : Type 0} → (ℕ → Members → Result A Shape) → Key → Members → Result (List A) Shape
+abbrev pub rows_at : {A : Type 0} → (ℕ → Members → Result A Shape) → Key → Members →
+    Result (List A) Shape
 rows_at row k ms = rows_of row k (get_member (key_word k) ms)

@@ -29,5 +29,8 @@ abbrev pub Indexes : BTreeMap (String Global) (Vec ℕ Global) → List ScopeRow
 Indexes index rows = (name : List ℕ) → tables_at index name ≡ places (is_named name) rows
 
 -- the table stands last under that name, and the other names have what they had
-abbrev pub Adds : BTreeMap (String Global) (Vec ℕ Global) → List ℕ → ℕ → BTreeMap (String Global) (Vec ℕ Global) → Type 0
-Adds old name table new = (q : List ℕ) → tables_at new q ≡ (if bytes_eq q name then tables_at old q ++ table ∷ [] else tables_at old q)
+abbrev pub Adds : BTreeMap (String Global) (Vec ℕ Global) → List ℕ → ℕ →
+    BTreeMap (String Global) (Vec ℕ Global) → Type 0
+Adds old name table new =
+    (q : List ℕ) → tables_at new
+    q ≡ (if bytes_eq q name then tables_at old q ++ table ∷ [] else tables_at old q)

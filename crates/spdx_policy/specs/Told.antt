@@ -42,17 +42,21 @@ shape_text (unknown_word p word) = place_text p ++ (codes ": unknown word " ++ q
 -- the line and the character, and the words of the reader of TOML
 abbrev pub unreadable_text : Unreadable → List ℕ
 unreadable_text u =
-    codes "line " ++ (decimal u.line ++ (codes ", column " ++ (decimal u.column ++ (codes ": " ++ string_bytes u.words))))
+    codes "line " ++ (decimal u.line ++
+    (codes ", column " ++ (decimal u.column ++ (codes ": " ++ string_bytes u.words))))
 
 -- what is printed of a fault; `words` are those of the reader of ranges
 abbrev pub policy_fault_text : PolicyFault → List ℕ
 policy_fault_text (fault.Unreadable u) = unreadable_text u
 policy_fault_text (fault.Shape s) = shape_text (shape_of s)
 policy_fault_text (fault.UnknownFlag p) =
-    place_text p ++ codes ": the list of licenses says nothing of copyleft: take one made with --extras"
+    place_text p ++ codes
+    ": the list of licenses says nothing of copyleft: take one made with --extras"
 policy_fault_text (fault.NotALicensee p text span reason) =
     place_text p
-    ++ (codes ": " ++ (quoted (string_bytes text) ++ (codes " names no licensee: " ++ fault_text (fault_of reason))))
+    ++ (codes ": " ++ (quoted (string_bytes text) ++
+    (codes " names no licensee: " ++ fault_text (fault_of reason))))
 policy_fault_text (fault.NotARange s text e words) =
     path_text s
-    ++ (codes "versions: " ++ (quoted (string_bytes text) ++ (codes " is no range: " ++ string_bytes words)))
+    ++ (codes "versions: " ++
+    (quoted (string_bytes text) ++ (codes " is no range: " ++ string_bytes words)))

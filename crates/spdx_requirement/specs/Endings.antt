@@ -24,7 +24,8 @@ has_suffix name = ends_with nat_eq name only || ends_or_later name
 
 -- what stands before an ending
 abbrev pub without : List ℕ → List ℕ → Option (List ℕ)
-without ending name = if ends_with nat_eq name ending then Some (take (length name - length ending) name) else None
+without ending name =
+    if ends_with nat_eq name ending then Some (take (length name - length ending) name) else None
 
 -- the name, a final `-only` taken off
 abbrev pub without_only : List ℕ → List ℕ

@@ -1,4 +1,5 @@
--- Equality of requirements: rows are compared by their places in the list, references by their texts.
+-- Equality of requirements: rows are compared by their places in the list, references by their
+-- texts.
 use Rattle.std.specs.Prelude.{◌==◌, Bool, false, ◌&&◌, bytes_eq}
 use Rattle.std.specs.Bool.{beq}
 use Rattle.std.specs.Option.{option_eq}
@@ -20,4 +21,5 @@ same_addition (excepted r) (added y) = false
 same_addition (added x) (excepted s) = false
 
 abbrev pub same_requirement : Requirement → Requirement → Bool
-same_requirement r s = same_license r.license s.license && option_eq same_addition r.addition s.addition
+same_requirement r s =
+    same_license r.license s.license && option_eq same_addition r.addition s.addition

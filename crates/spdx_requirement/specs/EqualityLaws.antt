@@ -18,13 +18,16 @@ pub true_both : (a b : Bool) → a ≡ true → b ≡ true → (a && b) ≡ true
 true_both true b e f = f
 true_both false b e f = let bad : false ≡ true = e in cc
 
-pub options_decide : {A B : Type 0} (E : A → A → Bool) (h : A → B) → ((x y : A) → Decides (E x y) (h x ≡ h y)) → (a b : Option A) → Decides (option_eq E a b) (option_map h a ≡ option_map h b)
+pub options_decide : {A B : Type 0} (E : A → A → Bool) (h : A → B) →
+    ((x y : A) → Decides (E x y) (h x ≡ h y)) → (a b : Option A) →
+    Decides (option_eq E a b) (option_map h a ≡ option_map h b)
 options_decide E h d None None = ((λ e. refl), (λ e. refl))
 options_decide E h d None (Some y) = ((λ e. let bad : false ≡ true = e in cc), (λ e. cc))
 options_decide E h d (Some x) None = ((λ e. let bad : false ≡ true = e in cc), (λ e. cc))
 options_decide E h d (Some x) (Some y) = ((λ e. ap Some ((d x y).0 e)), (λ e. let same : h x ≡ h y = cc in (d x y).1 same))
 
-same_option : {A : Type 0} (a b : Option A) → option_map (λ (x : A). x) a ≡ option_map (λ (x : A). x) b → a ≡ b
+same_option : {A : Type 0} (a b : Option A) →
+    option_map (λ (x : A). x) a ≡ option_map (λ (x : A). x) b → a ≡ b
 same_option None None e = refl
 same_option None (Some y) e = cc
 same_option (Some x) None e = cc
@@ -40,8 +43,11 @@ references_decide x y =
     let names = bytes_eq-Decides x.name y.name in (
       (λ e.
           let both = both_true _ _ e in
-          ap (λ z. of_parts z x.name) (same_option x.document y.document (documents.0 both.0)) ∙ ap (λ z. of_parts y.document z) (names.0 both.1)),
-      (λ e. true_both _ _ (documents.1 (ap (λ (z : Reference). option_map (λ (t : List ℕ). t) z.document) e)) (names.1 (ap (λ (z : Reference). z.name) e))),
+          ap (λ z. of_parts z x.name) (same_option x.document y.document (documents.0 both.0)) ∙
+          ap (λ z. of_parts y.document z) (names.0 both.1)),
+      (λ e. true_both _ _ (documents.1
+          (ap (λ (z : Reference). option_map (λ (t : List ℕ). t) z.document) e))
+          (names.1 (ap (λ (z : Reference). z.name) e))),
     )
 
 licenses_decide : (x y : LicenseTerm) → Decides (same_license x y) (license_key x ≡ license_key y)
@@ -69,7 +75,8 @@ additions_decide (added x) (added y) = ((λ e. ap addition_reference ((reference
 additions_decide (excepted r) (added y) = ((λ e. let bad : false ≡ true = e in cc), (λ e. cc))
 additions_decide (added x) (excepted s) = ((λ e. let bad : false ≡ true = e in cc), (λ e. cc))
 
-pub requirements_decide : (r s : Requirement) → Decides (same_requirement r s) (requirement_key r ≡ requirement_key s)
+pub requirements_decide : (r s : Requirement) →
+    Decides (same_requirement r s) (requirement_key r ≡ requirement_key s)
 requirements_decide r s =
     let licenses = licenses_decide r.license s.license in
     let additions = options_decide same_addition addition_key additions_decide r.addition s.addition in
@@ -78,7 +85,8 @@ requirements_decide r s =
           let both = both_true _ _ e in
           ap (λ (l : LicenseKey). made l (option_map addition_key r.addition)) (licenses.0 both.0)
           ∙ ap (λ (a : Option AdditionKey). made (license_key s.license) a) (additions.0 both.1)),
-      (λ e. true_both _ _ (licenses.1 (ap (λ (z : RequirementKey). z.license) e)) (additions.1 (ap (λ (z : RequirementKey). z.addition) e))),
+      (λ e. true_both _ _ (licenses.1 (ap (λ (z : RequirementKey). z.license) e))
+          (additions.1 (ap (λ (z : RequirementKey). z.addition) e))),
     )
 
 -- so it is an equivalence
@@ -87,8 +95,11 @@ partly = record {
   symm = λ a b.
       let there = requirements_decide a b in
       let back = requirements_decide b a in
-      same_from_decides (same_requirement a b) (same_requirement b a) there ((λ e. sym (back.0 e)), (λ e. back.1 (sym e)));
-  trans = λ a b c e f. (requirements_decide a c).1 ((requirements_decide a b).0 e ∙ (requirements_decide b c).0 f);
+      same_from_decides (same_requirement a b) (same_requirement b a) there
+      ((λ e. sym (back.0 e)), (λ e. back.1 (sym e)));
+  trans =
+      λ a b c e f. (requirements_decide a c).1
+      ((requirements_decide a b).0 e ∙ (requirements_decide b c).0 f);
 }
 
 pub same_requirement_laws : IsEquivalence same_requirement

@@ -32,11 +32,13 @@ pub record Requirement : Type 0 where
 
 -- the texts of a reference to a licence
 abbrev pub license_reference_of : LicenseRef → Reference
-license_reference_of r = record { document = option_map string_bytes r.doc_ref; name = string_bytes r.lic_ref }
+license_reference_of r =
+    record { document = option_map string_bytes r.doc_ref; name = string_bytes r.lic_ref }
 
 -- the texts of a reference to an addition
 abbrev pub addition_reference_of : AdditionRef → Reference
-addition_reference_of r = record { document = option_map string_bytes r.doc_ref; name = string_bytes r.add_ref }
+addition_reference_of r =
+    record { document = option_map string_bytes r.doc_ref; name = string_bytes r.add_ref }
 
 -- a licence as its row and its mark, or as a reference
 abbrev pub license_of : LicenseItem → LicenseTerm
@@ -50,7 +52,8 @@ addition_of (addition.Other r) = added (addition_reference_of r.value)
 
 -- a requirement as rows and texts
 abbrev pub requirement_of : LicenseReq → Requirement
-requirement_of r = record { license = license_of r.license; addition = option_map addition_of r.addition }
+requirement_of r =
+    record { license = license_of r.license; addition = option_map addition_of r.addition }
 
 -- the row of a listed one
 abbrev pub listed_row : LicenseTerm → Option LicenseRow

@@ -23,4 +23,5 @@ addition_key (excepted r) = exception_row r.index
 addition_key (added r) = addition_reference r
 
 abbrev pub requirement_key : Requirement → RequirementKey
-requirement_key r = record { license = license_key r.license; addition = option_map addition_key r.addition }
+requirement_key r =
+    record { license = license_key r.license; addition = option_map addition_key r.addition }

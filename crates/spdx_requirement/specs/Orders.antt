@@ -22,7 +22,9 @@ mark_cmp true true = Equal
 
 -- by document, then by name, texts by bytes
 abbrev pub reference_cmp : Reference → Reference → Ordering
-reference_cmp r s = ordering_then (option_cmp (slice_cmp nat_cmp) r.document s.document) (slice_cmp nat_cmp r.name s.name)
+reference_cmp r s =
+    ordering_then (option_cmp (slice_cmp nat_cmp) r.document s.document)
+    (slice_cmp nat_cmp r.name s.name)
 
 -- rows before references; rows by index, then by mark
 abbrev pub license_cmp : LicenseTerm → LicenseTerm → Ordering
@@ -39,4 +41,5 @@ addition_cmp (added r) (added s) = reference_cmp r s
 
 -- by licence, then by addition
 abbrev pub requirement_cmp : Requirement → Requirement → Ordering
-requirement_cmp r s = ordering_then (license_cmp r.license s.license) (option_cmp addition_cmp r.addition s.addition)
+requirement_cmp r s =
+    ordering_then (license_cmp r.license s.license) (option_cmp addition_cmp r.addition s.addition)

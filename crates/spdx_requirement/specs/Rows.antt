@@ -31,7 +31,13 @@ pub record Rows : Type 0 where
 
 -- a row of the catalogue as bytes and numbers
 abbrev pub row_of : License → LicenseRow
-row_of r = record { name = string_bytes r.name; full_name = string_bytes r.full_name; index = r.index; flags = r.flags }
+row_of r =
+    record {
+      name = string_bytes r.name;
+      full_name = string_bytes r.full_name;
+      index = r.index;
+      flags = r.flags;
+    }
 
 -- the same of an exception
 abbrev pub exception_of : Exception → ExceptionRow
@@ -51,4 +57,5 @@ exception_name r = r.name
 
 -- the prefix of each imprecise name is UTF-8, since it stands in a `String`
 abbrev pub HasTextPrefixes : Rows → Type 0
-HasTextPrefixes c = (row : ℕ) (m : ImpreciseRow) → slice_get c.imprecise row ≡ Some m → IsUtf8 m.prefix
+HasTextPrefixes c =
+    (row : ℕ) (m : ImpreciseRow) → slice_get c.imprecise row ≡ Some m → IsUtf8 m.prefix

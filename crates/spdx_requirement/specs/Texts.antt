@@ -12,7 +12,8 @@ reference_text prefix (Some x) y = codes "DocumentRef-" ++ (x ++ (codes ":" ++ (
 
 -- what the mark adds to a name: a GNU name that is not deprecated says it already
 abbrev pub mark_text : LicenseRow → List ℕ
-mark_text r = if is_gnu r.flags then (if is_deprecated r.flags then codes "-or-later" else []) else codes "+"
+mark_text r =
+    if is_gnu r.flags then (if is_deprecated r.flags then codes "-or-later" else []) else codes "+"
 
 abbrev pub license_text : LicenseTerm → List ℕ
 license_text (listed r false) = r.name
@@ -24,4 +25,5 @@ addition_text (excepted r) = r.name
 addition_text (added r) = reference_text (codes "AdditionRef-") r.document r.name
 
 abbrev pub requirement_text : Requirement → List ℕ
-requirement_text r = license_text r.license ++ option_map_or (λ a. codes " WITH " ++ addition_text a) r.addition []
+requirement_text r =
+    license_text r.license ++ option_map_or (λ a. codes " WITH " ++ addition_text a) r.addition []

@@ -24,7 +24,9 @@ base name = take_while (λ b. not (b == 45)) name
 
 -- the name of which family and version are told: of a GNU licence, its ending taken off
 abbrev pub versioned_name : LicenseRow → List ℕ
-versioned_name r = if is_gnu r.flags then unwrap_or (without only r.name) (unwrap_or (without or_later r.name) r.name) else r.name
+versioned_name r =
+    if is_gnu r.flags then unwrap_or (without only r.name)
+    (unwrap_or (without or_later r.name) r.name) else r.name
 
 -- the parts but for the first that is a version
 abbrev pub without_version : List (List ℕ) → List (List ℕ)

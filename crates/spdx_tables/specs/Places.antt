@@ -21,4 +21,10 @@ numbered place index (r ∷ rs) = place index r ∷ numbered place (suc index) r
 
 -- the same rows, each with its place as its index
 abbrev pub renumbered : Rows → Rows
-renumbered c = record { version = c.version; licenses = numbered license_at 0 c.licenses; exceptions = numbered exception_at 0 c.exceptions; imprecise = c.imprecise }
+renumbered c =
+    record {
+      version = c.version;
+      licenses = numbered license_at 0 c.licenses;
+      exceptions = numbered exception_at 0 c.exceptions;
+      imprecise = c.imprecise;
+    }

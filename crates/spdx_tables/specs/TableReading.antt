@@ -13,16 +13,25 @@ use Rattle.spdx_tables.specs.declared.tables.Tables.{Tables}
 
 -- the rows of tables as bytes and numbers
 abbrev pub rows_of : Tables → Rows
-rows_of t = record { version = string_bytes t.version; licenses = map row_of t.licenses.items; exceptions = map exception_of t.exceptions.items; imprecise = map imprecise_of t.imprecise.items }
+rows_of t =
+    record {
+      version = string_bytes t.version;
+      licenses = map row_of t.licenses.items;
+      exceptions =
+          map exception_of t.exceptions.items;
+      imprecise = map imprecise_of t.imprecise.items;
+    }
 
 -- the value of the bytes, if they are text and one JSON value
 abbrev pub value_in : List ℕ → Option Data
 value_in bytes = if is_utf8 bytes then read bytes else None
 
--- the tables of a value, in which no number is a float; a field that is missing or not of its shape is the fault
+-- the tables of a value, in which no number is a float; a field that is missing or not of its shape
+-- is the fault
 abbrev pub tables_of : Option Data → Result Rows TableFault
 tables_of None = Err fault.NotJson
-tables_of (Some d) = if has_float d then Err fault.Float else result_map_both (λ rows. rows) fault.Shape (tables d)
+tables_of (Some d) =
+    if has_float d then Err fault.Float else result_map_both (λ rows. rows) fault.Shape (tables d)
 
 -- the tables that the bytes hold, or the first fault that applies
 abbrev pub tables_in : List ℕ → Result Rows TableFault

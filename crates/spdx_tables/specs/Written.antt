@@ -1,4 +1,5 @@
--- The JSON value of tables, and its tokens. The members of an object stand in the order of their keys.
+-- The JSON value of tables, and its tokens. The members of an object stand in the order of their
+-- keys.
 use Rattle.std.specs.Prelude.{◌≡◌, Bool, true, List, nat_le, map, codes}
 use Rattle.std.specs.List.{list_all}
 use Rattle.serde_json.specs.Data.{Data, unsigned, number, string, array, object, no_members, member}
@@ -12,15 +13,20 @@ use Rattle.spdx_requirement.specs.Rows.{Rows, LicenseRow, ExceptionRow, Imprecis
 abbrev pub license_data : LicenseRow → Data
 license_data r =
     object (member (codes "flags") (number (unsigned r.flags))
-    (member (codes "full_name") (string r.full_name) (member (codes "name") (string r.name) no_members)))
+    (member (codes "full_name") (string r.full_name)
+    (member (codes "name") (string r.name) no_members)))
 
 -- an exception as an object
 abbrev pub exception_data : ExceptionRow → Data
-exception_data r = object (member (codes "flags") (number (unsigned r.flags)) (member (codes "name") (string r.name) no_members))
+exception_data r =
+    object (member (codes "flags") (number (unsigned r.flags))
+    (member (codes "name") (string r.name) no_members))
 
 -- an imprecise name as an object
 abbrev pub imprecise_data : ImpreciseRow → Data
-imprecise_data r = object (member (codes "name") (string r.name) (member (codes "prefix") (string r.prefix) no_members))
+imprecise_data r =
+    object (member (codes "name") (string r.name)
+    (member (codes "prefix") (string r.prefix) no_members))
 
 -- rows as an array
 abbrev pub rows_data : {A : Type 0} → (A → Data) → List A → Data

@@ -11,6 +11,9 @@ use Rattle.spdx.specs.Value.{Written, placed}
 abbrev pub accepts : List Requirement → Requirement → Bool
 accepts accepted r = list_any (λ licensee. satisfies licensee r) accepted
 
--- the places of the requirements that no accepted licence satisfies, where the expression is not true without them
+-- the places of the requirements that no accepted licence satisfies, where the expression is not
+-- true without them
 abbrev pub explained : List Requirement → Written → List Span
-explained accepted e = cond (holds (accepts accepted) e.tree) [] (map (λ p. p.1) (filter (λ p. not (accepts accepted p.0)) (placed e)))
+explained accepted e =
+    cond (holds (accepts accepted) e.tree) []
+    (map (λ p. p.1) (filter (λ p. not (accepts accepted p.0)) (placed e)))

@@ -16,7 +16,8 @@ use Rattle.spdx_why.specs.Missing.{answer_in}
 abbrev pub first_candidate : List Requirement → List Bool → Requirement → ℕ
 first_candidate [] candidates r = 0
 first_candidate (q ∷ qs) [] r = first_candidate qs [] r + 1
-first_candidate (q ∷ qs) (c ∷ cs) r = cond (c && same_requirement q r) 0 (first_candidate qs cs r + 1)
+first_candidate (q ∷ qs) (c ∷ cs) r =
+    cond (c && same_requirement q r) 0 (first_candidate qs cs r + 1)
 
 -- the same of each requirement of a tree
 abbrev pub firsts_of : Tree → List Bool → List ℕ
@@ -26,11 +27,13 @@ firsts_of t candidates = map (first_candidate (leaves t) candidates) (leaves t)
 abbrev pub with_chosen : List Bool → List ℕ → List Bool → List Bool
 with_chosen [] firsts selection = []
 with_chosen (a ∷ rest) [] selection = []
-with_chosen (a ∷ rest) (f ∷ fs) selection = (a || answer_in selection f) ∷ with_chosen rest fs selection
+with_chosen (a ∷ rest) (f ∷ fs) selection =
+    (a || answer_in selection f) ∷ with_chosen rest fs selection
 
 -- whether the tree is true over them
 abbrev pub suffices_in : Tree → List Bool → List Bool → List Bool → Bool
-suffices_in t accepted candidates selection = truth_of t (with_chosen accepted (firsts_of t candidates) selection)
+suffices_in t accepted candidates selection =
+    truth_of t (with_chosen accepted (firsts_of t candidates) selection)
 
 -- the numbers of the chosen, ascending
 abbrev pub numbers_of : List Bool → List ℕ
@@ -46,10 +49,12 @@ abbrev pub choice_by : Option (List Bool) → Choice
 choice_by None = unmet
 choice_by (Some selection) = chosen (numbers_of selection)
 
--- the first sufficient selection: of two the one that leaves out the last requirement on which they differ comes first
+-- the first sufficient selection: of two the one that leaves out the last requirement on which they
+-- differ comes first
 abbrev pub choice_of : Tree → List Bool → List Bool → Choice
 choice_of t accepted candidates =
-    cond (nat_lt 1024 (length accepted)) (too_many (length accepted)) (choice_by (least_of (suffices_in t accepted candidates) (length accepted)))
+    cond (nat_lt 1024 (length accepted)) (too_many (length accepted))
+    (choice_by (least_of (suffices_in t accepted candidates) (length accepted)))
 
 -- what an advice says
 abbrev pub advised : Remedy → Choice
@@ -57,8 +62,8 @@ advised (Accept v) = chosen v.items
 advised Unmet = unmet
 advised (TooMany n) = too_many n
 
--- the sufficient selection that, against each other one, leaves out the last requirement on which they differ; none of its
--- members can be left out with the rest sufficient
+-- the sufficient selection that, against each other one, leaves out the last requirement on which
+-- they differ; none of its members can be left out with the rest sufficient
 pub record IsLeastChoice (suffices : List Bool → Bool) (n : ℕ) (numbers : List ℕ) : Type 0 where
   pub selection : List Bool
   pub least : IsLeast suffices n selection

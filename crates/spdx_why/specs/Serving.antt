@@ -1,4 +1,5 @@
--- The fewest candidates that make an expression pass, where each candidate serves some of the requirements.
+-- The fewest candidates that make an expression pass, where each candidate serves some of the
+-- requirements.
 use Rattle.std.specs.Prelude.{◌≡◌, ℕ, ◌<◌, ◌==◌, Bool, true, false, ◌||◌, cond, List, [], ◌∷◌, All, Vec, map, nat_lt}
 use Rattle.std.specs.List.{list_any}
 use Rattle.std.specs.declared.alloc.Global.{Global}
@@ -18,7 +19,8 @@ lists_in serving = map (λ v. v.items) serving
 abbrev pub alone : ℕ → List ℕ
 alone k = k ∷ []
 
--- the answers where a requirement is accepted if it was before, or if a candidate that is taken serves it
+-- the answers where a requirement is accepted if it was before, or if a candidate that is taken
+-- serves it
 abbrev pub served_by : (ℕ → Bool) → List Bool → List (List ℕ) → List Bool
 served_by taken [] serving = []
 served_by taken (a ∷ rest) [] = []
@@ -30,16 +32,19 @@ with_served accepted serving selection = served_by (answer_in selection) accepte
 
 -- the same of the candidates of these numbers
 abbrev pub with_numbers : List Bool → List (List ℕ) → List ℕ → List Bool
-with_numbers accepted serving numbers = served_by (λ k. list_any (λ n. n == k) numbers) accepted serving
+with_numbers accepted serving numbers =
+    served_by (λ k. list_any (λ n. n == k) numbers) accepted serving
 
 -- whether the tree is true where a selection of candidates is chosen
 abbrev pub serves_in : Tree → List Bool → List (List ℕ) → List Bool → Bool
 serves_in t accepted serving selection = truth_of t (with_served accepted serving selection)
 
--- the first sufficient selection: of two the one that leaves out the last candidate on which they differ comes first
+-- the first sufficient selection: of two the one that leaves out the last candidate on which they
+-- differ comes first
 abbrev pub choice_among : Tree → List Bool → List (List ℕ) → ℕ → Choice
 choice_among t accepted serving count =
-    cond (nat_lt 1024 count) (too_many count) (choice_by (least_of (serves_in t accepted serving) count))
+    cond (nat_lt 1024 count) (too_many count)
+    (choice_by (least_of (serves_in t accepted serving) count))
 
 -- there are candidates of the chosen numbers
 abbrev pub ChoosesBelow : ℕ → Remedy → Type 0
@@ -49,7 +54,8 @@ ChoosesBelow count (TooMany n) = Unit {0}
 
 -- with the candidates of the chosen numbers the expression is true
 abbrev pub ChoiceCures : Tree → List Bool → List (List ℕ) → Remedy → Type 0
-ChoiceCures t accepted serving (Accept v) = truth_of t (with_numbers accepted serving v.items) ≡ true
+ChoiceCures t accepted serving (Accept v) =
+    truth_of t (with_numbers accepted serving v.items) ≡ true
 ChoiceCures t accepted serving Unmet = Unit {0}
 ChoiceCures t accepted serving (TooMany n) = Unit {0}
 
@@ -57,5 +63,6 @@ ChoiceCures t accepted serving (TooMany n) = Unit {0}
 abbrev pub NoChoiceCures : Tree → List Bool → List (List ℕ) → ℕ → Remedy → Type 0
 NoChoiceCures t accepted serving count (Accept v) = Unit {0}
 NoChoiceCures t accepted serving count Unmet =
-    (numbers : List ℕ) → All (λ k. k < count) numbers → truth_of t (with_numbers accepted serving numbers) ≡ false
+    (numbers : List ℕ) → All (λ k. k < count) numbers →
+    truth_of t (with_numbers accepted serving numbers) ≡ false
 NoChoiceCures t accepted serving count (TooMany n) = Unit {0}

@@ -11,7 +11,8 @@ chosen_sum (w ∷ ws) [] = 0
 chosen_sum (w ∷ ws) (b ∷ bs) = cond b w 0 + chosen_sum ws bs
 
 -- a larger selection weighs no less
-pub chosen_sum_grows : (ws : List ℕ) (some more : List Bool) → IsWithin some more → chosen_sum ws some ≤ chosen_sum ws more
+pub chosen_sum_grows : (ws : List ℕ) (some more : List Bool) → IsWithin some more →
+    chosen_sum ws some ≤ chosen_sum ws more
 chosen_sum_grows [] some more h = omega arith
 chosen_sum_grows (w ∷ ws) [] [] h = omega arith
 chosen_sum_grows (w ∷ ws) [] (b ∷ ys) h = absurd h
@@ -21,5 +22,6 @@ chosen_sum_grows (w ∷ ws) (true ∷ xs) (true ∷ ys) h = omega (arith, chosen
 chosen_sum_grows (w ∷ ws) (true ∷ xs) (false ∷ ys) h = let e : false ≡ true = h.0 refl in absurd cc
 
 -- so a goal that is reached stays reached
-pub enough_grows : (goal : ℕ) (ws : List ℕ) (some more : List Bool) → IsWithin some more → nat_le goal (chosen_sum ws some) ≡ true → nat_le goal (chosen_sum ws more) ≡ true
+pub enough_grows : (goal : ℕ) (ws : List ℕ) (some more : List Bool) → IsWithin some more →
+    nat_le goal (chosen_sum ws some) ≡ true → nat_le goal (chosen_sum ws more) ≡ true
 enough_grows goal ws some more h e = let grown = chosen_sum_grows ws some more h in grind (arith, nat_tests, grown, e)

@@ -17,8 +17,10 @@ with_literal text span new =
     let quote = quote_of (slice_index text span.start) in
     take span.start text ++ (quote ∷ (new ++ (quote ∷ drop span.end text)))
 
--- a literal of the text at the path is replaced, and the answer is read as the document with only that text changed
-pub record IsMended (text : List ℕ) (document : Members) (steps : List Step) (span : Span) (new answer : List ℕ) : Type 0 where
+-- a literal of the text at the path is replaced, and the answer is read as the document with only
+-- that text changed
+pub record IsMended (text : List ℕ) (document : Members) (steps : List Step) (span : Span)
+    (new answer : List ℕ) : Type 0 where
   pub replaced : IsLiteral text document steps span
   pub spliced : answer ≡ with_literal text span new
   pub is_text : IsUtf8 answer

@@ -21,12 +21,14 @@ text_at steps document = option_and_then as_str (value_at steps (table document)
 -- the members, with what stands at the key changed
 abbrev pub change_member : (Data → Data) → List ℕ → Members → Members
 change_member change key no_members = no_members
-change_member change key (member k d ms) = member k (if bytes_eq key k then change d else d) (change_member change key ms)
+change_member change key (member k d ms) =
+    member k (if bytes_eq key k then change d else d) (change_member change key ms)
 
 -- the items, the first of which has this number, with the one at the index changed
 abbrev pub change_item : (Data → Data) → ℕ → ℕ → Items → Items
 change_item change index number no_items = no_items
-change_item change index number (item d ds) = item (if number == index then change d else d) (change_item change index (number + 1) ds)
+change_item change index number (item d ds) =
+    item (if number == index then change d else d) (change_item change index (number + 1) ds)
 
 -- what the step leads to is changed, and nothing where it leads to nothing
 abbrev pub change_behind : (Data → Data) → Step → Data → Data

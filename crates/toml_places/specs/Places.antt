@@ -11,7 +11,8 @@ use Rattle.toml_places.specs.Paths.{text_at}
 -- the spans lie between these offsets, in order and apart from one another
 abbrev pub AreInOrder : ℕ → List Span → ℕ → Type 0
 AreInOrder low [] high = low ≤ high
-AreInOrder low (span ∷ spans) high = (low ≤ span.start) × (span.start ≤ span.end) × AreInOrder span.end spans high
+AreInOrder low (span ∷ spans) high =
+    (low ≤ span.start) × (span.start ≤ span.end) × AreInOrder span.end spans high
 
 -- the text that marks a literal by its number, as `#7`
 abbrev pub mark_text : ℕ → List ℕ
@@ -25,28 +26,36 @@ mark number = codes "\"" ++ (mark_text number ++ codes "\"")
 abbrev pub marked_from : ℕ → ℕ → List ℕ → List Span → List ℕ
 marked_from number offset text [] = drop offset text
 marked_from number offset text (span ∷ spans) =
-    slice_range text offset span.start ++ (mark number ++ marked_from (number + 1) span.end text spans)
+    slice_range text offset span.start ++
+    (mark number ++ marked_from (number + 1) span.end text spans)
 
 -- the text with each span replaced by the mark of its own number
 abbrev pub marked : List ℕ → List Span → List ℕ
 marked text spans = marked_from 0 0 text spans
 
--- with each of these spans marked, the document has at the path the mark of this one, which it had not before
-pub record IsMeant (text : List ℕ) (document : Members) (steps : List Step) (span : Span) (spans : List Span) (number : ℕ) : Type 0 where
+-- with each of these spans marked, the document has at the path the mark of this one, which it had
+-- not before
+pub record IsMeant (text : List ℕ) (document : Members) (steps : List Step) (span : Span)
+    (spans : List Span) (number : ℕ) : Type 0 where
   pub in_order : AreInOrder 0 spans (length text)
   pub numbered : slice_get spans number ≡ Some span
-  pub after : IsSomeAnd (parse_document (marked text spans)) (λ ms. text_at steps ms ≡ Some (mark_text number))
+  pub after : IsSomeAnd (parse_document (marked text spans))
+      (λ ms. text_at steps ms ≡ Some (mark_text number))
   pub before : text_at steps document ≢ Some (mark_text number)
 
--- the span cuts no character, and its bytes, read alone, are the text that the document has at the path
-pub record IsLiteral (text : List ℕ) (document : Members) (steps : List Step) (span : Span) : Type 0 where
+-- the span cuts no character, and its bytes, read alone, are the text that the document has at the
+-- path
+pub record IsLiteral (text : List ℕ) (document : Members) (steps : List Step)
+    (span : Span) : Type 0 where
   pub ordered : span.start ≤ span.end
   pub within : span.end ≤ length text
   pub whole : IsUtf8 (slice_range text span.start span.end)
-  pub value : IsSomeAnd (text_at steps document) (λ value. parse_value (slice_range text span.start span.end) ≡ Some (string value))
+  pub value : IsSomeAnd (text_at steps document)
+      (λ value. parse_value (slice_range text span.start span.end) ≡ Some (string value))
 
 -- the span is a literal of the text at the path, and the one that the path means
-pub record Stands (text : List ℕ) (document : Members) (steps : List Step) (span : Span) : Type 0 where
+pub record Stands (text : List ℕ) (document : Members) (steps : List Step)
+    (span : Span) : Type 0 where
   pub literal : IsLiteral text document steps span
   pub spans : List Span
   pub number : ℕ
@@ -55,5 +64,6 @@ pub record Stands (text : List ℕ) (document : Members) (steps : List Step) (sp
 -- each place that was found for a path
 abbrev pub ArePlaces : List ℕ → Members → List Path → List (Option Span) → Type 0
 ArePlaces text document [] [] = Unit {0}
-ArePlaces text document (path ∷ paths) (place ∷ places) = IfSome place (Stands text document path.steps.items) × ArePlaces text document paths places
+ArePlaces text document (path ∷ paths) (place ∷ places) =
+    IfSome place (Stands text document path.steps.items) × ArePlaces text document paths places
 ArePlaces text document _ _ = ⊥
