@@ -1,15 +1,16 @@
 -- Why no list is read.
-use Rattle.std.specs.Prelude.{◌≡◌, ℕ, List, Option, Some, None, Err, codes, string_bytes}
+use Rattle.std.specs.Prelude.{◌≡◌, ◌⊎◌, ℕ, List, [], Option, Some, None, Ok, Err, codes, string_bytes}
 use Rattle.std.specs.Path.{path_join}
+use Rattle.spdx_requirement.specs.Rows.{Rows}
 use Rattle.spdx_catalogue.specs.declared.error.ReadFault.{ReadFault}
 use Rattle.spdx_catalogue.specs.Reading.{catalogue_in}
 use Rattle.spdx_list.specs.declared.error.ListFault.{ListFault}
 use Rattle.spdx_list.specs.Files.{ExtraRows, extras_in}
-use Rattle.spdx_list.specs.Made.{IsRefused}
+use Rattle.spdx_list.specs.Made.{Makes, IsRefused}
 use Rattle.shelves.specs.Shelf.{Shelved}
 use Rattle.list_program.specs.declared.trouble.ListTrouble.{ListTrouble}
 use Rattle.list_program.specs.declared.trouble.ListTrouble.TheVariants as trouble
-use Rattle.list_program.specs.Named.{InsideBytes}
+use Rattle.list_program.specs.Named.{InsideBytes, no_extras, of_listed}
 
 -- the file at the path holds bytes that are no list, by this fault
 pub record IsNoListOfFile (s : Shelved) (path name : List ℕ) (f : ReadFault) : Type 0 where
@@ -18,26 +19,36 @@ pub record IsNoListOfFile (s : Shelved) (path name : List ℕ) (f : ReadFault) :
   pub holds : s.Holds path bytes
   pub fault : catalogue_in bytes ≡ Err f
 
+-- the two files make no list: by themselves, or with what the extras say of what they list
+abbrev pub IsRefusedWith : ExtraRows → List ℕ → List ℕ → ListFault → Type 0
+IsRefusedWith extras licenses exceptions f =
+    IsRefused licenses exceptions no_extras f
+    ⊎ ((bare : Rows) × Makes licenses exceptions no_extras bare ×
+    IsRefused licenses exceptions (of_listed bare extras) f)
+
 -- the two files below the folder make no list, by this fault
-pub record IsNoListOfFolder (s : Shelved) (folder name : List ℕ) (f : ListFault) : Type 0 where
+pub record IsNoListOfFolder (s : Shelved) (extras folder name : List ℕ)
+    (f : ListFault) : Type 0 where
   pub licenses : List ℕ
   pub exceptions : List ℕ
   pub rows : ExtraRows
   pub named : name ≡ folder
+  pub says : extras_in extras ≡ Ok rows
   pub holds_licenses : s.Holds (path_join folder (codes "licenses.json")) licenses
   pub holds_exceptions : s.Holds (path_join folder (codes "exceptions.json")) exceptions
-  pub refused : IsRefused licenses exceptions rows f
+  pub refused : IsRefusedWith rows licenses exceptions f
 
--- a file that can't be read, of which nothing is said
-abbrev pub IsUnreadable : ListTrouble → Type 0
-IsUnreadable (trouble.Unreadable n e) = Unit {0}
-IsUnreadable trouble.Memory = Unit {0}
-IsUnreadable t = ⊥
+-- the path, or one of the two files below it
+pub data IsPartOf (path : List ℕ) : List ℕ → Type 0 where
+  itself : IsPartOf path path
+  its_licenses : IsPartOf path (path_join path (codes "licenses.json"))
+  its_exceptions : IsPartOf path (path_join path (codes "exceptions.json"))
 
--- a variable that is empty, or no UTF-8
-abbrev pub IsNameless : ListTrouble → Type 0
-IsNameless trouble.Nameless = Unit {0}
-IsNameless t = ⊥
+-- the file at the path can't be read, as the shelf tells; nothing is said of memory
+abbrev pub IsUnreadable : Shelved → List ℕ → ListTrouble → Type 0
+IsUnreadable s path (trouble.Unreadable n e) = (string_bytes n ≡ path) × s.Fails path e
+IsUnreadable s path trouble.Memory = Unit {0}
+IsUnreadable s path t = ⊥
 
 -- these bytes hold no extras
 abbrev pub AreNoExtras : List ℕ → ListTrouble → Type 0
@@ -45,12 +56,13 @@ AreNoExtras bytes (trouble.NoExtras f) = extras_in bytes ≡ Err f
 AreNoExtras bytes trouble.Memory = Unit {0}
 AreNoExtras bytes t = ⊥
 
--- why there is no list at the path; nothing is said of what can't be read, or of memory
+-- why there is no list at the path; nothing is said of memory
 abbrev pub IsNoListAt : Shelved → List ℕ → List ℕ → ListTrouble → Type 0
 IsNoListAt s extras path (trouble.NoList n f) = IsNoListOfFile s path (string_bytes n) f
-IsNoListAt s extras path (trouble.NotMade n f) = IsNoListOfFolder s path (string_bytes n) f
+IsNoListAt s extras path (trouble.NotMade n f) = IsNoListOfFolder s extras path (string_bytes n) f
 IsNoListAt s extras path (trouble.NoExtras f) = extras_in extras ≡ Err f
-IsNoListAt s extras path (trouble.Unreadable n e) = Unit {0}
+IsNoListAt s extras path (trouble.Unreadable n e) =
+    IsPartOf path (string_bytes n) × s.Fails (string_bytes n) e
 IsNoListAt s extras path trouble.Memory = Unit {0}
 IsNoListAt s extras path trouble.Nameless = ⊥
 IsNoListAt s extras path trouble.Output = ⊥
@@ -61,16 +73,21 @@ IsNoListInside inside (trouble.NoList n f) = catalogue_in inside.list ≡ Err f
 IsNoListInside inside trouble.Memory = Unit {0}
 IsNoListInside inside t = ⊥
 
+-- why there is none at the path that a variable says, which has to say one
+abbrev pub IsNoListNamed : Shelved → List ℕ → List ℕ → ListTrouble → Type 0
+IsNoListNamed s extras path trouble.Nameless = path ≡ []
+IsNoListNamed s extras path t = IsNoListAt s extras path t
+
 abbrev pub IsNoListSaid : Shelved → InsideBytes → Option (List ℕ) → ListTrouble → Type 0
-IsNoListSaid s inside (Some path) t = IsNoListAt s inside.extras path t
+IsNoListSaid s inside (Some path) t = IsNoListNamed s inside.extras path t
 IsNoListSaid s inside None t = IsNoListInside inside t
 
--- why SPDX_LIST says no list: it is empty or no UTF-8, or by what it says
+-- why SPDX_LIST says no list: it is no UTF-8, or by what it says
 abbrev pub IsNoListByVariable : Shelved → InsideBytes → ListTrouble → Type 0
-IsNoListByVariable s inside trouble.Nameless = Unit {0}
 IsNoListByVariable s inside trouble.Memory = Unit {0}
 IsNoListByVariable s inside t =
-    (said : Option (List ℕ)) × s.Says (codes "SPDX_LIST") said × IsNoListSaid s inside said t
+    (s.IsNoText (codes "SPDX_LIST") × (t ≡ trouble.Nameless))
+    ⊎ ((said : Option (List ℕ)) × s.Says (codes "SPDX_LIST") said × IsNoListSaid s inside said t)
 
 -- why no list is used
 abbrev pub IsNoNamedList : Shelved → InsideBytes → Option (List ℕ) → ListTrouble → Type 0

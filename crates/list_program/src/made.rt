@@ -1,9 +1,17 @@
 // The command `list make`: the list that SPDX's files make, written.
 
-ghost use Rattle.std.specs.Prelude.{IfOk, OnOk};
+ghost use Rattle.std.specs.Prelude.{◌≡◌, ℕ, List, Some, IfErr, IfOk, OnOk, string_bytes};
 ghost use Rattle.std.specs.Option.{option_copied};
 ghost use Rattle.spdx_list.specs.Shown.{shown_extras};
-ghost use Rattle.list_program.specs.Written.{AreExtrasAt, WritesList};
+ghost use Rattle.list_program.specs.Written.{
+  AreExtrasAt,
+  IsMadeText,
+  IsNoText,
+  IsUnwritten,
+  MadePaths,
+  WritesList,
+  made_of,
+};
 
 use crate::named::bytes_of;
 use crate::trouble::ListTrouble;
@@ -27,28 +35,25 @@ pub struct MadeOf<'p> {
 ///
 /// # Errors
 ///
-/// A file can't be read, the files make no list, the output fails, or memory was refused.
+/// A file can't be read, the files make no list, or memory was refused: nothing was written. Or the output fails, which may
+/// have taken a beginning of it.
+#[tactic(auto, using(crate::proofs::Causes::unwritten))]
 pub fn put_made_list<S: Shelf, O: Sink>(
     alloc: Global,
     shelf: &S,
     paths: MadeOf<'_>,
     output: &mut O,
 ) -> Result<(), ListTrouble>
-    ensures ok { OnOk result (WritesList (S.told shelf.now) paths.entry.licenses.now
-        paths.entry.exceptions.now (option_copied paths.entry.extras)
+    ensures ok { OnOk result (WritesList (S.told shelf.now)
+        (made_of paths.entry.licenses.now paths.entry.exceptions.now
+        (option_copied paths.entry.extras))
+        (O.told output.old).bytes (O.told output.new).bytes) }
+    ensures err { IfErr result (IsUnwritten (S.told shelf.now)
+        (made_of paths.entry.licenses.now paths.entry.exceptions.now
+        (option_copied paths.entry.extras))
         (O.told output.old).bytes (O.told output.new).bytes) }
 {
-    let licenses = bytes_of(alloc, shelf, paths.licenses)?;
-    let exceptions = bytes_of(alloc, shelf, paths.exceptions)?;
-    let extras = extras_at(alloc, shelf, paths.extras)?;
-    let mut text = match list_text(alloc, &licenses, &exceptions, &extras) {
-        Ok(text) => text,
-        Err(Failure::Refused(fault)) => {
-            let path = String::from_str(alloc, paths.licenses)?;
-            return Err(ListTrouble::NotMade(path, fault));
-        }
-        Err(Failure::Memory(_)) => return Err(ListTrouble::Memory),
-    };
+    let mut text = made_text(alloc, shelf, paths)?;
     text.push('\n')?;
     match write_all(output, text.as_bytes()) {
         Ok(()) => Ok(()),
@@ -56,15 +61,65 @@ pub fn put_made_list<S: Shelf, O: Sink>(
     }
 }
 
-// The extras that the file at the path holds, if one is given.
-fn extras_at<S: Shelf>(alloc: Global, shelf: &S, path: Option<&str>) -> Result<Extras, ListTrouble>
-    ensures { IfOk result (λ x. AreExtrasAt (S.told shelf.now) (option_copied path.entry)
-        (shown_extras x)) }
+// The text of the list that the files make.
+#[tactic(auto, using(crate::proofs::Causes::licenses_unread, crate::proofs::Causes::exceptions_unread))]
+fn made_text<S: Shelf>(alloc: Global, shelf: &S, paths: MadeOf<'_>) -> Result<String, ListTrouble>
+    ensures ok { IfOk result (λ text. IsMadeText (S.told shelf.now)
+        (made_of paths.entry.licenses.now paths.entry.exceptions.now
+        (option_copied paths.entry.extras)) (string_bytes text)) }
+    ensures err { IfErr result (IsNoText (S.told shelf.now)
+        (made_of paths.entry.licenses.now paths.entry.exceptions.now
+        (option_copied paths.entry.extras))) }
 {
-    let Some(path) = path else {
+    let licenses = bytes_of(alloc, shelf, paths.licenses)?;
+    let exceptions = bytes_of(alloc, shelf, paths.exceptions)?;
+    text_of(alloc, shelf, paths, &licenses, &exceptions)
+}
+
+// The text of the list that these bytes of the files make.
+fn text_of<S: Shelf>(
+    alloc: Global,
+    shelf: &S,
+    paths: MadeOf<'_>,
+    licenses: &[u8],
+    exceptions: &[u8],
+) -> Result<String, ListTrouble>
+    ensures ok { (S.told shelf.now).Holds paths.entry.licenses.now licenses.now →
+        (S.told shelf.now).Holds paths.entry.exceptions.now exceptions.now →
+        IfOk result (λ text. IsMadeText (S.told shelf.now)
+        (made_of paths.entry.licenses.now paths.entry.exceptions.now
+        (option_copied paths.entry.extras)) (string_bytes text)) }
+    ensures err { (S.told shelf.now).Holds paths.entry.licenses.now licenses.now →
+        (S.told shelf.now).Holds paths.entry.exceptions.now exceptions.now →
+        IfErr result (IsNoText (S.told shelf.now)
+        (made_of paths.entry.licenses.now paths.entry.exceptions.now
+        (option_copied paths.entry.extras))) }
+{
+    let extras = extras_at(alloc, shelf, paths)?;
+    match list_text(alloc, licenses, exceptions, &extras) {
+        Ok(text) => Ok(text),
+        Err(Failure::Refused(fault)) => {
+            let path = String::from_str(alloc, paths.licenses)?;
+            Err(ListTrouble::NotMade(path, fault))
+        }
+        Err(Failure::Memory(_)) => Err(ListTrouble::Memory),
+    }
+}
+
+// The extras that the file at the path holds, if one is given.
+#[tactic(auto, using(crate::proofs::Causes::extras_unread, crate::proofs::Causes::told_of_extras))]
+fn extras_at<S: Shelf>(alloc: Global, shelf: &S, paths: MadeOf<'_>) -> Result<Extras, ListTrouble>
+    ensures ok { IfOk result (λ x. AreExtrasAt (S.told shelf.now)
+        (option_copied paths.entry.extras) (shown_extras x)) }
+    ensures err { IfErr result (IsNoText (S.told shelf.now)
+        (made_of paths.entry.licenses.now paths.entry.exceptions.now
+        (option_copied paths.entry.extras))) }
+{
+    let Some(path) = paths.extras else {
         return Ok(Extras::new(alloc));
     };
-    match Extras::from_json(alloc, &bytes_of(alloc, shelf, path)?) {
+    let bytes = bytes_of(alloc, shelf, path)?;
+    match Extras::from_json(alloc, &bytes) {
         Ok(extras) => Ok(extras),
         Err(Failure::Refused(fault)) => {
             Err(ListTrouble::NotMade(String::from_str(alloc, path)?, fault))

@@ -6,8 +6,7 @@ ghost use Rattle.std.specs.Path.{path_join};
 ghost use Rattle.spdx_requirement.specs.Failures.{IfRefused};
 ghost use Rattle.spdx_requirement.specs.Rows.{imprecise_of};
 ghost use Rattle.spdx_catalogue.specs.Reading.{catalogue_in};
-ghost use Rattle.spdx_list.specs.Files.{ExtraRows, extras_in};
-ghost use Rattle.spdx_list.specs.Made.{IsRefused};
+ghost use Rattle.spdx_list.specs.Files.{extras_in};
 ghost use Rattle.spdx_list.specs.Shown.{shown_extras};
 ghost use Rattle.list_program.specs.Named as spec;
 ghost use Rattle.list_program.specs.Named.{
@@ -20,10 +19,11 @@ ghost use Rattle.list_program.specs.Named.{
 };
 ghost use Rattle.list_program.specs.Troubles.{
   AreNoExtras,
-  IsNameless,
   IsNoListAt,
   IsNoListInside,
+  IsNoListNamed,
   IsNoNamedList,
+  IsRefusedWith,
   IsUnreadable,
 };
 
@@ -51,7 +51,7 @@ pub struct Inside<'i> {
 /// # Errors
 ///
 /// What is named can't be read, or is no list; or memory was refused.
-#[tactic(auto, using(crate::proofs::Causes::list_by_variable, crate::proofs::Causes::none_by_variable))]
+#[tactic(auto, using(crate::proofs::Causes::list_by_variable, crate::proofs::Causes::none_by_variable, crate::proofs::Causes::no_text))]
 pub fn named_list<S: Shelf>(
     alloc: Global,
     shelf: &S,
@@ -75,6 +75,7 @@ pub fn named_list<S: Shelf>(
 }
 
 // The list at the path that the variable says.
+#[tactic(auto, using(crate::proofs::Causes::at_named))]
 fn list_said<S: Shelf>(
     alloc: Global,
     shelf: &S,
@@ -82,8 +83,7 @@ fn list_said<S: Shelf>(
     path: &str,
 ) -> Result<Catalogue, ListTrouble>
     ensures ok { IfOk result (IsListAt (S.told shelf.now) extras.now path.now) }
-    ensures err { IfErr result (λ t. IsNameless t
-        ⊎ IsNoListAt (S.told shelf.now) extras.now path.now t) }
+    ensures err { IfErr result (IsNoListNamed (S.told shelf.now) extras.now path.now) }
 {
     if path.is_empty() {
         return Err(ListTrouble::Nameless);
@@ -97,6 +97,7 @@ fn list_said<S: Shelf>(
 /// # Errors
 ///
 /// A file can't be read, or holds no list; or memory was refused.
+#[tactic(auto, using(crate::proofs::Causes::unread_itself))]
 pub fn list_at<S: Shelf>(
     alloc: Global,
     shelf: &S,
@@ -106,10 +107,20 @@ pub fn list_at<S: Shelf>(
     ensures ok { IfOk result (IsListAt (S.told shelf.now) extras.now path.now) }
     ensures err { IfErr result (IsNoListAt (S.told shelf.now) extras.now path.now) }
 {
+    if is_folder(alloc, shelf, path)? {
+        list_of_folder(alloc, shelf, extras, path)
+    } else {
+        list_of_file(alloc, shelf, path)
+    }
+}
+
+fn is_folder<S: Shelf>(alloc: Global, shelf: &S, path: &str) -> Result<bool, ListTrouble>
+    ensures ok { IfOk result (λ is. (S.told shelf.now).IsFolder path.now is) }
+    ensures err { IfErr result (IsUnreadable (S.told shelf.now) path.now) }
+{
     match shelf.is_folder(path) {
-        Ok(true) => list_of_folder(alloc, shelf, extras, path),
-        Ok(false) => list_of_file(alloc, shelf, path),
-        Err(error) => Err(ListTrouble::Unreadable(String::from_str(alloc, path)?, error)),
+        Ok(is_folder) => Ok(is_folder),
+        Err(fault) => Err(ListTrouble::Unreadable(String::from_str(alloc, path)?, fault)),
     }
 }
 
@@ -120,7 +131,7 @@ pub(crate) fn bytes_of<S: Shelf>(
     path: &str,
 ) -> Result<Vec<u8>, ListTrouble>
     ensures ok { IfOk result (λ bytes. (S.told shelf.now).Holds path.now bytes.items) }
-    ensures err { IfErr result IsUnreadable }
+    ensures err { IfErr result (IsUnreadable (S.told shelf.now) path.now) }
 {
     match shelf.read(alloc, path) {
         Ok(bytes) => Ok(bytes),
@@ -145,7 +156,7 @@ fn list_inside(alloc: Global, inside: Inside<'_>) -> Result<Catalogue, ListTroub
 }
 
 // The list that the file holds.
-#[tactic(auto, using(crate::proofs::Causes::unread_at))]
+#[tactic(auto, using(crate::proofs::Causes::unread_itself))]
 fn list_of_file<S: Shelf>(alloc: Global, shelf: &S, path: &str) -> Result<Catalogue, ListTrouble>
     ensures ok { IfOk result (IsListOfFile (S.told shelf.now) path.now) }
     ensures err { IfErr result (λ t. (extras : List ℕ)
@@ -162,7 +173,7 @@ fn list_of_file<S: Shelf>(alloc: Global, shelf: &S, path: &str) -> Result<Catalo
 }
 
 // The list that SPDX's two files in the folder make.
-#[tactic(auto, using(crate::proofs::Causes::unread_at, crate::proofs::Causes::extras_at))]
+#[tactic(auto, using(crate::proofs::Causes::unread_licenses, crate::proofs::Causes::unread_exceptions, crate::proofs::Causes::extras_at))]
 fn list_of_folder<S: Shelf>(
     alloc: Global,
     shelf: &S,
@@ -203,14 +214,15 @@ fn bytes_below<S: Shelf>(
 ) -> Result<Vec<u8>, ListTrouble>
     ensures ok { IfOk result (λ bytes.
         (S.told shelf.now).Holds (path_join folder.now name.now) bytes.items) }
-    ensures err { IfErr result IsUnreadable }
+    ensures err { IfErr result (IsUnreadable (S.told shelf.now)
+        (path_join folder.now name.now)) }
 {
     let path = Path::new(folder).join(alloc, name)?;
     bytes_of(alloc, shelf, path.as_str())
 }
 
 // The list of SPDX's two files, with what the extras say of the licences that they list.
-#[tactic(auto, using(crate::proofs::Twice::makes_with))]
+#[tactic(auto, using(crate::proofs::Twice::refused_bare))]
 fn made_with(
     alloc: Global,
     licenses: &[u8],
@@ -218,8 +230,8 @@ fn made_with(
     extras: Extras,
 ) -> Result<Catalogue, Failure<ListFault>>
     ensures ok { IfOk result (MakesWith (shown_extras extras) licenses.now exceptions.now) }
-    ensures err { IfErr result (IfRefused (λ f. (rows : ExtraRows)
-        × IsRefused licenses.now exceptions.now rows f)) }
+    ensures err { IfErr result (IfRefused
+        (IsRefusedWith (shown_extras extras) licenses.now exceptions.now)) }
 {
     let listed = catalogue_of(alloc, licenses, exceptions, &Extras::new(alloc))?;
     let extras = of_listed(alloc, extras, &listed)?;

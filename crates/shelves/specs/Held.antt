@@ -1,6 +1,9 @@
 -- What a shelf of values tells: what stands in it.
-use Rattle.std.specs.Prelude.{◌≡◌, ℕ, Bool, List, Option, Some, option_map, find, bytes_eq, string_bytes}
+use Rattle.std.specs.Prelude.{◌≡◌, ℕ, Bool, List, Option, None, Some, option_map, find, bytes_eq, string_bytes}
 use Rattle.std.specs.List.{list_any}
+use Rattle.std.specs.IoError.{error_kind}
+use Rattle.std.specs.declared.io.Error.{Error}
+use Rattle.std.specs.declared.io.ErrorKind.TheVariants.{NotFound, OutOfMemory}
 use Rattle.shelves.specs.declared.held.Held.{Held}
 use Rattle.shelves.specs.declared.held.HeldFile.{HeldFile}
 use Rattle.shelves.specs.declared.held.HeldFolder.{HeldFolder}
@@ -22,9 +25,18 @@ says variables name =
 abbrev pub has_folder : List HeldFolder → List ℕ → Bool
 has_folder folders path = list_any (λ (f : HeldFolder). bytes_eq (string_bytes f.path) path) folders
 
+-- why the file that holds these bytes, or none, isn't read
+abbrev pub IsReadFault : Option (List ℕ) → Error → Type 0
+IsReadFault (Some bytes) error = error_kind error ≡ OutOfMemory
+IsReadFault None error = error_kind error ≡ NotFound
+
 abbrev pub shelved : Held → Shelved
 shelved shelf = record {
   Holds = λ path bytes. bytes_at shelf.files.items path ≡ Some bytes;
   IsFolder = λ path is. has_folder shelf.folders.items path ≡ is;
+  Fails = λ path error. IsReadFault (bytes_at shelf.files.items path) error;
   Says = λ name text. says shelf.variables.items name ≡ text;
+  IsNoText = λ name. ⊥;
+  IsInput = λ bytes. shelf.input.items ≡ bytes;
+  InputFails = λ error. error_kind error ≡ OutOfMemory;
 }

@@ -1,6 +1,8 @@
 // A shelf of values.
 
-ghost use Rattle.std.specs.Prelude.{◌≡◌, find, bytes_eq, string_bytes};
+ghost use Rattle.std.specs.Prelude.{◌≡◌, IfErr, IfOk, find, bytes_eq, string_bytes};
+ghost use Rattle.std.specs.IoError.{error_kind};
+ghost use Rattle.std.specs.declared.io.ErrorKind.TheVariants.{OutOfMemory};
 ghost use Rattle.std.specs.Option.{option_copied};
 ghost use Rattle.shelves.specs.Held as spec;
 ghost use Rattle.shelves.specs.Held.{shelved};
@@ -31,12 +33,14 @@ pub struct HeldVariable {
     pub text: String,
 }
 
-/// Files, folders and variables that stand ready, for rows and tests. Of two of the same path or name the first counts.
+/// Files, folders, variables and an input that stand ready, for rows and tests. Of two of the same path or name the first
+/// counts.
 #[derive(Drop)]
 pub struct Held {
     pub files: Vec<HeldFile>,
     pub folders: Vec<HeldFolder>,
     pub variables: Vec<HeldVariable>,
+    pub input: Vec<u8>,
 }
 
 fn file_at<'h>(files: &'h [HeldFile], path: &str) -> Option<&'h HeldFile>
@@ -44,6 +48,15 @@ fn file_at<'h>(files: &'h [HeldFile], path: &str) -> Option<&'h HeldFile>
         ≡ find (λ (f : HeldFile). bytes_eq (string_bytes f.path) path.now) files.now }
 {
     files.iter().find(|file| file.path.as_str() == path)
+}
+
+fn bytes_at<'h>(files: &'h [HeldFile], path: &str) -> Option<&'h [u8]>
+    ensures { option_copied result ≡ spec.bytes_at files.now path.now }
+{
+    match file_at(files, path) {
+        Some(file) => Some(file.bytes.as_slice()),
+        None => None,
+    }
 }
 
 fn variable_named<'h>(variables: &'h [HeldVariable], name: &str) -> Option<&'h HeldVariable>
@@ -61,17 +74,24 @@ fn has_folder(folders: &[HeldFolder], path: &str) -> bool
     folders.iter().any(|folder| folder.path.as_str() == path)
 }
 
+fn copy_of(alloc: Global, bytes: &[u8]) -> io::Result<Vec<u8>>
+    ensures ok { IfOk result (λ copy. copy.items ≡ bytes.now) }
+    ensures err { IfErr result (λ error. error_kind error ≡ OutOfMemory) }
+{
+    let mut copy = Vec::new(alloc);
+    match copy.extend_from_slice(bytes) {
+        Ok(()) => Ok(copy),
+        Err(_) => Err(io::Error::from(ErrorKind::OutOfMemory)),
+    }
+}
+
 impl Shelf for Held {
     ghost told = { shelved };
 
     fn read(&self, alloc: Global, path: &str) -> io::Result<Vec<u8>> {
-        let Some(file) = file_at(&self.files, path) else {
-            return Err(io::Error::from(ErrorKind::NotFound));
-        };
-        let mut bytes = Vec::new(alloc);
-        match bytes.extend_from_slice(&file.bytes) {
-            Ok(()) => Ok(bytes),
-            Err(_) => Err(io::Error::from(ErrorKind::OutOfMemory)),
+        match bytes_at(&self.files, path) {
+            Some(bytes) => copy_of(alloc, bytes),
+            None => Err(io::Error::from(ErrorKind::NotFound)),
         }
     }
 
@@ -87,5 +107,9 @@ impl Shelf for Held {
             Ok(text) => Ok(Some(text)),
             Err(AllocError) => Err(VariableFault::Memory),
         }
+    }
+
+    fn input(&self, alloc: Global) -> io::Result<Vec<u8>> {
+        copy_of(alloc, &self.input)
     }
 }
