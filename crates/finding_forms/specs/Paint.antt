@@ -1,7 +1,11 @@
 -- Colours of a terminal.
-use Rattle.std.specs.Prelude.{ℕ, List, [], ◌∷◌, ◌++◌, codes}
+use Rattle.std.specs.Prelude.{◌≡◌, ℕ, List, [], ◌∷◌, ◌++◌, codes, length, take}
 use Rattle.finding_forms.specs.declared.forms.Style.{Style}
 use Rattle.finding_forms.specs.declared.forms.Style.TheVariants.{Plain, Coloured}
+
+-- what stood in the text stands at its front
+abbrev pub Stays : List ℕ → List ℕ → Type 0
+Stays old new = take (length old) new ≡ old
 
 -- what begins one of a terminal's colours, and what ends each
 abbrev pub paint_begins : Style → List ℕ → List ℕ

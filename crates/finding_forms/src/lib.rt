@@ -22,5 +22,6 @@ pub use forms::{Form, Style, put_beginning, put_ending, put_finding};
 pub use frames::{Frame, frame_of};
 pub use json_form::put_json;
 pub use line_forms::{put_github, put_short};
+pub use paint::{begin_paint, end_paint, put_painted};
 pub use sarif_form::{put_sarif_beginning, put_sarif_ending, put_sarif_result};
 pub use total_line::put_totals;

@@ -5,10 +5,12 @@ ghost use Rattle.finding_forms.specs.Paint.{bold, painted};
 ghost use Rattle.gate_forms.specs.Report.{package_text};
 ghost use Rattle.gate_forms.specs.Human.{advice_line, expression_line, fault_line, head_line, human_text, leaf_line, leaf_lines, more_line, package_line, reasons_text, refused_lines, whole_line};
 
+use crate::carets::put_carets;
 use crate::messages::{put_advice, put_decided, put_package, put_verdict};
-use crate::paint::{begin_paint, end_paint, put_carets, put_painted};
 use crate::reports::{Advice, Leaf, Report, Why};
-use finding_forms::{Style, put_carets_under, put_excerpt_line};
+use finding_forms::{
+    Style, begin_paint, end_paint, put_carets_under, put_excerpt_line, put_painted,
+};
 use foreign_text::{Sink, put_text};
 use std::alloc::{AllocError, Global};
 

@@ -2,13 +2,13 @@
 //! log of SARIF, and as a page of HTML. It knows nothing of licences.
 #![tactic(auto)]
 
+mod carets;
 mod human;
 mod json_form;
 mod known;
 mod lines;
 mod messages;
 mod page;
-mod paint;
 mod pieces;
 mod refusals;
 mod reports;

@@ -4,11 +4,11 @@ ghost use Rattle.std.specs.Prelude.{◌≡◌, ◌++◌, OnOk, OnErr, IfOk, flat
 ghost use Rattle.gate_forms.specs.Report.{part_text};
 ghost use Rattle.gate_forms.specs.Human.{explained_text, closing_text, indent, node_line, sign};
 
+use crate::carets::put_copies;
 use crate::human::{put_advice_line, put_expression, put_fault, put_package_line};
 use crate::messages::put_decided;
-use crate::paint::{put_copies, put_painted};
 use crate::reports::{Node, Part, Report, Why};
-use finding_forms::Style;
+use finding_forms::{Style, put_painted};
 use foreign_text::{Sink, put_text};
 use std::alloc::{AllocError, Global};
 

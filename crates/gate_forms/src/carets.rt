@@ -1,11 +1,10 @@
-// Colours of a terminal, and carets under a part of an expression.
+// Carets under a part of an expression.
 
 ghost use Rattle.std.specs.Prelude.{◌≡◌, ◌<◌, ◌++◌, OnOk, IfOk, replicate, string_bytes, IsCharBoundary};
 ghost use Rattle.finding_forms.specs.Finding.{place_in};
-ghost use Rattle.finding_forms.specs.Paint.{paint_begins, paint_ends, painted};
 ghost use Rattle.gate_forms.specs.Human.{before_of, marked_of, caret_part, shown_width};
 
-use finding_forms::Style;
+use finding_forms::{Style, begin_paint, end_paint};
 use foreign_text::{Sink, text_for};
 use std::alloc::{AllocError, Global};
 use unicode_width::UnicodeWidthStr;
@@ -81,42 +80,4 @@ pub(crate) fn put_copies(lines: &mut String, letter: char, count: usize) -> Resu
         lines.push(letter)?;
     }
     Ok(())
-}
-
-pub(crate) fn put_painted(
-    lines: &mut String,
-    style: Style,
-    colour: &str,
-    text: &str,
-) -> Result<(), AllocError>
-    ensures { OnOk result (string_bytes lines.new ≡
-        string_bytes lines.old ++ painted style colour.now text.now) }
-{
-    begin_paint(lines, style, colour)?;
-    lines.push_str(text)?;
-    end_paint(lines, style)?;
-    Ok(())
-}
-
-pub(crate) fn begin_paint(lines: &mut String, style: Style, colour: &str) -> Result<(), AllocError>
-    ensures { OnOk result (
-        string_bytes lines.new ≡ string_bytes lines.old ++ paint_begins style colour.now) }
-{
-    match style {
-        Style::Plain => Ok(()),
-        Style::Coloured => {
-            lines.push('\x1b')?;
-            lines.push_str(colour)
-        }
-    }
-}
-
-pub(crate) fn end_paint(lines: &mut String, style: Style) -> Result<(), AllocError>
-    ensures { OnOk result (
-        string_bytes lines.new ≡ string_bytes lines.old ++ paint_ends style) }
-{
-    match style {
-        Style::Plain => Ok(()),
-        Style::Coloured => lines.push_str("\x1b[0m"),
-    }
 }
