@@ -2,7 +2,7 @@
 
 use spdx_catalogue::Catalogue;
 use spdx_gate::{Judged, Outcome, judge_text};
-use spdx_joint::{Joint, Offer, joint_choices};
+use package_choices::allowed::{Joint, Offer, joint_choices};
 use spdx_parser::node::ExprNode;
 use spdx_policy::Policy;
 use spdx_why::Remedy;

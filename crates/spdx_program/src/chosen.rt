@@ -8,7 +8,8 @@ use crate::system::System;
 use crate::trouble::Trouble;
 use package_sources::{License, Package};
 use spdx::{Catalogue, Expression, Failure, LicenseReq, Licensee, ParseMode};
-use spdx_notice::{RequirementTexts, Unmet, own_choices, texts_of};
+use package_choices::accepted::{Unmet, own_choices};
+use package_choices::{RequirementTexts, texts_of};
 use spdx_words::{Accepted, NoticeRequest};
 use std::alloc::{AllocError, Global};
 
@@ -141,7 +142,7 @@ fn among<'c>(
     if !one_for_all {
         return Ok(own);
     }
-    match spdx_notice::joint_choices(alloc, &lent, accepted) {
+    match package_choices::accepted::joint_choices(alloc, &lent, accepted) {
         Ok(choices) => with_texts(alloc, &choices),
         Err(Failure::Refused(unmet)) => Err(unmet_trouble(alloc, unmet)?),
         Err(Failure::Memory(error)) => Err(Trouble::from(error)),

@@ -1,0 +1,10 @@
+pub mod Accepted
+pub mod Refusals
+pub mod Wanted
+pub mod Choice
+pub mod GrowthLaws
+pub mod JudgeModel
+pub mod Members
+pub mod Passes
+pub mod Questions
+pub mod Texts

@@ -1,5 +1,0 @@
-pub mod Allowing
-pub mod Growing
-pub mod Meeting
-pub mod Passing
-pub mod Together

@@ -1,8 +1,0 @@
-use Rattle.std.proofs.Common.{◌≡◌, ◌++◌, drop, map}
-use Rattle.spdx_joint.specs.Choice.{asked, offer_of}
-use Rattle.spdx_joint.specs.Questions.{asked_of}
-use Rattle.spdx_joint.specs.Members.{shown}
-use Rattle.spdx_joint.proofs.asking.questions_of.Given as goal
-
-abbrev pub invariant-loop-offer : goal.invariant-loop-offer
-invariant-loop-offer l = map asked_of l.questions.items ++ map (asked (shown l.members)) (map offer_of (drop l.offer-index l.offers)) ≡ map (asked (shown l.members)) (map offer_of l.offers)

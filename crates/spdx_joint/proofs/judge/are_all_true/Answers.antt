@@ -1,9 +1,0 @@
-use Rattle.std.proofs.Common.{arith, ap, length}
-use Rattle.spdx_joint.specs.declared.question.Question.{Question}
-use Rattle.spdx_joint.proofs.Meeting.{each_fits}
-use Rattle.spdx_joint.proofs.judge.are_all_true.Goals as goal
-
-pub is_true-requires : goal.is_true-requires
-is_true-requires c =
-    let fits = each_fits c.args.questions.now c.loop-question.question-index c.question-item.result c.loop-question-test.true in
-    omega (arith, fits, ap (λ (q : Question). length q.nodes.now) c.question-item.is, c.requires, c.loop-question.invariant.room)

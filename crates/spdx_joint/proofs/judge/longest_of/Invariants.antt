@@ -1,6 +1,0 @@
-use Rattle.std.proofs.Common.{◌≡◌, drop, max}
-use Rattle.spdx_joint.specs.Questions.{longest}
-use Rattle.spdx_joint.proofs.judge.longest_of.Given as goal
-
-abbrev pub invariant-loop-question : goal.invariant-loop-question
-invariant-loop-question l = max l.most (longest (drop l.question-index l.questions)) ≡ longest l.questions

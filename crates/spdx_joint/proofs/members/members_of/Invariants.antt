@@ -1,7 +1,0 @@
-use Rattle.std.proofs.Common.{◌≡◌, [], drop, map}
-use Rattle.spdx_joint.specs.Choice.{offer_of, all_allowed}
-use Rattle.spdx_joint.specs.Members.{shown, grown}
-use Rattle.spdx_joint.proofs.members.members_of.Given as goal
-
-abbrev pub invariant-loop-offer : goal.invariant-loop-offer
-invariant-loop-offer l = grown (shown l.members.items) (all_allowed (map offer_of (drop l.offer-index l.offers))) ≡ grown [] (all_allowed (map offer_of l.offers))

@@ -1,7 +1,0 @@
-use Rattle.std.proofs.Common.{◌≡◌, map, take}
-use Rattle.spdx_requirement.specs.Items.{requirement_of}
-use Rattle.spdx_notice.specs.Choices.{those_in}
-use Rattle.spdx_notice.proofs.joint.members_in.Given as goal
-
-abbrev pub invariant-loop-licensee : goal.invariant-loop-licensee
-invariant-loop-licensee l = l.members.items ≡ those_in (map requirement_of l.some) (take l.licensee-index l.accepted)
