@@ -1,7 +1,7 @@
 //! Which listed licences may be meant by words that no reader takes.
 //!
 //! ```rust
-//! // crates/spdx_hint_rows/src/main.rt
+//! // crates/test_lists/src/hinted.rt
 //! let meant = hints(alloc, catalogue, given.as_bytes())?;
 //! ```
 //!

@@ -1,53 +1,52 @@
 // Rows, one by one.
 
-use crate::shown::{fault_text, tables_text};
+use crate::made::shown::{fault_text, tables_text};
 use spdx_catalogue::{Catalogue, Failure};
 use spdx_list::{Extras, ListFault, catalogue_of, list_text, tables_of};
 use spdx_tables::Tables;
 use std::alloc::{AllocError, Global};
+use test_rows::Tally;
 
-/// Which call the rows are of, and how many of them hold.
-#[derive(Drop)]
-pub struct Tally<'a> {
-    call: &'a str,
-    pub held: u64,
-    pub others: u64,
+// The call that rows are of.
+#[derive(Clone, Copy)]
+enum Call {
+    Made,
+    Instead,
 }
 
-impl<'a> Tally<'a> {
-    pub(crate) fn new() -> Tally<'a> {
-        Tally {
-            call: "",
-            held: 0,
-            others: 0,
+impl Call {
+    fn named(name: &str) -> Call {
+        if name == "made" {
+            Call::Made
+        } else {
+            Call::Instead
         }
     }
+}
 
-    /// Takes a line, and says what is to be printed of it.
-    pub(crate) fn take(&mut self, alloc: Global, line: &'a str) -> Result<String, AllocError> {
-        if let Some(call) = line.strip_prefix("= ") {
-            self.call = call;
-            return Ok(String::new(alloc));
+/// Appends the rows that don't hold, and how many do; gives whether all do.
+pub(crate) fn try_rows(alloc: Global, shown: &mut String, text: &str) -> Result<bool, AllocError> {
+    let mut tally = Tally::new();
+    let mut call = Call::Made;
+    for line in text.lines() {
+        if let Some(heading) = line.strip_prefix("= ") {
+            call = Call::named(heading);
+        } else if !line.is_empty() && !line.starts_with('#') {
+            let (given, wanted) = line.split_once(" => ").unwrap_or((line, ""));
+            let answered = answer(alloc, call, given)?;
+            let told = tally.count(alloc, line, wanted, answered.as_str())?;
+            shown.push_str(told.as_str())?;
         }
-        if line.is_empty() || line.starts_with('#') {
-            return Ok(String::new(alloc));
-        }
-        let (given, wanted) = line.split_once(" => ").unwrap_or((line, ""));
-        let shown = answer(alloc, self.call, given)?;
-        if shown.as_str() == wanted {
-            self.held = self.held.saturating_add(1);
-            return Ok(String::new(alloc));
-        }
-        self.others = self.others.saturating_add(1);
-        format!(in alloc; "{line}\n    answered: {shown}\n")
     }
+    shown.push_str(tally.line(alloc)?.as_str())?;
+    Ok(tally.is_good())
 }
 
 // What is answered, or the fault.
-fn answer(alloc: Global, call: &str, given: &str) -> Result<String, AllocError> {
+fn answer(alloc: Global, call: Call, given: &str) -> Result<String, AllocError> {
     let shown = match call {
-        "made" => made(alloc, given),
-        _ => instead(alloc, given),
+        Call::Made => made(alloc, given),
+        Call::Instead => instead(alloc, given),
     };
     match shown {
         Ok(text) => Ok(text),

@@ -1,6 +1,6 @@
 // The real list, made of files in SPDX's form.
 
-use crate::shown::{fault_text, tables_text};
+use crate::made::shown::{fault_text, tables_text};
 use spdx_catalogue::Failure;
 use spdx_known::{EXTRAS, LIST};
 use spdx_list::{Extras, ListFault, list_text, tables_of};

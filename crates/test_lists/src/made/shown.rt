@@ -4,12 +4,12 @@ use spdx_list::ListFault;
 use spdx_tables::Tables;
 use std::alloc::{AllocError, Global};
 
-pub(crate) fn fault_text(alloc: Global, fault: ListFault) -> Result<String, AllocError> {
+pub(super) fn fault_text(alloc: Global, fault: ListFault) -> Result<String, AllocError> {
     format!(in alloc; "fault: {fault}")
 }
 
 /// `VERSION; NAME@INDEX=FLAGS FULL NAME, ..; NAME@INDEX=FLAGS, ..; PREFIX>NAME, ..`
-pub(crate) fn tables_text(alloc: Global, tables: &Tables) -> Result<String, AllocError> {
+pub(super) fn tables_text(alloc: Global, tables: &Tables) -> Result<String, AllocError> {
     let mut text = String::from_str(alloc, tables.version.as_str())?;
     let mut before = "; ";
     for row in &tables.licenses {
