@@ -22,7 +22,7 @@ pub fn is_binary(bytes: &[u8]) -> bool
 /// that path: each is told at its line and column, with its line and carets under the fault. Bytes that are no text, as
 /// `is_binary` has it, have no tags. `is_first` says that no finding stands before these, which counts in SARIF alone.
 ///
-/// Linear in the file, but for its refused expressions, each of which costs what `spdx_check::check_one` does.
+/// Linear in the file, but for its refused expressions, each of which costs what `spdx_check::refusal_of` does.
 ///
 /// # Errors
 ///

@@ -68,15 +68,6 @@ abbrev pub found_text : Form → Bool → Spot → Option Wrong → List ℕ
 found_text form is_first spot None = []
 found_text form is_first spot (Some wrong) = finding_text form is_first (told_at spot wrong)
 
--- the finding of the bytes is written behind what was written, and they are refused if they have
--- one
-pub record ChecksOne (check : Check) (is_first : Bool) (spot : Spot) (bytes old new : List ℕ)
-    (is_refused : Bool) : Type 0 where
-  pub found : Option Wrong
-  pub is : IsTheFinding check.catalogue.now (heirs_in check) check.mode bytes found
-  pub written : new ≡ old ++ found_text check.form is_first spot found
-  pub refuses : is_refused ≡ is_some found
-
 -- ---- line by line
 
 -- the expression of a line, which is without a carriage return at its end

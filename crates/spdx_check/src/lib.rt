@@ -16,7 +16,7 @@ mod refusals;
 mod remembered;
 mod totals;
 
-pub use crate::check::{Check, check_one};
+pub use crate::check::Check;
 pub use crate::lines::{Checked, check_lines, expression_of};
 pub use crate::refusals::{Refusal, refusal_of};
 pub use crate::totals::Totals;

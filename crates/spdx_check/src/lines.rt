@@ -140,8 +140,8 @@ impl Verdicts for File<'_, '_> {
     }
 }
 
-/// Writes the finding of each line of the input that is refused, and counts the lines and the refused ones: `check_one`
-/// of each line's expression, which begins in the first column. A newline is not part of its line, and a carriage return
+/// Writes the finding of each line of the input that is refused, and counts the lines and the refused ones: what
+/// `refusal_of` says of each line's expression, which begins in the first column. A newline is not part of its line, and a carriage return
 /// at its end is not part of its expression; a last line without a newline is a line if it is not empty. A blank line,
 /// which is nothing but ASCII white space, is counted among the lines and has no finding: put anywhere between, it leaves
 /// the findings of the other lines as they are, but for their numbers. `file` names the input; `is_first` says that no

@@ -94,7 +94,15 @@ impl Refusal<'_> {
     }
 }
 
-/// What is wrong with the bytes of an expression, if anything is; cost as that of `check_one`.
+/// What is wrong with the bytes of an expression, if anything is: as the parser tells it, and as help the fix, where the
+/// expression has one; else, of a deprecated name, what the heirs say to write in its place; else the names of licences that
+/// the phrase at the fault may mean, where a name is wanted there: the fault is an unknown term or licence, a byte that
+/// begins no token, or a deprecated name. An heir is told as the one name that may be meant, since it mends the name alone
+/// and no reader has tried it. Bytes that are no UTF-8 are refused too: U+FFFD is shown for each invalid sequence, the first
+/// of which is the fault.
+///
+/// Linear in the expression's tokens, besides their look-up. One that is refused is read up to four times more, and for
+/// names each heir, or each row of the catalogue, is looked at.
 ///
 /// # Errors
 ///
