@@ -10,22 +10,22 @@
 mod rows;
 mod served;
 
-use crate::rows::Tally;
+use crate::rows::try_row;
 use std::process::ExitCode;
 use std::{env, fs, io};
+use test_rows::Tally;
 
 fn try_rows(rt: &HostRuntime, catalogue: &[u8], text: &str) -> io::Result<u8> {
-    let mut tally = Tally::new(catalogue);
+    let mut tally = Tally::new();
     for line in text.lines() {
         if line.is_empty() || line.starts_with('#') {
             continue;
         }
-        let shown = tally.take(rt.alloc(), line)?;
+        let shown = try_row(rt.alloc(), &mut tally, catalogue, line)?;
         print!(rt; "{shown}")?;
     }
-    let (held, others) = (tally.held, tally.others);
-    println!(rt; "{held} rows hold, {others} don't")?;
-    Ok(u8::from(others > 0))
+    rt.print(tally.line(rt.alloc())?.as_str())?;
+    Ok(u8::from(!tally.is_good()))
 }
 
 fn start(rt: &HostRuntime) -> io::Result<u8> {

@@ -1,42 +1,21 @@
 // Rows, one by one.
 
 use crate::served::{Served, serve_over, words_of};
-use row_texts::written_out;
 use std::alloc::{AllocError, Global};
+use test_rows::{Tally, written_out};
 
-/// How many rows hold, over this catalogue.
-#[derive(Drop)]
-pub struct Tally<'a> {
-    catalogue: &'a [u8],
-    pub held: u64,
-    pub others: u64,
-}
-
-impl<'a> Tally<'a> {
-    pub(crate) fn new(catalogue: &'a [u8]) -> Tally<'a> {
-        Tally {
-            catalogue,
-            held: 0,
-            others: 0,
-        }
-    }
-
-    /// Tries a row, and says what is to be printed of it.
-    pub(crate) fn take(&mut self, alloc: Global, row: &str) -> Result<String, AllocError> {
-        let row = written_out(alloc, row)?;
-        let (given, wanted) = row
-            .as_str()
-            .split_once(" => ")
-            .unwrap_or((row.as_str(), ""));
-        let shown = answer(alloc, self.catalogue, given)?;
-        if shown.as_str() == wanted {
-            self.held = self.held.saturating_add(1);
-            Ok(String::new(alloc))
-        } else {
-            self.others = self.others.saturating_add(1);
-            format!(in alloc; "{row}\n    answered: {shown}\n")
-        }
-    }
+/// Tries a row over this catalogue, and says what is to be printed of it.
+pub(crate) fn try_row(
+    alloc: Global,
+    tally: &mut Tally,
+    catalogue: &[u8],
+    row: &str,
+) -> Result<String, AllocError> {
+    let row = written_out(alloc, row)?;
+    let row = row.as_str();
+    let (given, wanted) = row.split_once(" => ").unwrap_or((row, ""));
+    let answered = answer(alloc, catalogue, given)?;
+    tally.count(alloc, row, wanted, answered.as_str())
 }
 
 // What is answered to the fields that are given.
