@@ -1,8 +1,8 @@
 // What packages are used under.
 
+use package_choices::allowed::{Joint, Offer, joint_choices};
 use spdx_catalogue::Catalogue;
 use spdx_gate::{Judged, Outcome, judge_text};
-use package_choices::allowed::{Joint, Offer, joint_choices};
 use spdx_parser::node::ExprNode;
 use spdx_policy::Policy;
 use spdx_why::Remedy;

@@ -6,10 +6,10 @@ use crate::policy::policy;
 use crate::several::Several;
 use crate::system::System;
 use crate::trouble::Trouble;
-use package_sources::{License, Package};
-use spdx::{Catalogue, Expression, Failure, LicenseReq, Licensee, ParseMode};
 use package_choices::accepted::{Unmet, own_choices};
 use package_choices::{RequirementTexts, texts_of};
+use package_sources::{License, Package};
+use spdx::{Catalogue, Expression, Failure, LicenseReq, Licensee, ParseMode};
 use spdx_words::{Accepted, NoticeRequest};
 use std::alloc::{AllocError, Global};
 
