@@ -1,5 +1,12 @@
-//! Which files of a package's folder are owed to those who get the package: the texts of the licences that were chosen,
-//! and what stands beside them.
+//! Which files of a package are owed to those who get it: the texts of the licences that were chosen, and what stands
+//! beside them.
+//!
+//! ```rust
+//! let owed = owed_files(alloc, &files, &["MIT", "Apache-2.0"], &["MIT"])?;
+//! // of LICENSE-MIT, LICENSE-APACHE and NOTICE these are the first and the last
+//! ```
+//!
+//! It decides by names alone, before the system is asked. It stands on nothing but std.
 #![tactic(auto)]
 
 ghost use Rattle.std.specs.Prelude.{◌≡◌, ◌++◌, IfOk, IfSome, Some, None, map, option_map, if◌then◌else◌, codes};

@@ -1,0 +1,5 @@
+pub mod Wording
+pub mod Holding
+pub mod Sharing
+pub mod Viewed
+pub mod Gathering
