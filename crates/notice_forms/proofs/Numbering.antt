@@ -31,7 +31,7 @@ numbered_pushed {X = X} f g xs i x l at old was now h k =
 
 -- what stands for a text past the last
 abbrev pub no_text : LicenseText
-no_text = record { name = record { ref_ptr = (0, 0); now = [] }; bytes = record { ref_ptr = (0, 0); now = [] } }
+no_text = record { name = record { ref_ptr = (0, 0); now = [] }; packages = record { ref_ptr = (0, 0); now = [] }; bytes = record { ref_ptr = (0, 0); now = [] } }
 
 pub text_pushed : (f : ℕ → Named → List ℕ) (texts : List LicenseText) (i : ℕ) → i < length texts → (old was now : List ℕ) →
     was ≡ old ++ numbered f 0 (map named (take i texts)) → now ≡ was ++ f i (named (get_or texts i no_text)) → now ≡ old ++ numbered f 0 (map named (take (i + 1) texts))

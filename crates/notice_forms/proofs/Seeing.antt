@@ -9,9 +9,9 @@ use Rattle.license_notice.specs.Rows.{Line, Band}
 use Rattle.notice_forms.specs.declared.style.TheConstants.{HTML_HEAD, HTML_STYLE}
 use Rattle.notice_forms.specs.Told.{Named, Told, package_count}
 use Rattle.notice_forms.specs.Numbered.{numbered}
-use Rattle.notice_forms.specs.Markup.{html_line, html_entry, html_text_entry, html_band, html_text}
+use Rattle.notice_forms.specs.Markup.{html_line, html_entry, html_text_entry, html_band, html_holders, html_text}
 use Rattle.notice_forms.specs.Html.{html_front, html_contents}
-use Rattle.notice_forms.specs.Seen.{untagged, said_line, said_entry, said_text_entry, said_band, said_text, said_contents, said_page, html_body, IsShown}
+use Rattle.notice_forms.specs.Seen.{untagged, said_line, said_entry, said_text_entry, said_band, said_holders, said_text, said_contents, said_page, html_body, IsShown}
 
 -- ---- pieces
 
@@ -173,8 +173,22 @@ band n b = then section (then (number n) (then heading (then (text b.requirement
 summary : Shows false (codes "<details><summary>") false []
 summary = record { go = λ rest out e. e }
 
-summary_end : Shows false (codes "</summary>\n<pre id=\"t") true (10 ∷ [])
+summary_end : Shows false (codes "</summary>\n") false (10 ∷ [])
 summary_end = record { go = λ rest out e. rw e refl }
+
+holders_begin : Shows false (codes "<ul>\n") false (10 ∷ [])
+holders_begin = record { go = λ rest out e. rw e refl }
+
+holders_end : Shows false (codes "</ul>\n") false (10 ∷ [])
+holders_end = record { go = λ rest out e. rw e refl }
+
+holders : (ls : List Line) → Shows false (html_holders ls) false (said_holders ls)
+unfolding html_holders
+holders [] = nothing
+holders (l ∷ ls) = then holders_begin (then (many html_line said_line line (l ∷ ls)) holders_end)
+
+text_begin : Shows false (codes "<pre id=\"t") true []
+text_begin = record { go = λ rest out e. e }
 
 folded : Shows true (codes "\">\n") false (10 ∷ [])
 folded = record { go = λ rest out e. rw e refl }
@@ -184,7 +198,7 @@ folded_end = record { go = λ rest out e. rw e refl }
 
 text_below : (n : ℕ) (t : Named) → Shows false (html_text n t) false (said_text t)
 unfolding html_text
-text_below n t = then summary (then (text t.name) (then summary_end (then (number n) (then folded (then (text t.bytes) folded_end)))))
+text_below n t = then summary (then (text t.name) (then summary_end (then (holders t.lines) (then text_begin (then (number n) (then folded (then (text t.bytes) folded_end)))))))
 
 -- ---- the page
 

@@ -61,12 +61,17 @@ StaysFenced bytes = (before after : List ℕ) → before ++ (fence bytes ++ afte
 abbrev pub last_newline : List ℕ → List ℕ
 last_newline bytes = if ends_with nat_eq bytes (10 ∷ []) then [] else 10 ∷ []
 
--- a text below its name, byte for byte
+-- the packages that have a text, where there are any, and an empty line
+unfoldable pub markdown_holders : List Line → List ℕ
+markdown_holders [] = []
+markdown_holders (l ∷ ls) = flat_map markdown_line (l ∷ ls) ++ codes "\n"
+
+-- a text below its name and its packages, byte for byte
 unfoldable pub markdown_text : Named → List ℕ
 markdown_text t =
     codes "\n### " ++ (span t.name ++
-    (codes "\n\n" ++ (fence t.bytes ++
-    (codes "text\n" ++ (t.bytes ++ (last_newline t.bytes ++ (fence t.bytes ++ codes "\n")))))))
+    (codes "\n\n" ++ (markdown_holders t.lines ++ (fence t.bytes ++
+    (codes "text\n" ++ (t.bytes ++ (last_newline t.bytes ++ (fence t.bytes ++ codes "\n"))))))))
 
 abbrev pub markdown_page : Told → List ℕ
 markdown_page p =

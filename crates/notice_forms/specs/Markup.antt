@@ -1,5 +1,5 @@
 -- What the page of HTML has of each package, requirement and text.
-use Rattle.std.specs.Prelude.{ℕ, List, ◌++◌, length, flat_map, codes, decimal}
+use Rattle.std.specs.Prelude.{ℕ, List, [], ◌∷◌, ◌++◌, length, flat_map, codes, decimal}
 use Rattle.html_text.specs.Text.{page_text}
 use Rattle.license_notice.specs.Rows.{Line, Band}
 use Rattle.notice_forms.specs.Told.{Named, package_count}
@@ -31,10 +31,18 @@ html_band n b =
     (page_text b.requirement ++
     (codes "</h3>\n<ul>\n" ++ (flat_map html_line b.lines ++ codes "</ul>\n</section>\n")))))
 
--- a text, folded; the newline before it is none of it for a browser, which drops one behind the tag
+-- the packages that have a text, where there are any
+unfoldable pub html_holders : List Line → List ℕ
+html_holders [] = []
+html_holders (l ∷ ls) =
+    codes "<ul>\n" ++ (flat_map html_line (l ∷ ls) ++ codes "</ul>\n")
+
+-- a text with its packages, folded; the newline before it is none of it for a browser, which drops
+-- one behind the tag
 unfoldable pub html_text : ℕ → Named → List ℕ
 html_text n t =
     codes "<details><summary>" ++
     (page_text t.name ++
-    (codes "</summary>\n<pre id=\"t" ++
-    (decimal n ++ (codes "\">\n" ++ (page_text t.bytes ++ codes "</pre>\n</details>\n")))))
+    (codes "</summary>\n" ++ (html_holders t.lines ++
+    (codes "<pre id=\"t" ++
+    (decimal n ++ (codes "\">\n" ++ (page_text t.bytes ++ codes "</pre>\n</details>\n")))))))

@@ -25,10 +25,11 @@ plain_band b = 10 ∷ (line_text b.requirement ++ (10 ∷ flat_map plain_line b.
 unfoldable pub plain_rule : List ℕ
 plain_rule = replicate 80 45 ++ 10 ∷ []
 
--- a text below its name, byte for byte, and a newline
+-- a text below its name and its packages, byte for byte, and a newline
 unfoldable pub plain_text : Named → List ℕ
 plain_text t =
-    10 ∷ (plain_rule ++ (line_text t.name ++ (10 ∷ (plain_rule ++ (t.bytes ++ 10 ∷ [])))))
+    10 ∷ (plain_rule ++ (line_text t.name ++
+    (10 ∷ (flat_map plain_line t.lines ++ (plain_rule ++ (t.bytes ++ 10 ∷ []))))))
 
 abbrev pub plain_page : Told → List ℕ
 plain_page p =

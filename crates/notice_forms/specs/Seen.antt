@@ -39,9 +39,16 @@ said_band b =
     10 ∷ (shown_text b.requirement ++
     (codes "\n\n" ++ (flat_map said_line b.lines ++ codes "\n\n")))
 
--- a text below its name
+-- the packages that have a text
+abbrev pub said_holders : List Line → List ℕ
+said_holders [] = []
+said_holders (l ∷ ls) = 10 ∷ (flat_map said_line (l ∷ ls) ++ 10 ∷ [])
+
+-- a text below its name and its packages
 abbrev pub said_text : Named → List ℕ
-said_text t = shown_text t.name ++ (codes "\n\n" ++ (shown_text t.bytes ++ codes "\n\n"))
+said_text t =
+    shown_text t.name ++
+    (10 ∷ (said_holders t.lines ++ (10 ∷ (shown_text t.bytes ++ codes "\n\n"))))
 
 abbrev pub said_contents : Told → List ℕ
 said_contents p =

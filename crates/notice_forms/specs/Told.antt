@@ -2,14 +2,15 @@
 use Rattle.std.specs.Prelude.{ℕ, ◌==◌, List, [], ◌++◌, map, codes, decimal, if◌then◌else◌}
 use Rattle.foreign_text.specs.declared.sinks.Sink.TheVariants.{Line}
 use Rattle.foreign_text.specs.Written.{text_for}
-use Rattle.license_notice.specs.Rows.{Band}
-use Rattle.license_notice.specs.Notices.{bands_of}
+use Rattle.license_notice.specs.Rows.{Line as PackageLine, Band}
+use Rattle.license_notice.specs.Notices.{line_of, bands_of}
 use Rattle.notice_forms.specs.declared.pages.LicenseText.{LicenseText}
 use Rattle.notice_forms.specs.declared.pages.Page.{Page}
 
--- a licence's text, or an exception's
+-- a licence's text, an exception's, or one that packages have of their own
 pub record Named : Type 0 where
   pub name : List ℕ
+  pub lines : List PackageLine
   pub bytes : List ℕ
 
 pub record Told : Type 0 where
@@ -18,7 +19,12 @@ pub record Told : Type 0 where
   pub texts : List Named
 
 abbrev pub named : LicenseText → Named
-named t = record { name = t.name.now; bytes = t.bytes.now }
+named t =
+    record { name = t.name.now; lines = map line_of t.packages.now; bytes = t.bytes.now }
+
+-- the same with these bytes
+abbrev pub with_bytes : LicenseText → List ℕ → Named
+with_bytes t bytes = record (named t) { bytes = bytes }
 
 abbrev pub told : Page → Told
 told p =

@@ -2,9 +2,9 @@
 
 ghost use Rattle.std.specs.Prelude.{◌≡◌, ◌++◌, OnOk, IfErr, flat_map, map, codes, decimal};
 ghost use Rattle.license_notice.specs.Notices.{line_of, band_of, bands_of};
-ghost use Rattle.notice_forms.specs.Told.{named, told};
+ghost use Rattle.notice_forms.specs.Told.{named, with_bytes, told};
 ghost use Rattle.notice_forms.specs.Numbered.{numbered};
-ghost use Rattle.notice_forms.specs.Markup.{html_line, html_entry, html_text_entry, html_band, html_text};
+ghost use Rattle.notice_forms.specs.Markup.{html_line, html_entry, html_text_entry, html_band, html_holders, html_text};
 ghost use Rattle.notice_forms.specs.Html.{html_front, html_contents, html_page, IsHtmlRefusal};
 
 use crate::errors::PageError;
@@ -98,7 +98,7 @@ fn put_entry(
 fn put_text_entries(
     alloc: Global,
     page: &mut Vec<u8>,
-    texts: &[LicenseText<'_>],
+    texts: &[LicenseText<'_, '_>],
 ) -> Result<(), AllocError>
     ensures { OnOk result (page.new.items
         ≡ page.old.items ++ numbered html_text_entry 0 (map named texts.now)) }
@@ -114,7 +114,7 @@ fn put_text_entry(
     alloc: Global,
     page: &mut Vec<u8>,
     number: usize,
-    text: &LicenseText<'_>,
+    text: &LicenseText<'_, '_>,
 ) -> Result<(), AllocError>
     ensures { OnOk result (page.new.items
         ≡ page.old.items ++ html_text_entry number (named text.now)) }
@@ -182,7 +182,7 @@ fn put_line(page: &mut Vec<u8>, release: &Release<'_>) -> Result<(), AllocError>
 fn put_texts<'t>(
     alloc: Global,
     page: &mut Vec<u8>,
-    texts: &[LicenseText<'t>],
+    texts: &[LicenseText<'_, 't>],
 ) -> Result<(), PageError<'t>>
     ensures ok { OnOk result (page.new.items
         ≡ page.old.items ++ numbered html_text 0 (map named texts.now)) }
@@ -192,9 +192,25 @@ fn put_texts<'t>(
         let Ok(words) = str::from_utf8(text.bytes) else {
             return Err(PageError::NotUtf8(text.name));
         };
-        put_folded(alloc, page, number, text.name, words)?;
+        put_folded(alloc, page, number, text, words)?;
     }
     Ok(())
+}
+
+// The packages that have a text, where there are any.
+#[tactic(auto, unfolding(crate::specs::Markup::html_holders))]
+fn put_holders(page: &mut Vec<u8>, packages: &[Release<'_>]) -> Result<(), AllocError>
+    ensures { OnOk result (page.new.items
+        ≡ page.old.items ++ html_holders (map line_of packages.now)) }
+{
+    match packages {
+        [] => Ok(()),
+        [_, ..] => {
+            page.extend_from_slice(b"<ul>\n")?;
+            put_lines(page, packages)?;
+            page.extend_from_slice(b"</ul>\n")
+        }
+    }
 }
 
 #[tactic(auto, unfolding(crate::specs::Markup::html_text))]
@@ -202,15 +218,17 @@ fn put_folded(
     alloc: Global,
     page: &mut Vec<u8>,
     number: usize,
-    name: &str,
+    text: &LicenseText<'_, '_>,
     words: &str,
 ) -> Result<(), AllocError>
     ensures { OnOk result (page.new.items ≡ page.old.items
-        ++ html_text number (record { name = name.now; bytes = words.now })) }
+        ++ html_text number (with_bytes text.now words.now)) }
 {
     page.extend_from_slice(b"<details><summary>")?;
-    put_text(page, name)?;
-    page.extend_from_slice(b"</summary>\n<pre id=\"t")?;
+    put_text(page, text.name)?;
+    page.extend_from_slice(b"</summary>\n")?;
+    put_holders(page, text.packages)?;
+    page.extend_from_slice(b"<pre id=\"t")?;
     put_number(alloc, page, number)?;
     page.extend_from_slice(b"\">\n")?;
     put_text(page, words)?;

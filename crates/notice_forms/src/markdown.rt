@@ -3,7 +3,7 @@
 ghost use Rattle.std.specs.Prelude.{◌≡◌, ◌≤◌, ◌++◌, OnOk, flat_map, length, map, replicate};
 ghost use Rattle.license_notice.specs.Notices.{line_of, band_of, bands_of};
 ghost use Rattle.notice_forms.specs.Told.{named, told};
-ghost use Rattle.notice_forms.specs.Markdown.{longest_run, pad, code_span, span, markdown_version, markdown_line, markdown_entry, markdown_band, fence, last_newline, markdown_text, markdown_page};
+ghost use Rattle.notice_forms.specs.Markdown.{longest_run, pad, code_span, span, markdown_version, markdown_line, markdown_entry, markdown_band, fence, last_newline, markdown_holders, markdown_text, markdown_page};
 
 use crate::lines::{put_line_text, put_package_count};
 use crate::pages::{LicenseText, Page};
@@ -160,7 +160,11 @@ fn put_version(alloc: Global, page: &mut Vec<u8>, version: &str) -> Result<(), A
     put_span(alloc, page, version)
 }
 
-fn put_texts(alloc: Global, page: &mut Vec<u8>, texts: &[LicenseText<'_>]) -> Result<(), AllocError>
+fn put_texts(
+    alloc: Global,
+    page: &mut Vec<u8>,
+    texts: &[LicenseText<'_, '_>],
+) -> Result<(), AllocError>
     ensures { OnOk result (page.new.items
         ≡ page.old.items ++ flat_map markdown_text (map named texts.now)) }
 {
@@ -170,12 +174,13 @@ fn put_texts(alloc: Global, page: &mut Vec<u8>, texts: &[LicenseText<'_>]) -> Re
     Ok(())
 }
 
-fn put_text(alloc: Global, page: &mut Vec<u8>, text: &LicenseText<'_>) -> Result<(), AllocError>
+fn put_text(alloc: Global, page: &mut Vec<u8>, text: &LicenseText<'_, '_>) -> Result<(), AllocError>
     ensures { OnOk result (page.new.items ≡ page.old.items ++ markdown_text (named text.now)) }
 {
     page.extend_from_slice(b"\n### ")?;
     put_span(alloc, page, text.name)?;
     page.extend_from_slice(b"\n\n")?;
+    put_holders(alloc, page, text.packages)?;
     put_fence(page, text.bytes)?;
     page.extend_from_slice(b"text\n")?;
     page.extend_from_slice(text.bytes)?;
@@ -183,6 +188,25 @@ fn put_text(alloc: Global, page: &mut Vec<u8>, text: &LicenseText<'_>) -> Result
     put_fence(page, text.bytes)?;
     page.extend_from_slice(b"\n")?;
     Ok(())
+}
+
+// The packages that have a text, and an empty line, where there are any.
+#[tactic(auto, unfolding(crate::specs::Markdown::markdown_holders))]
+fn put_holders(
+    alloc: Global,
+    page: &mut Vec<u8>,
+    packages: &[Release<'_>],
+) -> Result<(), AllocError>
+    ensures { OnOk result (page.new.items
+        ≡ page.old.items ++ markdown_holders (map line_of packages.now)) }
+{
+    match packages {
+        [] => Ok(()),
+        [_, ..] => {
+            put_lines(alloc, page, packages)?;
+            page.extend_from_slice(b"\n")
+        }
+    }
 }
 
 fn put_fence(page: &mut Vec<u8>, bytes: &[u8]) -> Result<(), AllocError>

@@ -1,11 +1,13 @@
 // What a page is made of.
 
-use license_notice::Group;
+use license_notice::{Group, Release};
 
-/// The text of a licence or of an exception, as its file has it.
+/// A text as its file has it: that of a licence or of an exception, or one that packages have of their own.
 #[derive(Clone, Copy, Debug)]
-pub struct LicenseText<'t> {
+pub struct LicenseText<'r, 't> {
     pub name: &'t str,
+    /// The packages that have it of their own, which are named beside it; none beside the text of a licence.
+    pub packages: &'r [Release<'t>],
     pub bytes: &'t [u8],
 }
 
@@ -15,7 +17,7 @@ pub struct LicenseText<'t> {
 pub struct Page<'r, 't> {
     pub title: &'t str,
     pub groups: &'r [Group<'t>],
-    pub texts: &'r [LicenseText<'t>],
+    pub texts: &'r [LicenseText<'r, 't>],
 }
 
 /// In which form a page is written.

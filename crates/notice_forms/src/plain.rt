@@ -99,7 +99,11 @@ fn put_version(alloc: Global, page: &mut Vec<u8>, version: &str) -> Result<(), A
     put_line_text(alloc, page, version)
 }
 
-fn put_texts(alloc: Global, page: &mut Vec<u8>, texts: &[LicenseText<'_>]) -> Result<(), AllocError>
+fn put_texts(
+    alloc: Global,
+    page: &mut Vec<u8>,
+    texts: &[LicenseText<'_, '_>],
+) -> Result<(), AllocError>
     ensures { OnOk result (page.new.items
         ≡ page.old.items ++ flat_map plain_text (map named texts.now)) }
 {
@@ -110,13 +114,14 @@ fn put_texts(alloc: Global, page: &mut Vec<u8>, texts: &[LicenseText<'_>]) -> Re
 }
 
 #[tactic(auto, unfolding(crate::specs::Plain::plain_text))]
-fn put_text(alloc: Global, page: &mut Vec<u8>, text: &LicenseText<'_>) -> Result<(), AllocError>
+fn put_text(alloc: Global, page: &mut Vec<u8>, text: &LicenseText<'_, '_>) -> Result<(), AllocError>
     ensures { OnOk result (page.new.items ≡ page.old.items ++ plain_text (named text.now)) }
 {
     page.push(b'\n')?;
     put_rule(page)?;
     put_line_text(alloc, page, text.name)?;
     page.push(b'\n')?;
+    put_lines(alloc, page, text.packages)?;
     put_rule(page)?;
     page.extend_from_slice(text.bytes)?;
     page.push(b'\n')?;

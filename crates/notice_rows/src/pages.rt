@@ -120,6 +120,7 @@ fn put_shown(
     for name in notice.texts.as_slice() {
         texts.push(LicenseText {
             name,
+            packages: &[],
             bytes: text_of(name).unwrap_or("").as_bytes(),
         })?;
     }

@@ -102,12 +102,13 @@ fn licenses<'t>(
     alloc: Global,
     names: &[&str],
     held: &'t [HeldText],
-) -> Result<Vec<LicenseText<'t>>, AllocError> {
+) -> Result<Vec<LicenseText<'t, 't>>, AllocError> {
     let mut licenses = Vec::new(alloc);
     for name in names {
         if let Some(text) = held.iter().find(|text| text.name.as_str() == *name) {
             licenses.push(LicenseText {
                 name: text.name.as_str(),
+                packages: &[],
                 bytes: text.bytes.as_slice(),
             })?;
         }

@@ -1,6 +1,6 @@
 use Rattle.std.proofs.Common.{ℕ, List, ◌++◌, ◌∙◌, ap, refl, get_or, arith}
 use Rattle.std.proofs.lemmas.List.{length-map, get_or-map}
-use Rattle.notice_forms.specs.Told.{Named, named}
+use Rattle.notice_forms.specs.Told.{Named, named, with_bytes}
 use Rattle.notice_forms.specs.Markup.{html_text}
 use Rattle.notice_forms.proofs.Numbering.{no_text, text_pushed}
 use Rattle.notice_forms.proofs.html.put_texts.Goals as goal
@@ -14,6 +14,6 @@ returns-in_default-clause-err c =
 
 pub loop-number-preserved : goal.loop-number-preserved
 loop-number-preserved c =
-    let name = (get_or c.args.texts.now c.loop-number.number no_text).name.now in
-    let words : List ℕ → List ℕ = λ b. c.loop-number.page.items ++ html_text c.loop-number.number (record { name = name; bytes = b }) in
+    let text = get_or c.args.texts.now c.loop-number.number no_text in
+    let words : List ℕ → List ℕ = λ b. c.loop-number.page.items ++ html_text c.loop-number.number (with_bytes text b) in
     text_pushed html_text c.args.texts.now c.loop-number.number c.loop-number-test.true _ _ _ c.loop-number.invariant (c.in_ok-put_folded.ensures ∙ ap words c.in-Ok.ensures.cases.0)
