@@ -25,7 +25,8 @@ ends text ending =
 abbrev pub is_separator : ℕ → Bool
 is_separator b = b == 45 || (b == 46 || (b == 95 || b == 32))
 
--- the text without the `-`, `.`, `_` or blank that it begins with, and nothing where it begins otherwise
+-- the text without the `-`, `.`, `_` or blank that it begins with, and nothing where it begins
+-- otherwise
 abbrev pub behind_separator : List ℕ → List ℕ
 behind_separator [] = []
 behind_separator (b ∷ bytes) = if is_separator b then bytes else []

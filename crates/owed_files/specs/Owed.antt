@@ -20,7 +20,8 @@ is_license_name name =
 -- the name is one by which texts go that stand beside a license
 abbrev pub is_beside_name : List ℕ → Bool
 is_beside_name name =
-    begins name (codes "copyright") || (begins name (codes "notice") || begins name (codes "authors"))
+    begins name (codes "copyright")
+    || (begins name (codes "notice") || begins name (codes "authors"))
 
 -- the package gives the file as a text: it declares it, or the name says so
 abbrev pub is_text : Seen → Bool
@@ -42,7 +43,8 @@ is_owed offered chosen f = is_text f && not (is_of_others offered chosen (name_i
 abbrev pub owed : List (List ℕ) → List (List ℕ) → List Seen → List Seen
 owed offered chosen files = filter (is_owed offered chosen) files
 
--- a text may be owed where its name says a license that is chosen, or none of those that are offered
+-- a text may be owed where its name says a license that is chosen, or none of those that are
+-- offered
 abbrev pub MayBeOwed : List (List ℕ) → List (List ℕ) → Seen → Type 0
 MayBeOwed offered chosen f =
     (is_text f ≡ true) ×

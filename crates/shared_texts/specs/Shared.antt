@@ -47,7 +47,8 @@ gathered texts =
 
 -- ---- laws
 
--- each file's text is there, as it is or the same but for white space, and the file stands beside it
+-- each file's text is there, as it is or the same but for white space, and the file stands beside
+-- it
 abbrev pub StandsIn : List Shared → Own → Type 0
 StandsIn found t =
     (s : Shared) × Contains found s × (is_same s.bytes t.bytes ≡ true) × Contains s.holders t.holder
