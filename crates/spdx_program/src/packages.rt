@@ -1,12 +1,13 @@
 // The packages that the files list.
 
 use crate::console::Console;
-use crate::system::{System, bytes_of, input_bytes, paths_or_input};
+use crate::system::{System, paths_or_input};
 use crate::trouble::Trouble;
 use document_references::shared_references;
-use package_sources::{
-    Form, License, Package, Pointers, SourceError, form_of, packages, packages_at,
-};
+pub(crate) use package_files::Listed;
+use package_files::listed_at;
+use package_sources::{Form, License, Package, Pointers};
+use shelves::SystemShelf;
 use spdx_gate::Package as Judged;
 use spdx_words::{Source, SourceForm};
 use std::alloc::{AllocError, Global};
@@ -14,16 +15,6 @@ use std::io::Write;
 
 // How many references are told by name.
 const MOST_NAMED: usize = 5;
-
-/// The packages of a file.
-#[derive(Drop)]
-pub(crate) struct Listed {
-    /// The file, as it is told.
-    pub(crate) path: String,
-    /// The form that it was read in, if its shape told that.
-    pub(crate) guessed: Option<Form>,
-    pub(crate) packages: Vec<Package>,
-}
 
 /// A package, as a policy judges it.
 pub(crate) fn view(package: &Package) -> Judged<'_> {
@@ -72,7 +63,7 @@ pub(crate) fn read_all<R: System, O: Write + Drop, F: Write + Drop>(
     let mut files = Vec::new(alloc);
     let mut status = 0;
     for path in paths_or_input(wanted.paths) {
-        match listed_in(rt, wanted, *path) {
+        match wanted_in(rt, wanted, *path) {
             Ok(listed) => files.push(listed)?,
             Err(trouble) if trouble.is_passed_over() => status = console.tell(alloc, &trouble),
             Err(trouble) => return Err(trouble),
@@ -83,6 +74,17 @@ pub(crate) fn read_all<R: System, O: Write + Drop, F: Write + Drop>(
         tell_shared(alloc, wanted.source, &files, console)?;
     }
     Ok(AllListed { files, status })
+}
+
+// The packages that are wanted of a file.
+fn wanted_in<R: System>(rt: &R, wanted: Wanted<'_>, path: &str) -> Result<Listed, Trouble> {
+    let each = package_files::Wanted {
+        source: read_as(wanted.source),
+        allow_empty: wanted.allow_empty,
+        exclude_own: wanted.exclude_own,
+    };
+    let listed = listed_at(rt.alloc(), &SystemShelf::new(rt), each, path)?;
+    Ok(listed)
 }
 
 // Tells which references several of SPDX's documents have, the first five of them by name.
@@ -161,98 +163,33 @@ fn is_guessed(file: &Listed, name: &str) -> bool {
     }
 }
 
-/// The packages of a baseline: what an earlier run wrote as JSON, or a file as the others are. Where no byte of it isn't
-/// blank, there are none.
+/// The packages of a baseline, which is read as the other files are, or is what an earlier run wrote.
 pub(crate) fn listed_before<R: System>(
     rt: &R,
     source: Source<'_>,
     path: &str,
 ) -> Result<Listed, Trouble> {
-    let alloc = rt.alloc();
-    let bytes = bytes_of(rt, path)?;
-    if bytes.iter().all(u8::is_ascii_whitespace) {
-        return Ok(Listed {
-            path: String::from_str(alloc, path)?,
-            guessed: None,
-            packages: Vec::new(alloc),
-        });
-    }
-    match form_of(alloc, &bytes) {
-        Ok(Form::Verdicts) => read(alloc, Source::Auto, path, &bytes),
-        _ => read(alloc, source, path, &bytes),
-    }
-}
-
-// The packages that are wanted of a file.
-fn listed_in<R: System>(rt: &R, wanted: Wanted<'_>, path: &str) -> Result<Listed, Trouble> {
-    let mut listed = all_in(rt, wanted.source, path)?;
-    if listed.packages.is_empty() && !wanted.allow_empty {
-        let Listed { path, .. } = listed;
-        return Err(Trouble::Empty(path));
-    }
-    if wanted.exclude_own {
-        listed.packages.retain(|package| !package.is_own);
-    }
+    let shelf = SystemShelf::new(rt);
+    let listed = package_files::listed_before(rt.alloc(), &shelf, read_as(source), path)?;
     Ok(listed)
 }
 
-fn all_in<R: System>(rt: &R, source: Source<'_>, path: &str) -> Result<Listed, Trouble> {
-    let alloc = rt.alloc();
-    if path == "-" {
-        return read(alloc, source, "<stdin>", &input_bytes(rt)?);
-    }
-    read(alloc, source, path, &bytes_of(rt, path)?)
-}
-
-fn read(alloc: Global, source: Source<'_>, path: &str, bytes: &[u8]) -> Result<Listed, Trouble> {
-    match read_as(alloc, source, path, bytes) {
-        Ok((guessed, packages)) => Ok(Listed {
-            path: String::from_str(alloc, path)?,
-            guessed,
-            packages,
-        }),
-        Err(SourceError::NoMemory) => Err(Trouble::Memory),
-        Err(SourceError::Refused(fault)) => {
-            Err(Trouble::Source(String::from_str(alloc, path)?, fault))
-        }
-    }
-}
-
-// The packages of a file, and the form that its shape told if none was named.
-fn read_as(
-    alloc: Global,
-    source: Source<'_>,
-    path: &str,
-    bytes: &[u8],
-) -> Result<(Option<Form>, Vec<Package>), SourceError> {
+// How files are read.
+fn read_as(source: Source<'_>) -> package_files::Source<'_> {
     match source {
-        Source::Auto => {
-            let form = form_of(alloc, bytes)?;
-            Ok((Some(form), packages(alloc, form, folder_of(path), bytes)?))
-        }
-        Source::Named(form) => { Ok((None, packages(alloc, named(form), folder_of(path), bytes)?)) }
+        Source::Auto => package_files::Source::Auto,
+        Source::Named(form) => package_files::Source::Named(named(form)),
         Source::At {
             each,
             name,
             version,
             license,
-        } => {
-            let pointers = Pointers {
-                each,
-                name,
-                version,
-                license,
-            };
-            Ok((None, packages_at(alloc, &pointers, bytes)?))
-        }
-    }
-}
-
-// The folder that a file is in, as its path says it.
-fn folder_of(path: &str) -> &str {
-    match path.rsplit_once('/') {
-        Some((folder, _)) => folder,
-        None => "",
+        } => package_files::Source::At(Pointers {
+            each,
+            name,
+            version,
+            license,
+        }),
     }
 }
 

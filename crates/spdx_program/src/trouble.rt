@@ -5,6 +5,7 @@ use foreign_text::{Sink, text_for};
 use line_engine::device::Failed;
 use line_engine::lines::RunFault;
 use list_program::ListTrouble;
+use package_files::FileFault;
 use package_sources::SourceFault;
 use spdx::ReadFault;
 use spdx_list::ListFault;
@@ -112,6 +113,17 @@ impl From<ListTrouble> for Trouble {
             ListTrouble::NoExtras(fault) => Trouble::NoExtras(fault),
             ListTrouble::Output => Trouble::Output,
             ListTrouble::Memory => Trouble::Memory,
+        }
+    }
+}
+
+impl From<FileFault> for Trouble {
+    fn from(fault: FileFault) -> Trouble {
+        match fault {
+            FileFault::Unreadable(path, error) => Trouble::of_path(path, error),
+            FileFault::Source(path, fault) => Trouble::Source(path, fault),
+            FileFault::Empty(path) => Trouble::Empty(path),
+            FileFault::Memory => Trouble::Memory,
         }
     }
 }
