@@ -49,7 +49,12 @@ pub fn compare_texts<'t>(
     }
 }
 
-fn compare_nodes<'c>(
+/// The same of expressions that are read.
+///
+/// # Errors
+///
+/// Too many sets are made of one, or memory was refused; the first one's are made first.
+pub fn compare_nodes<'c>(
     alloc: Global,
     one: &[ExprNode<'c>],
     other: &[ExprNode<'c>],

@@ -14,6 +14,6 @@ pub mod comparison;
 mod meaning;
 mod reading;
 
-pub use crate::comparison::{Comparison, compare_texts};
+pub use crate::comparison::{Comparison, compare_nodes, compare_texts};
 pub use crate::meaning::meaning_of;
 pub use crate::reading::Unmeant;
