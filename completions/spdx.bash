@@ -29,19 +29,28 @@ _spdx() {
         'notice --package-version') return ;;
         'notice --license') return ;;
         'notice --list') return ;;
+        'diff --format') words='text json markdown' ;;
+        'diff --policy') return ;;
+        'diff --from') words='auto lines tsv csv verdicts cargo npm composer pip cyclonedx spdx spdx-3 license-checker pnpm metadata' ;;
+        'diff --each') return ;;
+        'diff --name') return ;;
+        'diff --package-version') return ;;
+        'diff --license') return ;;
+        'diff --list') return ;;
         'compare --list') return ;;
         'simplify --list') return ;;
     esac
     if [[ -n $words ]]; then
         :
     elif ((COMP_CWORD == 1)); then
-        words='check fix gate notice compare simplify list help'
+        words='check fix gate notice diff compare simplify list help'
     elif [[ $now == -* ]]; then
         case "$command" in
             check) words='--format --strict --lax --headers --manifests --as --texts --untagged --list --quiet --no-summary --help' ;;
             fix) words='--write --break-links --headers --manifests --as --list --help' ;;
             gate) words='--policy --format --baseline --explain --quiet --allow-empty --no-unused --exclude-own --from --header --each --name --package-version --license --list --help' ;;
             notice) words='--accept --policy --texts --without-texts --follow --plain --lax --one-for-all --format --exclude-own --from --header --each --name --package-version --license --list --help' ;;
+            diff) words='--format --policy --allow-empty --no-summary --exclude-own --from --header --each --name --package-version --license --list --help' ;;
             compare) words='--lax --list --help' ;;
             simplify) words='--lax --list --help' ;;
             list) words='--help' ;;

@@ -109,8 +109,8 @@ fn all_rows<'t>(
     Ok(all)
 }
 
-// The package's name, unless that is the number of its line, which changes as lines come and go.
-fn told_name(package: &Package) -> &str {
+/// The package's name, unless that is the number of its line, which changes as lines come and go.
+pub(crate) fn told_name(package: &Package) -> &str {
     let name = package.name.as_str();
     if matches!(package.spot, Spot::Line(_)) && name.starts_with("line ") {
         return "";

@@ -1,6 +1,7 @@
 //! The program `spdx` over the system: the files, standard input and the list, for what the command line asks.
 //!
-//! Each command is a file: `check`, `fix`, `gate`, `notice`, `compare`, `simplify`, `show`, `make` and `diff`. `docs/ARCHITECTURE.md` draws which
+//! Each command is a file: `check`, `fix`, `gate`, `notice`, `compare`, `simplify`, `show`, `make`, `diff` (of lists)
+//! and `changes` (of packages). `docs/ARCHITECTURE.md` draws which
 //! calls it makes.
 //!
 //! ```rust
@@ -13,6 +14,7 @@
 
 mod allowed;
 mod baseline;
+mod changes;
 mod check;
 mod chosen;
 mod compare;
@@ -36,6 +38,7 @@ mod show;
 mod simplify;
 mod sums;
 mod system;
+mod told;
 mod trouble;
 mod walk;
 mod wanted;

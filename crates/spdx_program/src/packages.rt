@@ -127,8 +127,8 @@ fn is_document(source: Source<'_>, file: &Listed) -> bool {
     ) || matches!(file.guessed, Some(Form::Spdx | Form::SpdxThree))
 }
 
-// Tells each form that some file was read as without being asked, with that file, or how many they are.
-fn tell_forms<O: Write + Drop, F: Write + Drop>(
+/// Tells each form that some file was read as without being asked, with that file, or how many they are.
+pub(crate) fn tell_forms<O: Write + Drop, F: Write + Drop>(
     alloc: Global,
     files: &[Listed],
     console: &mut Console<O, F>,

@@ -1,5 +1,6 @@
 // What is asked for, done.
 
+use crate::changes::changes;
 use crate::check::check;
 use crate::compare::compare;
 use crate::console::{Console, Hushed, Screen};
@@ -45,6 +46,7 @@ pub fn run<R: System, O: Write + Drop, F: Write + Drop>(
         Request::Show(request) => show(rt, request, &mut console),
         Request::Make(request) => make(rt, request, &mut console),
         Request::Diff(request) => diff(rt, request, &mut console),
+        Request::Changes(request) => changes(rt, request, &mut console),
     };
     match end {
         Ok(status) => status,

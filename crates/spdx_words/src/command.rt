@@ -1,6 +1,6 @@
 // The command line that is understood.
 
-use crate::packages_command::{gate, notice};
+use crate::packages_command::{diff, gate, notice};
 use clap::{Arg, ArgAction, Command};
 use std::alloc::{AllocError, Global};
 
@@ -90,6 +90,8 @@ const EXAMPLES: &str = "Examples:
                                      which packages a policy refuses, and why
   spdx notice --accept MIT,Apache-2.0 --texts texts --from cargo metadata.json
                                      the page that says who is owed what
+  spdx diff --from cargo old.json new.json
+                                     which packages came and went, and whose license changed
   spdx compare 'MIT OR Apache-2.0' MIT
                                      which of two expressions asks for more
   spdx list show Apache-2.0          what the list says of a name";
@@ -107,6 +109,7 @@ pub(crate) fn command<'a>(alloc: Global, version: &'a str) -> Result<Command<'a>
         .subcommand(fix(alloc)?)?
         .subcommand(gate(alloc)?)?
         .subcommand(notice(alloc)?)?
+        .subcommand(diff(alloc)?)?
         .subcommand(compare(alloc)?)?
         .subcommand(simplify(alloc)?)?
         .subcommand(list(alloc)?)
@@ -285,7 +288,7 @@ pub(crate) fn paths<'a>(alloc: Global) -> Arg<'a> {
         .help("The files that are read; `-` or none is standard input")
 }
 
-fn file<'a>(alloc: Global, name: &'a str, help: &'a str) -> Arg<'a> {
+pub(crate) fn file<'a>(alloc: Global, name: &'a str, help: &'a str) -> Arg<'a> {
     Arg::new(alloc, name)
         .required(true)
         .action(ArgAction::Set)

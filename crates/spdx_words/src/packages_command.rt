@@ -1,6 +1,6 @@
 // The commands over packages.
 
-use crate::command::{flag, list_file, paths};
+use crate::command::{file, flag, list_file, paths};
 use clap::{Arg, ArgAction, Command};
 use std::alloc::{AllocError, Global};
 
@@ -15,6 +15,12 @@ const NOTICE_EXAMPLE: &str = "Example:
 
 Status: 0 the page is written, 1 some package has no choice that is accepted, 2 wrong words, list, policy, file or
 license text, 3 a write or memory failed. No page is written but with 0.";
+
+const DIFF_EXAMPLE: &str = "Example:
+  spdx diff --from cargo --policy policy.toml --format markdown before.json after.json > comment.md
+
+Status: 0 the changes are told, 1 the policy refuses a package that came or changed, 2 wrong words, list, policy or file,
+3 a write or memory failed.";
 
 /// The command `gate`.
 pub(crate) fn gate<'a>(alloc: Global) -> Result<Command<'a>, AllocError> {
@@ -121,6 +127,42 @@ pub(crate) fn notice<'a>(alloc: Global) -> Result<Command<'a>, AllocError> {
     sources(alloc, notice)?
         .arg(list_file(alloc))?
         .arg(paths(alloc))
+}
+
+/// The command `diff`.
+pub(crate) fn diff<'a>(alloc: Global) -> Result<Command<'a>, AllocError> {
+    let form = Arg::new(alloc, "format")
+        .long("format")
+        .value_name("FORM")
+        .value_parser(["text", "json", "markdown"].as_slice())
+        .default_value("text")
+        .help("How changes are written");
+    let diff = Command::new(alloc, "diff")
+        .about(
+            "Tells which packages came and went between two files, and whose license changed, and how",
+        )
+        .after_help(DIFF_EXAMPLE)
+        .arg(form)?
+        .arg(option(
+            alloc,
+            "policy",
+            "FILE",
+            "Marks what the policy refuses of what came or changed, and fails on it",
+        ))?
+        .arg(flag(
+            alloc,
+            "allow-empty",
+            "Lets a file pass that lists no package",
+        ))?
+        .arg(flag(
+            alloc,
+            "no-summary",
+            "Leaves out the last line with the totals",
+        ))?;
+    sources(alloc, diff)?
+        .arg(list_file(alloc))?
+        .arg(file(alloc, "OLD", "The older file"))?
+        .arg(file(alloc, "NEW", "The newer file"))
 }
 
 /// Adds the arguments that say what the files are.

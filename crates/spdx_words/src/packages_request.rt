@@ -49,6 +49,14 @@ pub enum GateForm {
     Html,
 }
 
+/// How changes are written.
+#[derive(Clone, Copy, PartialEq, Eq, Debug)]
+pub enum ChangesForm {
+    Text,
+    Json,
+    Markdown,
+}
+
 /// How a page is written.
 #[derive(Clone, Copy, PartialEq, Eq, Debug)]
 pub enum PageForm {
@@ -78,6 +86,25 @@ pub struct GateRequest<'w> {
     /// Whether packages of one's own project are left out.
     pub exclude_own: bool,
     pub paths: Vec<&'w str>,
+}
+
+/// Between which files changes are told, and how.
+#[derive(Drop)]
+pub struct ChangesRequest<'w> {
+    /// The list's file or folder; the list inside the program where there is none.
+    pub list: Option<&'w str>,
+    /// A policy that marks what it refuses of what came or changed.
+    pub policy: Option<&'w str>,
+    pub source: Source<'w>,
+    pub form: ChangesForm,
+    /// Whether a file that lists no package passes.
+    pub allow_empty: bool,
+    /// Whether packages of one's own project are left out.
+    pub exclude_own: bool,
+    /// Whether the totals are told.
+    pub tells_totals: bool,
+    pub old: &'w str,
+    pub new: &'w str,
 }
 
 /// What may be chosen.

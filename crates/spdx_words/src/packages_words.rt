@@ -1,7 +1,8 @@
 // Words to requests of the commands over packages.
 
 use crate::packages_request::{
-    Accepted, GateForm, GateRequest, NoticeRequest, PageForm, Source, SourceForm,
+    Accepted, ChangesForm, ChangesRequest, GateForm, GateRequest, NoticeRequest, PageForm, Source,
+    SourceForm,
 };
 use crate::request::Request;
 use crate::words::{no_file, refused, texts};
@@ -54,6 +55,27 @@ pub(crate) fn notice_request<'w>(
         exclude_own: matches.get_flag("exclude-own"),
         form: page_form(matches.get_str("format")),
         paths: texts(alloc, matches, "PATH")?,
+    }))
+}
+
+/// What the words behind `diff` ask for. Both files are required, so there is one.
+pub(crate) fn changes_request<'w>(
+    alloc: Global,
+    matches: &ArgMatches<'w>,
+) -> Result<Request<'w>, Error> {
+    let (Some(old), Some(new)) = (matches.get_str("OLD"), matches.get_str("NEW")) else {
+        return Err(no_file(alloc));
+    };
+    Ok(Request::Changes(ChangesRequest {
+        list: matches.get_str("list"),
+        policy: matches.get_str("policy"),
+        source: source(alloc, matches)?,
+        form: changes_form(matches.get_str("format")),
+        allow_empty: matches.get_flag("allow-empty"),
+        exclude_own: matches.get_flag("exclude-own"),
+        tells_totals: !matches.get_flag("no-summary"),
+        old,
+        new,
     }))
 }
 
@@ -125,6 +147,14 @@ fn gate_form(name: Option<&str>) -> GateForm {
         Some("sarif") => GateForm::Sarif,
         Some("html") => GateForm::Html,
         _ => GateForm::Human,
+    }
+}
+
+fn changes_form(name: Option<&str>) -> ChangesForm {
+    match name {
+        Some("json") => ChangesForm::Json,
+        Some("markdown") => ChangesForm::Markdown,
+        _ => ChangesForm::Text,
     }
 }
 

@@ -1,6 +1,6 @@
 // What a command line asks for.
 
-use crate::packages_request::{GateRequest, NoticeRequest};
+use crate::packages_request::{ChangesRequest, GateRequest, NoticeRequest};
 
 /// What the program is to do.
 #[derive(Drop)]
@@ -23,6 +23,8 @@ pub enum Request<'w> {
     Make(MakeRequest<'w>),
     /// `list diff`.
     Diff(DiffRequest<'w>),
+    /// `diff`.
+    Changes(ChangesRequest<'w>),
 }
 
 /// How findings are written.

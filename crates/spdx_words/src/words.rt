@@ -1,7 +1,7 @@
 // Words to requests.
 
 use crate::command::command;
-use crate::packages_words::{gate_request, notice_request};
+use crate::packages_words::{changes_request, gate_request, notice_request};
 use crate::request::{
     CheckRequest, CompareRequest, DiffRequest, FixRequest, Form, MakeRequest, Request, ShowRequest,
     SimplifyRequest, Wanted,
@@ -27,6 +27,7 @@ pub fn read<'w>(
         Some(("fix", matches)) => Ok(Request::Fix(fix_request(alloc, matches)?)),
         Some(("gate", matches)) => gate_request(alloc, matches),
         Some(("notice", matches)) => notice_request(alloc, matches),
+        Some(("diff", matches)) => changes_request(alloc, matches),
         Some(("compare", matches)) => compare_request(alloc, matches),
         Some(("simplify", matches)) => Ok(Request::Simplify(SimplifyRequest {
             list: matches.get_str("list"),
