@@ -1,0 +1,174 @@
+// What is told of the packages of a run, and whether they pass.
+
+ghost use Rattle.std.specs.Prelude.{◌≡◌, ◌++◌, IfOk, OnOk};
+ghost use Rattle.gate_program.specs.Texts as spec;
+ghost use Rattle.gate_program.specs.Texts.{IsToldText, behind_verdicts, told_text};
+
+use crate::gated::Gated;
+use crate::named::named_in;
+use crate::tellings::{details_of, shown_of};
+use finding_forms::Style;
+use gate_forms::{Report as Told, put_known};
+use gate_told::{
+    Form, are_gathered, put_all_unused, put_explanations, put_needs, put_verdicts, told_packages,
+    told_totals,
+};
+use spdx_catalogue::Catalogue;
+use spdx_gate::Report;
+use spdx_policy::Policy;
+use std::alloc::{AllocError, Global};
+
+/// How a run is told.
+#[derive(Clone, Copy)]
+pub struct Look<'e> {
+    /// The form of the verdicts.
+    pub form: Form<'e>,
+    /// The style in which packages are explained.
+    pub style: Style,
+    /// The name of the packages that are explained, in the place of all verdicts.
+    pub explain: Option<&'e str>,
+    /// Whether it is told which entries of the policy are of no use.
+    pub tells_unused: bool,
+}
+
+/// What is told.
+#[derive(Drop)]
+pub struct GateText {
+    pub bytes: Vec<u8>,
+    /// Whether no package is refused whose refusal isn't known.
+    pub is_passed: bool,
+}
+
+/// What is told of the packages, by a policy of this path: the verdicts in their form; and where people read them, what is
+/// known, or else what would make the packages pass, and what of the policy is of no use.
+///
+/// # Errors
+///
+/// Memory was refused.
+pub fn gate_text(
+    alloc: Global,
+    catalogue: &Catalogue,
+    policy: &Policy<'_>,
+    path: &str,
+    look: Look<'_>,
+    gated: &Gated<'_>,
+) -> Result<GateText, AllocError>
+    ensures { IfOk result (λ text.
+        IsToldText catalogue.now policy.now path.now look.entry gated.now text) }
+{
+    let shown = shown_of(alloc, catalogue, policy, &gated.report.judgements)?;
+    let details = details_of(alloc, &shown)?;
+    let packages = named_in(alloc, &gated.files)?;
+    let told = told_packages(
+        alloc,
+        path,
+        &packages,
+        &gated.report.rows,
+        &details,
+        gated.known(),
+    )?;
+    let mut bytes = Vec::new(alloc);
+    put_told(alloc, &mut bytes, policy, path, look, gated, &told)?;
+    let is_passed = are_passed(&told);
+    Ok(GateText { bytes, is_passed })
+}
+
+// Whether no package is refused whose refusal isn't known.
+fn are_passed(told: &[Told<'_>]) -> bool
+    ensures { result ≡ spec.are_passed told.now }
+{
+    told.iter().all(is_passed)
+}
+
+fn is_passed(told: &Told<'_>) -> bool
+    ensures { result ≡ spec.is_passed told.now }
+{
+    !told.verdict.is_refused() || told.is_known()
+}
+
+fn put_told(
+    alloc: Global,
+    text: &mut Vec<u8>,
+    policy: &Policy<'_>,
+    path: &str,
+    look: Look<'_>,
+    gated: &Gated<'_>,
+    told: &[Told<'_>],
+) -> Result<(), AllocError>
+    ensures { OnOk result (text.new.items ≡ text.old.items
+        ++ told_text look.entry policy.now path.now gated.now told.now) }
+{
+    if let Some(name) = look.explain {
+        return put_explanations(alloc, text, look.style, name, told);
+    }
+    let totals = told_totals(&gated.report);
+    put_verdicts(alloc, text, look.form, path, &totals, told)?;
+    put_behind(alloc, text, look.form, gated, told)?;
+    if look.tells_unused && is_for_people(look.form) {
+        put_all_unused(alloc, text, path, policy, &gated.report)?;
+    }
+    Ok(())
+}
+
+// What stands behind the verdicts: the refusals that are known, or what the packages need.
+fn put_behind(
+    alloc: Global,
+    text: &mut Vec<u8>,
+    form: Form<'_>,
+    gated: &Gated<'_>,
+    told: &[Told<'_>],
+) -> Result<(), AllocError>
+    ensures { OnOk result (text.new.items ≡ text.old.items
+        ++ behind_verdicts form.entry gated.now told.now) }
+{
+    match gated.older_path() {
+        Some(older) => put_all_known(alloc, text, form, older, told),
+        None => put_all_needs(alloc, text, form, &gated.report),
+    }
+}
+
+fn put_all_known(
+    alloc: Global,
+    text: &mut Vec<u8>,
+    form: Form<'_>,
+    older: &str,
+    told: &[Told<'_>],
+) -> Result<(), AllocError>
+    ensures { OnOk result (text.new.items ≡ text.old.items
+        ++ spec.known_part form.entry older.now told.now) }
+{
+    if is_for_people(form) {
+        put_known(alloc, text, older, told)
+    } else {
+        Ok(())
+    }
+}
+
+fn put_all_needs(
+    alloc: Global,
+    text: &mut Vec<u8>,
+    form: Form<'_>,
+    report: &Report<'_>,
+) -> Result<(), AllocError>
+    ensures { OnOk result (text.new.items ≡ text.old.items
+        ++ spec.needs_part form.entry report.now) }
+{
+    if is_human(form) && are_gathered(&told_totals(report)) {
+        put_needs(alloc, text, report)
+    } else {
+        Ok(())
+    }
+}
+
+// Whether people read it in lines.
+fn is_for_people(form: Form<'_>) -> bool
+    ensures { result ≡ spec.is_for_people form.entry }
+{
+    matches!(form, Form::Human(_) | Form::Short)
+}
+
+fn is_human(form: Form<'_>) -> bool
+    ensures { result ≡ spec.is_human form.entry }
+{
+    matches!(form, Form::Human(_))
+}
