@@ -4,7 +4,7 @@
 //! `.` and `-` behind it.
 //!
 //! ```rust
-//! // crates/package_rows/src/rows.rt
+//! // crates/test_packages/src/sources.rt
 //! let shared = shared_references(alloc, &documents)?;
 //! ```
 //!

@@ -6,9 +6,9 @@ use Rattle.std.specs.List.{flat_map, AllZip}
 use Rattle.std.proofs.lemmas.List.Elements.{All-nil, All-cons, All-head, All-tail, All-get_or}
 use Rattle.std.proofs.lemmas.List.Sums.{sum_by-cons}
 use Rattle.spdx_requirement.specs.Rows.{Rows}
-use Rattle.spdx_mend.specs.declared.Span.{Span}
-use Rattle.spdx_mend.specs.Mending.{Marked, marked, Piece, Site, IsFixOfBytes, IsCutAtSpans, Mends, spans_from, old_piece, new_piece}
-use Rattle.spdx_mend.proofs.Settled.{settled}
+use Rattle.fix_sources.specs.declared.Span.{Span}
+use Rattle.fix_sources.specs.Mending.{Marked, marked, Piece, Site, IsFixOfBytes, IsCutAtSpans, Mends, spans_from, old_piece, new_piece}
+use Rattle.fix_sources.proofs.Settled.{settled}
 use Rattle.fix_sources.specs.declared.FixedText.{FixedText}
 use Rattle.fix_sources.specs.Fixing.{IsRead, IsRefused, IsTextAfter, IsGiven, IsFixed, FixLaws, bytes_after, texts_in}
 use Rattle.fix_sources.proofs.Texts.{texts_in-cut}

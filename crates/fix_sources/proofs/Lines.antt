@@ -5,8 +5,8 @@ use Rattle.std.proofs.lemmas.List.{length-take}
 use Rattle.line_engine.specs.Lines.{Cut, cut, onto_first, last_line, lines_of}
 use Rattle.license_tags.specs.declared.Tag.{Tag}
 use Rattle.license_tags.specs.Tags.{AreInOrder as AreTagsInOrder}
-use Rattle.spdx_mend.specs.declared.Span.{Span}
-use Rattle.spdx_mend.specs.Mending.{AreInOrder}
+use Rattle.fix_sources.specs.declared.Span.{Span}
+use Rattle.fix_sources.specs.Mending.{AreInOrder}
 use Rattle.spdx_check.specs.Checking.{expression_of, is_blank}
 use Rattle.fix_sources.specs.Spans.{spans_from, line_spans, span_of}
 

@@ -2,7 +2,7 @@
 use Rattle.std.proofs.Common.{◌≡◌, ℕ, ◌+◌, ◌-◌, List, [], ◌∷◌, ◌++◌, length, length-append, map, take, drop, refl, sym, ap, ◌∙◌, append_assoc, arith}
 use Rattle.std.specs.List.{flat_map}
 use Rattle.std.proofs.lemmas.List.{take_at, drop_at}
-use Rattle.spdx_mend.specs.Mending.{Marked, Piece, span_at, spans_from, IsCutAtSpans}
+use Rattle.fix_sources.specs.Mending.{Marked, Piece, span_at, spans_from, IsCutAtSpans}
 use Rattle.fix_sources.specs.Fixing.{text_at, texts_in}
 
 abbrev joined : List Piece → List ℕ → List ℕ

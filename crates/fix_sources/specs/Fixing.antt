@@ -6,8 +6,8 @@ use Rattle.std.specs.Str.{IsUtf8}
 use Rattle.spdx_requirement.specs.Rows.{Rows}
 use Rattle.spdx_lexer.specs.Modes.{strict}
 use Rattle.spdx_fix.specs.Fix.{Reads, IsFix}
-use Rattle.spdx_mend.specs.declared.Span.{Span}
-use Rattle.spdx_mend.specs.Mending.{Marked, marked, Mends}
+use Rattle.fix_sources.specs.declared.Span.{Span}
+use Rattle.fix_sources.specs.Mending.{Marked, marked, Mends}
 use Rattle.fix_sources.specs.declared.FixedText.{FixedText}
 
 -- strict reading accepts the bytes

@@ -1,2 +1,3 @@
+pub mod Mending
 pub mod Spans
 pub mod Fixing

@@ -6,7 +6,7 @@ use Rattle.license_tags.specs.Comments.{comment_of}
 use Rattle.license_tags.specs.Tags.{tags_of}
 use Rattle.spdx_check.specs.Checking.{expression_of, is_blank}
 use Rattle.check_sources.specs.Tags.{is_binary}
-use Rattle.spdx_mend.specs.declared.Span.{Span}
+use Rattle.fix_sources.specs.declared.Span.{Span}
 
 -- the place of the expression of a line that begins at this offset; a blank line has none
 abbrev pub line_span : ℕ → List ℕ → List Span

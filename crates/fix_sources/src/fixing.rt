@@ -3,15 +3,15 @@
 ghost use Rattle.std.specs.Prelude.{◌≡◌, IfOk, true, false, All, Any, length};
 ghost use Rattle.spdx_lexer.specs.Modes.{strict};
 ghost use Rattle.spdx_fix.specs.Fix.{Reads};
-ghost use Rattle.spdx_mend.specs.Mending.{AreInOrder, marked};
+ghost use Rattle.fix_sources.specs.Mending.{AreInOrder, marked};
 ghost use Rattle.fix_sources.specs.Spans.{line_spans, tag_spans};
 ghost use Rattle.fix_sources.specs.Fixing.{FixLaws, IsFixed, IsRead, IsRefused, text_at, texts_in};
 
-use crate::FixedText;
+use crate::mending::fix_all;
 use crate::spans::{line_spans, tag_spans};
+use crate::{FixedText, Span};
 use spdx_catalogue::Catalogue;
 use spdx_lexer::{Failure, ParseMode};
-use spdx_mend::{Span, fix_all};
 use spdx_parser::parse_nodes;
 use std::alloc::{AllocError, Global};
 

@@ -6,13 +6,30 @@
 //! let tagged = fix_tags(alloc, job.catalogue, path, text)?;
 //! ```
 //!
-//! It stands on `spdx_mend`, and on `spdx_check`, `check_sources` and `license_tags`, which say where the expressions are.
+//! It stands on `spdx_fix`, and on `spdx_check`, `check_sources` and `license_tags`, which say where the expressions are.
 #![tactic(auto)]
 
 mod fixing;
+mod mending;
 mod spans;
 
 pub use crate::fixing::{fix_lines, fix_tags};
+pub use crate::mending::fix_all;
+
+/// Where an expression stands in a text: from `start` up to `end`, in bytes.
+#[derive(Clone, Copy, PartialEq, Eq, Debug)]
+pub struct Span {
+    pub start: usize,
+    pub end: usize,
+}
+
+/// A mended text, where its expressions stand, and how many of them were replaced.
+#[derive(Drop, Debug)]
+pub struct Mended {
+    pub bytes: Vec<u8>,
+    pub spans: Vec<Span>,
+    pub count: usize,
+}
 
 /// What becomes of a text.
 #[derive(Drop, Debug)]

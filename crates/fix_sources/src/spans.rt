@@ -2,15 +2,15 @@
 
 ghost use Rattle.std.specs.Prelude.{◌≡◌, ◌++◌, ◌∷◌, ◌+◌, ◌<◌, ◌≤◌, ◌^◌, IfOk, OnOk, length, drop, take};
 ghost use Rattle.line_engine.specs.Lines.{lines_of};
-ghost use Rattle.spdx_mend.specs.Mending.{AreInOrder};
+ghost use Rattle.fix_sources.specs.Mending.{AreInOrder};
 ghost use Rattle.spdx_check.specs.Checking.{is_blank};
 ghost use Rattle.fix_sources.specs.Spans.{line_span, line_spans, span_of, tag_spans};
 
+use crate::Span;
 use check_sources::is_binary;
 use license_tags::{Tag, comment_of, tags};
 use memchr::memchr;
 use spdx_check::expression_of;
-use spdx_mend::Span;
 use std::alloc::{AllocError, Global};
 
 // How many bytes stand before the first newline.

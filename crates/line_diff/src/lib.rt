@@ -4,7 +4,7 @@
 //! looked for, and each old line stands directly before the new one.
 //!
 //! ```rust
-//! // crates/license_tags_tests/src/answers.rt
+//! // crates/test_packages/src/tags/answers.rt
 //! put_diff(alloc, &mut diff, "f", &old, &new)?;
 //! ```
 //!

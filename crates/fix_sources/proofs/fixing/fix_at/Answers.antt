@@ -1,9 +1,9 @@
 use Rattle.std.proofs.Common.{ℕ, List, Option, refl, sym, subst, arith}
 use Rattle.std.specs.Prelude.{All, Any, IfSome}
 use Rattle.spdx_requirement.specs.Rows.{Rows}
-use Rattle.spdx_mend.specs.declared.Mended.{Mended}
-use Rattle.spdx_mend.specs.declared.Span.{Span}
-use Rattle.spdx_mend.specs.Mending.{Marked, marked, Mends}
+use Rattle.fix_sources.specs.declared.Mended.{Mended}
+use Rattle.fix_sources.specs.declared.Span.{Span}
+use Rattle.fix_sources.specs.Mending.{Marked, marked, Mends}
 use Rattle.fix_sources.specs.Fixing.{IsGiven, IsFixed, IsRead, IsRefused, texts_in}
 use Rattle.fix_sources.proofs.Laws.{laws}
 use Rattle.fix_sources.proofs.fixing.fix_at.Goals as goal

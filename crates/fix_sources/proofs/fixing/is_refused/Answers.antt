@@ -4,7 +4,7 @@ use Rattle.std.proofs.Math.ListN.{get_or-map, length-map}
 use Rattle.std.proofs.lemmas.List.{get_or_default, map_push, take_all, take_more}
 use Rattle.std.proofs.lemmas.List.Elements.{All-push}
 use Rattle.spdx_requirement.specs.Rows.{Rows}
-use Rattle.spdx_mend.specs.declared.Span.{Span}
+use Rattle.fix_sources.specs.declared.Span.{Span}
 use Rattle.fix_sources.specs.Fixing.{IsRead, IsRefused, text_at}
 use Rattle.fix_sources.proofs.fixing.is_refused.Goals as goal
 

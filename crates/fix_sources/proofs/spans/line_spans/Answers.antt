@@ -2,8 +2,8 @@ use Rattle.std.proofs.Common.{◌≡◌, ℕ, ◌+◌, ◌<◌, ◌++◌, List, 
 use Rattle.std.proofs.lemmas.Bool.Decides.{nat_tests}
 use Rattle.std.proofs.lemmas.List.{length-drop, length-take-le}
 use Rattle.line_engine.specs.Lines.{lines_of}
-use Rattle.spdx_mend.specs.declared.Span.{Span}
-use Rattle.spdx_mend.specs.Mending.{AreInOrder}
+use Rattle.fix_sources.specs.declared.Span.{Span}
+use Rattle.fix_sources.specs.Mending.{AreInOrder}
 use Rattle.fix_sources.specs.Spans.{line_span, spans_from, line_spans}
 use Rattle.fix_sources.proofs.Lines.{lines_in_order, no_lines}
 use Rattle.fix_sources.proofs.spans.line_spans.Goals as goal

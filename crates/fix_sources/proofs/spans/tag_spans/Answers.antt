@@ -4,8 +4,8 @@ use Rattle.license_tags.specs.declared.Tag.{Tag}
 use Rattle.license_tags.specs.declared.comment.Comment.{Comment}
 use Rattle.license_tags.specs.Comments.{comment_of}
 use Rattle.license_tags.specs.Tags.{tags_of}
-use Rattle.spdx_mend.specs.declared.Span.{Span}
-use Rattle.spdx_mend.specs.Mending.{AreInOrder}
+use Rattle.fix_sources.specs.declared.Span.{Span}
+use Rattle.fix_sources.specs.Mending.{AreInOrder}
 use Rattle.fix_sources.specs.Spans.{span_of}
 use Rattle.fix_sources.proofs.Lines.{tags_in_order}
 use Rattle.fix_sources.proofs.spans.tag_spans.Goals as goal

@@ -1,0 +1,55 @@
+// Choices by a policy.
+//
+// A line `==` stands between two sections. A section is a policy in TOML, then a line `--` and rows, one for each package:
+//
+//     PACKAGE VERSION EXPRESSION => ALONE ; TOGETHER
+//
+// ALONE is what the package is used under by its own choice, and TOGETHER by the one choice for all packages of the section.
+
+mod answers;
+
+use crate::choices::answers::{answers, read_rows};
+use spdx_alternatives::Heirs;
+use spdx_catalogue::Catalogue;
+use spdx_policy::Policy;
+use std::alloc::{AllocError, Global};
+use test_rows::Tally;
+
+/// Appends the rows that don't hold, and how many do; gives whether all do.
+pub(crate) fn try_rows(
+    alloc: Global,
+    shown: &mut String,
+    catalogue: &Catalogue,
+    text: &str,
+) -> Result<bool, AllocError> {
+    let mut tally = Tally::new();
+    for section in text.split("==\n") {
+        try_section(alloc, shown, &mut tally, catalogue, section)?;
+    }
+    shown.push_str(tally.line(alloc)?.as_str())?;
+    Ok(tally.is_good())
+}
+
+fn try_section(
+    alloc: Global,
+    shown: &mut String,
+    tally: &mut Tally,
+    catalogue: &Catalogue,
+    section: &str,
+) -> Result<(), AllocError> {
+    let (text, lines) = section.split_once("--\n").unwrap_or((section, ""));
+    let heirs = Heirs::new(alloc);
+    let Ok(policy) = Policy::from_toml(alloc, catalogue, heirs, text.as_bytes()) else {
+        let told = tally.count(alloc, text, "a policy", "none")?;
+        return shown.push_str(told.as_str());
+    };
+    let rows = read_rows(alloc, catalogue, &policy, lines)?;
+    let given = answers(alloc, &rows)?;
+    for (place, answered) in given.iter().enumerate() {
+        let asked = rows.asked.get(place).map_or("", |text| text.as_str());
+        let wanted = rows.wanted.get(place).map_or("", |text| text.as_str());
+        let told = tally.count(alloc, asked, wanted, answered.as_str())?;
+        shown.push_str(told.as_str())?;
+    }
+    Ok(())
+}

@@ -1,0 +1,110 @@
+// What policies say of requirements.
+//
+// A line `==` stands between two sections. A section is a policy in TOML, or `@FILE` for the file of one, then a line `--` and
+// rows, each a question and what is to be answered, with `=>` between. A policy behind a line `%FILE` is read by the list in
+// that file, and others by the list inside.
+//
+// - `policy`: its settings, or why it is none
+// - `PACKAGE VERSION REQUIREMENT`: which entry decides the requirement of the package; `-` is no version
+// - `? PACKAGE VERSION`: the expression of the clarification that holds for the package
+
+mod answers;
+
+use crate::policies::answers::{answer, fault_text};
+use spdx_alternatives::{Heirs, Restated};
+use spdx_catalogue::Catalogue;
+use spdx_policy::Policy;
+use std::fs;
+use std::io::{self, ErrorKind};
+use test_rows::Tally;
+
+// What stands in the place of deprecated names that the rows have.
+const HEIRS: [Restated<'static>; 2] = [
+    Restated {
+        name: "GPL-2.0-with-classpath-exception",
+        write: "GPL-2.0-only WITH Classpath-exception-2.0",
+    },
+    Restated {
+        name: "Nokia-Qt-exception-1.1",
+        write: "Qt-LGPL-exception-1.1",
+    },
+];
+
+/// Appends the rows that don't hold, and how many do; gives whether all do.
+pub(crate) fn try_rows(
+    rt: &HostRuntime,
+    shown: &mut String,
+    catalogue: &Catalogue,
+    text: &str,
+) -> io::Result<bool> {
+    let mut tally = Tally::new();
+    for section in text.split("==\n") {
+        match section.strip_prefix('%') {
+            Some(own) => try_by(rt, shown, &mut tally, own)?,
+            None => try_section(rt, shown, &mut tally, catalogue, section)?,
+        }
+    }
+    shown.push_str(tally.line(rt.alloc())?.as_str())?;
+    Ok(tally.is_good())
+}
+
+fn try_section(
+    rt: &HostRuntime,
+    shown: &mut String,
+    tally: &mut Tally,
+    catalogue: &Catalogue,
+    section: &str,
+) -> io::Result<()> {
+    let (text, rows) = section.split_once("--\n").unwrap_or((section, ""));
+    let policy = policy_of(rt, catalogue, text)?;
+    for row in rows.lines() {
+        if !row.is_empty() && !row.starts_with('#') {
+            let (asked, wanted) = row.split_once("=>").unwrap_or((row, ""));
+            let answered = answer_by(rt, catalogue, &policy, asked.trim())?;
+            let told = tally.count(rt.alloc(), row, wanted.trim(), answered.as_str())?;
+            shown.push_str(told.as_str())?;
+        }
+    }
+    Ok(())
+}
+
+// The same of a section that names its own list.
+fn try_by(rt: &HostRuntime, shown: &mut String, tally: &mut Tally, own: &str) -> io::Result<()> {
+    let (path, section) = own.split_once('\n').unwrap_or((own, ""));
+    let list = fs::read(rt, path)?;
+    match Catalogue::from_json(rt.alloc(), list.as_slice()) {
+        Ok(catalogue) => try_section(rt, shown, tally, &catalogue, section),
+        Err(_) => Err(io::Error::from(ErrorKind::InvalidData)),
+    }
+}
+
+fn answer_by<'c>(
+    rt: &HostRuntime,
+    catalogue: &'c Catalogue,
+    policy: &Result<Policy<'c>, String>,
+    asked: &str,
+) -> io::Result<String> {
+    match policy {
+        Ok(policy) => Ok(answer(rt.alloc(), catalogue, policy, asked)?),
+        Err(fault) => Ok(String::from_str(rt.alloc(), fault.as_str())?),
+    }
+}
+
+fn policy_of<'c>(
+    rt: &HostRuntime,
+    catalogue: &'c Catalogue,
+    text: &str,
+) -> io::Result<Result<Policy<'c>, String>> {
+    let heirs = Heirs::of_rows(rt.alloc(), catalogue, &HEIRS)?;
+    let read = match text.trim().strip_prefix('@') {
+        Some(path) => {
+            let bytes = fs::read(rt, path)?;
+            Policy::from_toml(rt.alloc(), catalogue, heirs, bytes.as_slice())
+        }
+        None => Policy::from_toml(rt.alloc(), catalogue, heirs, text.as_bytes()),
+    };
+    match read {
+        Ok(policy) => Ok(Ok(policy)),
+        Err(error) => Ok(Err(fault_text(rt.alloc(), &error)?)),
+    }
+}
