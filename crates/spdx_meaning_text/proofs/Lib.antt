@@ -9,3 +9,4 @@ pub mod Read
 pub mod Telling
 pub mod Written
 pub mod Needed
+pub mod Counted

@@ -1,21 +1,19 @@
-use Rattle.std.proofs.Common.{rules, sym, ◌∙◌, ap, ◌≡◌, List, [], ◌++◌, drop, map}
-use Rattle.std.proofs.lemmas.List.{append-nil, drop_all}
-use Rattle.spdx_requirement.specs.Items.{Requirement}
-use Rattle.spdx_parser.specs.declared.node.ExprNode.{ExprNode}
+use Rattle.std.proofs.Common.{◌≡◌, List, ◌∙◌, ap, map}
+use Rattle.spdx_requirement.specs.declared.requirement.LicenseReq.{LicenseReq}
+use Rattle.spdx_requirement.specs.Items.{Requirement, requirement_of}
+use Rattle.spdx_requirement.specs.Texts.{requirement_text}
 use Rattle.spdx_parser.specs.Tree.{leaves}
 use Rattle.spdx_evaluation.specs.Postfix.{tree_in}
-use Rattle.spdx_evaluation.specs.Requirements.{requirements_in}
-use Rattle.spdx_evaluation.proofs.Nodes.{requirement_at, requirements_of_tree}
-use Rattle.spdx_meaning_text.specs.Plan.{named_of, named_in}
+use Rattle.spdx_meaning_text.specs.Ranks.{rank_in}
+use Rattle.spdx_meaning_text.specs.Plan.{named_in}
 use Rattle.spdx_meaning_text.proofs.names.names_of.Goals as goal
+
+named_alike : (ps qs : List Requirement) → ((r : Requirement) → rank_in ps r ≡ rank_in qs r) → (rs : List Requirement) → map (named_in ps) rs ≡ map (named_in qs) rs
+named_alike ps qs same rs = λ i. map (λ r. (same r i, requirement_text r)) rs
 
 pub returns : goal.returns
 returns c =
-    let nodes = c.args.nodes.now in
-    let name = named_in (leaves (tree_in nodes)) in
-    let names = map named_of c.loop-node.names.items in
-    let none : drop c.loop-node.node-index nodes ≡ [] = drop_all c.loop-node.node-index nodes (search rules) in
-    sym (append-nil names)
-    ∙ ap (λ (z : List ExprNode). names ++ map name (map requirement_at (requirements_in z))) (sym none)
-    ∙ c.loop-node.invariant
-    ∙ ap (λ (z : List Requirement). map name z) (requirements_of_tree nodes (tree_in nodes) c.requires)
+    let rs = leaves (tree_in c.args.nodes.now) in
+    c.in_ok-names.ensures
+    ∙ ap (λ (xs : List LicenseReq). map (named_in (map requirement_of xs)) rs) c.as_slice.ensures.value
+    ∙ named_alike (map requirement_of c.in_ok-ordered.ordered.items) rs c.in_ok-ordered.ensures.same rs

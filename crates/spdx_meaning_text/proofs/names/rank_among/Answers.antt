@@ -1,19 +1,18 @@
-use Rattle.std.proofs.Common.{rules, sym, ◌∙◌, ap, ◌≡◌, ℕ, ◌+◌, List, [], drop, map, add-zero}
-use Rattle.std.proofs.lemmas.List.{drop_all}
-use Rattle.spdx_requirement.specs.Items.{Requirement, requirement_of}
-use Rattle.spdx_parser.specs.declared.node.ExprNode.{ExprNode}
-use Rattle.spdx_evaluation.specs.Postfix.{tree_in}
-use Rattle.spdx_evaluation.specs.Requirements.{requirements_in}
-use Rattle.spdx_evaluation.proofs.Nodes.{requirement_at, requirements_of_tree}
-use Rattle.spdx_meaning_text.specs.Ranks.{rank_in}
+use Rattle.std.proofs.Common.{rules, of_calls, Bool, ◌∙◌}
+use Rattle.std.proofs.lemmas.Fn.{always_returns_same}
+use Rattle.spdx_requirement.specs.declared.requirement.LicenseReq.{LicenseReq}
+use Rattle.spdx_requirement.specs.Items.{requirement_of}
+use Rattle.spdx_requirement.specs.Orders.{requirement_cmp}
+use Rattle.spdx_meaning_text.specs.Sets.{is_before}
+use Rattle.spdx_meaning_text.proofs.Order.{requirements_total}
+use Rattle.spdx_meaning_text.proofs.Counted.{counted, parted, count-map}
 use Rattle.spdx_meaning_text.proofs.names.rank_among.Goals as goal
 
 pub returns : goal.returns
 returns c =
-    let nodes = c.args.nodes.now in
+    let ordered = c.args.ordered.now in
     let r = requirement_of c.args.requirement.now in
-    let all = requirements_of_tree nodes (tree_in nodes) c.requires in
-    let none : drop c.loop-node.node-index nodes ≡ [] = drop_all c.loop-node.node-index nodes (search rules) in
-    let here : rank_in (map requirement_at (requirements_in (drop c.loop-node.node-index nodes))) r ≡ 0 =
-    ap (λ (z : List ExprNode). rank_in (map requirement_at (requirements_in z)) r) none in
-    sym (add-zero c.loop-node.rank) ∙ sym (ap (λ (n : ℕ). c.loop-node.rank + n) here) ∙ c.loop-node.invariant.so_far ∙ ap (λ (z : List Requirement). rank_in z r) all
+    let p : LicenseReq → Bool = λ x. is_before requirement_cmp (requirement_of x) r in
+    let point = c.partition_point.ensures.partitioned p (always_returns_same _ _ _ (λ a r f k. search (rules, of_calls))) (parted requirement_cmp requirements_total requirement_of ordered r c.requires) in
+    counted p ordered c.partition_point.result c.partition_point.ensures.bound point
+    ∙ count-map (λ q. is_before requirement_cmp q r) requirement_of ordered
