@@ -10,6 +10,7 @@ spdx_report spdx_slices_open(IN, spdx_list *), spdx_slices_close(spdx_list *), s
 spdx_report spdx_slices_check(LIST, IN), spdx_slices_canonical(LIST, IN, OUT), spdx_slices_normal(LIST, IN, OUT);
 spdx_report spdx_slices_fix(spdx_list *, IN, OUT), spdx_slices_requirements(LIST, IN, OUT);
 spdx_report spdx_slices_evaluate(LIST, IN, IN), spdx_slices_evaluate_bits(LIST, IN, IN, size_t);
+spdx_report spdx_slices_simplify(LIST, IN, OUT), spdx_slices_compare(LIST, IN, IN);
 spdx_report spdx_slices_choose(LIST, IN, IN, OUT), spdx_slices_lines(LIST, IN, IN, OUT);
 
 static const spdx_report wrong = {SPDX_ARGUMENT, 0, 0, 0, 0, 0, 0, 0};
@@ -47,6 +48,8 @@ spdx_report spdx_fix(const spdx_list *list, spdx_text text, spdx_buffer to) {
     ASK(fix, to, text, none, GIVE(text), GIVE(to));
 }
 spdx_report spdx_normal(ON, spdx_buffer to) { ASK(normal, to, text, none, TEXT, GIVE(to)); }
+spdx_report spdx_simplify(ON, spdx_buffer to) { ASK(simplify, to, text, none, TEXT, GIVE(to)); }
+spdx_report spdx_compare(ON, spdx_text other) { ASK(compare, nowhere, text, other, TEXT, GIVE(other)); }
 spdx_report spdx_requirements(ON, spdx_buffer to) { ASK(requirements, to, text, none, TEXT, GIVE(to)); }
 spdx_report spdx_evaluate(ON, spdx_text held) { ASK(evaluate, nowhere, text, held, TEXT, GIVE(held)); }
 spdx_report spdx_evaluate_bits(ON, const void *bits, size_t n) {

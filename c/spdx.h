@@ -25,8 +25,8 @@ enum {
 /* What a call says in `status`. Only at SPDX_OK was anything written. */
 enum {
     SPDX_OK = 0,
-    SPDX_REFUSED = 1,           /* the text is no expression: `start`, `end`, `reason` */
-    SPDX_NOT_TEXT = 2,          /* the text is not UTF-8 */
+    SPDX_REFUSED = 1,           /* the text is no expression: `start`, `end`, `reason`, and of two texts `number` */
+    SPDX_NOT_TEXT = 2,          /* the text is not UTF-8; of two texts, text `number` */
     SPDX_LICENSEE = 3,          /* licensee `number` is refused: `start`, `end` in its line, `reason` */
     SPDX_LICENSEE_NOT_TEXT = 4, /* licensee `number` is not UTF-8 */
     SPDX_UNMET = 5,             /* the licensees don't make the expression true */
@@ -37,7 +37,16 @@ enum {
                                  * closed where it has to be open, or open where it has to be closed; or a wrong number
                                  * of bits: the expression has `number` requirements */
     SPDX_LIST = 10,             /* the bytes are no list of licences */
-    SPDX_MEMORY = 11            /* memory was refused */
+    SPDX_MEMORY = 11,           /* memory was refused */
+    SPDX_TOO_MANY_SETS = 12     /* `number` sets are made for a part of an expression, more than 4,096 */
+};
+
+/* What spdx_compare says in `number`, at SPDX_OK. */
+enum {
+    SPDX_SAME = 0,   /* they mean the same: whatever licences are accepted, both hold or neither does */
+    SPDX_MORE = 1,   /* the first asks for more: where it holds the second does, and not the other way round */
+    SPDX_LESS = 2,   /* the second asks for more */
+    SPDX_NEITHER = 3 /* each asks for what the other doesn't */
 };
 
 /* What a call answers. A field that the status does not speak of is 0. */
@@ -46,7 +55,8 @@ typedef struct {
     uint32_t reason;  /* from 1 to 12: spdx_reason */
     size_t start;     /* the first byte of the fault */
     size_t end;       /* the byte behind the fault */
-    size_t number;    /* a licensee, counted from 0; or how many licensees or requirements there are */
+    size_t number;    /* a licensee, or which of two texts, counted from 0; how many licensees, requirements or sets
+                       * there are; or how two expressions compare */
     size_t length;    /* the bytes of the text, at SPDX_OK and SPDX_SHORT */
     uint64_t lines;   /* of spdx_lines: how many lines there were */
     uint64_t refused; /* and how many of them were refused */
@@ -92,6 +102,16 @@ spdx_report spdx_fix(const spdx_list *list, spdx_text text, spdx_buffer out);
 
 /* The one text of its tree, with as few parentheses as it allows. */
 spdx_report spdx_normal(const spdx_list *list, uint32_t mode, spdx_text text, spdx_buffer out);
+
+/* The text of what it means: its least sets of requirements, joined by AND, and these by OR, without parentheses. With
+ * SPDX_STRICT, two expressions have the same text exactly if they mean the same. An OR has the sets of both its sides,
+ * an AND one for each pair of them. An old spelling is another requirement than the new one, as GPL-2.0 than
+ * GPL-2.0-only: hand it the text of spdx_canonical where they are to mean the same. */
+spdx_report spdx_simplify(const spdx_list *list, uint32_t mode, spdx_text text, spdx_buffer out);
+
+/* How what two expressions ask compares: SPDX_SAME, SPDX_MORE, SPDX_LESS or SPDX_NEITHER in `number`. Where a text is
+ * refused or not UTF-8, `number` is 0 of the first, and 1 of the second where the first is an expression. */
+spdx_report spdx_compare(const spdx_list *list, uint32_t mode, spdx_text one, spdx_text other);
 
 /* SPDX_OK where those who hold these licences, one on each line, may use what comes under the expression; SPDX_UNMET
  * where not. */

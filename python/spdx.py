@@ -5,6 +5,8 @@
     licences.fix("mit/apache-2.0")                          # "MIT OR Apache-2.0"
     licences.evaluate("MIT OR Zlib", ["Zlib"])              # True
     licences.evaluate_bits("MIT OR Zlib", [False, True])    # True: requirement by requirement
+    licences.simplify("MIT OR (MIT AND Zlib)")              # "MIT"
+    licences.compare("MIT AND Zlib", "MIT")                 # spdx.Relation.MORE: the first asks for more
     licences.lines(["MIT", "Apache2"], ["MIT"])             # a verdict for each, in one call
 
 Texts are str or bytes; places are in bytes of UTF-8. `TypeError` is raised where another value is given for a text, or
@@ -18,6 +20,7 @@ from __future__ import annotations
 
 import ctypes
 import ctypes.util
+import enum
 import operator
 import os
 from typing import Iterable, NamedTuple, Optional, Union
@@ -32,16 +35,26 @@ class SpdxError(Exception):
 
 
 class Refused(SpdxError):
-    """A text or a licensee is refused: `start` and `end` are in bytes, `reason` is a number, `message` its text."""
+    """A text or a licensee is refused: `start` and `end` are in bytes, `reason` is a number, `message` its text. `text`
+    is 1 where it is the second of two texts, and else 0."""
 
-    def __init__(self, start: int, end: int, reason: int, message: str, licensee: Optional[int] = None):
-        who = "" if licensee is None else f"licensee {licensee}: "
+    def __init__(
+        self, start: int, end: int, reason: int, message: str, licensee: Optional[int] = None, text: int = 0
+    ):
+        who = "the second text: " if text else "" if licensee is None else f"licensee {licensee}: "
         super().__init__(f"{who}{start}..{end}: {message}")
-        self.start, self.end, self.reason, self.message, self.licensee = start, end, reason, message, licensee
+        self.start, self.end, self.reason, self.message = start, end, reason, message
+        self.licensee, self.text = licensee, text
 
 
 class Unmet(SpdxError):
     """The licensees don't make the expression true."""
+
+
+class Relation(enum.IntEnum):
+    """How what the first of two expressions asks compares with what the second one asks."""
+
+    SAME, MORE, LESS, NEITHER = range(4)
 
 
 class Lines(NamedTuple):
@@ -82,19 +95,19 @@ class _List(ctypes.Structure):
 
 
 _OK, _REFUSED, _NOT_TEXT, _LICENSEE, _LICENSEE_NOT_TEXT, _UNMET = range(6)
-_TOO_MANY, _NO_FIX, _SHORT, _ARGUMENT, _LIST, _MEMORY = range(6, 12)
+_TOO_MANY, _NO_FIX, _SHORT, _ARGUMENT, _LIST, _MEMORY, _TOO_MANY_SETS = range(6, 13)
 
 
 def _library() -> ctypes.CDLL:
     path = os.environ.get("SPDX_LIBRARY") or ctypes.util.find_library("spdx") or "libspdx.so"
     library = ctypes.CDLL(path)
     handle = ctypes.POINTER(_List)
-    texts = {"check": 1, "canonical": 1, "fix": 1, "normal": 1, "requirements": 1}
-    texts |= {"evaluate": 2, "choose": 2, "lines": 2}
+    texts = {"check": 1, "canonical": 1, "fix": 1, "normal": 1, "simplify": 1, "requirements": 1}
+    texts |= {"compare": 2, "evaluate": 2, "choose": 2, "lines": 2}
     for name, count in texts.items():
         call = getattr(library, f"spdx_{name}")
         mode = [] if name == "fix" else [ctypes.c_uint32]
-        out = [] if name in ("check", "evaluate") else [_Buffer]
+        out = [] if name in ("check", "compare", "evaluate") else [_Buffer]
         call.restype, call.argtypes = _Report, [handle, *mode, *[_Bytes] * count, *out]
     bits = library.spdx_evaluate_bits
     bits.restype, bits.argtypes = _Report, [handle, ctypes.c_uint32, _Bytes, ctypes.c_char_p, ctypes.c_size_t]
@@ -160,16 +173,17 @@ def _raise(report: _Report) -> None:
     if status == _OK:
         return
     if status in (_REFUSED, _LICENSEE):
-        licensee = report.number if status == _LICENSEE else None
-        raise Refused(report.start, report.end, report.reason, reason(report.reason), licensee)
+        licensee, text = (report.number, 0) if status == _LICENSEE else (None, report.number)
+        raise Refused(report.start, report.end, report.reason, reason(report.reason), licensee, text)
     if status == _UNMET:
         raise Unmet("the licensees don't make the expression true")
     if status == _MEMORY:
         raise MemoryError
     said = {
-        _NOT_TEXT: "the text is not UTF-8",
+        _NOT_TEXT: f"the {'second ' if report.number else ''}text is not UTF-8",
         _LICENSEE_NOT_TEXT: f"licensee {report.number} is not UTF-8",
         _TOO_MANY: f"{report.number} licensees are useful, more than 1,024",
+        _TOO_MANY_SETS: f"{report.number} sets of requirements are made of an expression, more than 4,096",
         _LIST: "the bytes are no list of licences",
         _ARGUMENT: "a number that means nothing, or a list that is closed",
     }
@@ -216,6 +230,16 @@ class Licences:
     def normal(self, text: Text, mode: int = STRICT) -> str:
         """The one text of its tree."""
         return self._text(_LIBRARY.spdx_normal, _number(mode), _bytes(_encoded(text)))
+
+    def simplify(self, text: Text, mode: int = STRICT) -> str:
+        """The text of what an expression means: with `STRICT`, two have the same exactly if they mean the same."""
+        return self._text(_LIBRARY.spdx_simplify, _number(mode), _bytes(_encoded(text)))
+
+    def compare(self, one: Text, other: Text, mode: int = STRICT) -> Relation:
+        """How what the first expression asks compares with what the second one asks."""
+        report = _LIBRARY.spdx_compare(self._list, _number(mode), _bytes(_encoded(one)), _bytes(_encoded(other)))
+        _raise(report)
+        return Relation(report.number)
 
     def fix(self, text: Text) -> Optional[str]:
         """What to write in place of a text that is refused, where there is a fix."""

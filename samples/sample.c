@@ -154,6 +154,42 @@ static void singles(const spdx_list *list) {
     expect(empty.status == SPDX_REFUSED && empty.reason == 6, "an empty text");
 }
 
+/* What expressions mean. Of 64 licences and 65 others one of each can be chosen in 4,160 ways. */
+static void meanings(const spdx_list *list) {
+    char out[256], sides[4096] = "";
+    spdx_buffer to = {out, sizeof out};
+    spdx_text both = text_of("MIT AND Zlib"), mit = text_of("MIT"), zlib = text_of("Zlib"), bad = text_of("MIT Zlib");
+    puts_text(spdx_simplify(list, SPDX_STRICT, text_of("MIT OR (MIT AND Zlib)"), to), out, "MIT", "what it means");
+    puts_text(spdx_simplify(list, SPDX_STRICT, text_of("Zlib OR MIT OR Zlib"), to), out, "MIT OR Zlib", "in order");
+    puts_text(spdx_simplify(list, SPDX_LAX, text_of("zlib/mit"), to), out, "MIT OR Zlib", "what it means, laxly");
+    spdx_report told = spdx_simplify(list, SPDX_STRICT, both, (spdx_buffer){NULL, 0});
+    expect(told.status == SPDX_SHORT && told.length == 12, "the length of what it means");
+    told = spdx_compare(list, SPDX_STRICT, text_of("MIT OR (MIT AND Zlib)"), mit);
+    expect(told.status == SPDX_OK && told.number == SPDX_SAME, "the same");
+    told = spdx_compare(list, SPDX_STRICT, both, mit);
+    expect(told.status == SPDX_OK && told.number == SPDX_MORE, "more");
+    told = spdx_compare(list, SPDX_STRICT, mit, both);
+    expect(told.status == SPDX_OK && told.number == SPDX_LESS, "less");
+    told = spdx_compare(list, SPDX_STRICT, mit, zlib);
+    expect(told.status == SPDX_OK && told.number == SPDX_NEITHER, "neither");
+    told = spdx_compare(list, SPDX_STRICT, bad, (spdx_text){"\xff", 1});
+    expect(told.status == SPDX_REFUSED && told.number == 0 && told.start == 4, "the first is refused");
+    told = spdx_compare(list, SPDX_STRICT, mit, bad);
+    expect(told.status == SPDX_REFUSED && told.number == 1 && told.end == 8, "the second is refused");
+    told = spdx_compare(list, SPDX_STRICT, (spdx_text){"\xff", 1}, bad);
+    expect(told.status == SPDX_NOT_TEXT && told.number == 0, "the first is no text");
+    told = spdx_compare(list, SPDX_STRICT, mit, (spdx_text){"\xff", 1});
+    expect(told.status == SPDX_NOT_TEXT && told.number == 1, "the second is no text");
+    for (int i = 0, at = 0; i < 129; i++) {
+        const char *before = i == 0 ? "(" : i == 64 ? ") AND (" : " OR ";
+        at += snprintf(sides + at, sizeof sides - at, "%sLicenseRef-%d%s", before, i, i == 128 ? ")" : "");
+    }
+    told = spdx_simplify(list, SPDX_STRICT, text_of(sides), to);
+    expect(told.status == SPDX_TOO_MANY_SETS && told.number == 4160, "too many sets");
+    told = spdx_compare(list, SPDX_STRICT, mit, text_of(sides));
+    expect(told.status == SPDX_TOO_MANY_SETS && told.number == 4160, "too many sets of the second");
+}
+
 static void wrong(const spdx_list *list) {
     char out[64] = "MIT";
     spdx_buffer to = {out, sizeof out};
@@ -171,6 +207,9 @@ static void wrong(const spdx_list *list) {
         expect(bits == 2 || (told.status == SPDX_ARGUMENT && told.number == 2), "a number of bits");
     }
     expect(spdx_evaluate_bits(list, 0, text_of("MIT"), NULL, 1).status == SPDX_ARGUMENT, "null bits");
+    expect(spdx_simplify(list, SPDX_NORMAL, text_of("MIT"), to).status == SPDX_ARGUMENT, "simplify, a mode of lines");
+    expect(spdx_simplify(list, 0, (spdx_text){out, 3}, to).status == SPDX_ARGUMENT, "simplify over its text");
+    expect(spdx_compare(list, 0, text_of("MIT"), (spdx_text){NULL, 9}).status == SPDX_ARGUMENT, "a null second text");
     expect(spdx_reason(0, to).status == SPDX_ARGUMENT && spdx_reason(13, to).status == SPDX_ARGUMENT, "a reason");
 }
 
@@ -188,6 +227,8 @@ static void handles(spdx_text json) {
         expect(spdx_check(&list, 0, text).status == SPDX_ARGUMENT, "check, closed");
         expect(spdx_canonical(&list, 0, text, to).status == SPDX_ARGUMENT, "canonical, closed");
         expect(spdx_normal(&list, 0, text, to).status == SPDX_ARGUMENT, "normal, closed");
+        expect(spdx_simplify(&list, 0, text, to).status == SPDX_ARGUMENT, "simplify, closed");
+        expect(spdx_compare(&list, 0, text, text).status == SPDX_ARGUMENT, "compare, closed");
         expect(spdx_fix(&list, text, to).status == SPDX_ARGUMENT, "fix, closed");
         expect(spdx_requirements(&list, 0, text, to).status == SPDX_ARGUMENT, "requirements, closed");
         expect(spdx_evaluate(&list, 0, text, no).status == SPDX_ARGUMENT, "evaluate, closed");
@@ -249,6 +290,7 @@ int main(int count, char **words) {
     each_by_bits(list, corpus, bits, atoi(words[7]));
     free((void *)bits.bytes);
     singles(list);
+    meanings(list);
     wrong(list);
     threads(list, corpus, wanted[0]);
     for (int i = 0; i < 3; i++) free((void *)wanted[i].bytes);

@@ -73,6 +73,12 @@ int main(int count, char **words) {
     const std::uint8_t met[] = {3}, half[] = {1};
     expect(spdx_evaluate_bits(list, 0, text_of(both), met, 2).status == SPDX_OK, "met by bits");
     expect(spdx_evaluate_bits(list, 0, text_of(both), half, 2).status == SPDX_UNMET, "unmet by bits");
+    std::string meaning;
+    const spdx_report meant = written(
+        meaning, [&](spdx_buffer to) { return spdx_simplify(list, 0, text_of("Zlib AND MIT OR Zlib"), to); });
+    expect(meant.status == SPDX_OK && meaning == "Zlib", "what it means");
+    const spdx_report compared = spdx_compare(list, SPDX_STRICT, text_of(both), text_of("MIT"));
+    expect(compared.status == SPDX_OK && compared.number == SPDX_MORE, "how two compare");
     const spdx_report report =
         written(fix, [&](spdx_buffer to) { return spdx_fix(list, text_of("apache 2.0"), to); });
     expect(report.status == SPDX_OK && fix == "Apache-2.0", "a fix");

@@ -87,6 +87,19 @@ def main(list_path, corpus_path, *wanted_paths):
     expect(licences.fix("mit/apache-2.0") == "MIT OR Apache-2.0", "a fix")
     expect(licences.fix("MIT") is None, "no fix")
     expect(licences.normal("((MIT) AND (Zlib))") == "MIT AND Zlib", "a normal text")
+    expect(licences.simplify("(MIT OR Apache-2.0) AND MIT") == "MIT", "what it means")
+    expect(licences.compare("MIT OR (MIT AND Zlib)", "MIT") is spdx.Relation.SAME, "the same")
+    expect(licences.compare("MIT AND Zlib", "MIT") is spdx.Relation.MORE, "more")
+    expect(licences.compare("MIT", "MIT AND Zlib") is spdx.Relation.LESS, "less")
+    expect(licences.compare("MIT", "zlib", spdx.LAX) is spdx.Relation.NEITHER, "neither")
+    expect(refused_by(licences.compare, "MIT", "Nope") == (0, 4, 9, None), "the second of two")
+    many = " AND ".join("(" + " OR ".join(f"LicenseRef-{i}" for i in side) + ")" for side in (range(64), range(64, 129)))
+    for call, *given in ((licences.simplify, many), (licences.compare, "MIT", many)):
+        try:
+            call(*given)
+            expect(False, "too many sets")
+        except spdx.SpdxError as error:
+            expect("4160 sets" in str(error), "too many sets")
     expect(licences.evaluate("MIT OR Zlib", ["0BSD", "Zlib"]), "met")
     expect(not licences.evaluate("MIT AND Zlib", ["Zlib"]), "unmet")
     expect(refused_by(licences.evaluate, "MIT", ["MIT", "Nope"]) == (0, 4, 9, 1), "a licensee")

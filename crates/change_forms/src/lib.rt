@@ -3,7 +3,7 @@
 //! Names, versions and licenses are texts of others here, and nothing obeys them.
 //!
 //! ```rust
-//! // crates/spdx_program/src/changes.rt
+//! // crates/changes_program/src/run.rt
 //! put_changes(alloc, &mut text, form, &tellings)?;
 //! ```
 //!

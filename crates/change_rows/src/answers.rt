@@ -1,14 +1,21 @@
 // What is answered to a row.
 
+use crate::licenses::license;
 use change_forms::{Form, How, Reason, Release, Telling, put_changes};
 use package_changes::{Change, Package, changes_between};
+use spdx_catalogue::Catalogue;
 use std::alloc::{AllocError, Global};
 
 /// The answer to what stands before the arrow.
-pub(crate) fn answer(alloc: Global, asked: &str) -> Result<String, AllocError> {
+pub(crate) fn answer(
+    alloc: Global,
+    catalogue: &Catalogue,
+    asked: &str,
+) -> Result<String, AllocError> {
     let (word, rest) = asked.split_once(' ').unwrap_or((asked, ""));
     match word {
         "changes" => changes(alloc, rest),
+        "license" => license(alloc, catalogue, rest),
         "text" => written(alloc, Form::Text, rest),
         "json" => written(alloc, Form::Json, rest),
         "markdown" => written(alloc, Form::Markdown, rest),

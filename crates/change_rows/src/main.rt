@@ -1,23 +1,32 @@
-//! The worked rows of what changed between two lists of packages, and of how it is written.
+//! The worked rows of what changed between two lists of packages, of how the license of one changed, and of how it is written.
 //!
-//! Each line of standard input is a row, of one of two forms:
+//! Each line of standard input is a row, of one of three forms:
 //!
 //!     changes PACKAGES | PACKAGES => CHANGES
+//!     license LICENSE | LICENSE => CHANGE
 //!     FORM HOW/NAME/RELEASE/RELEASE/BEFORE/NOW => WRITTEN
 //!
-//! PACKAGES are `NAME:VERSION:LICENSE` with `, ` between. CHANGES are `= OLD > NEW`, `- OLD` and `+ NEW`. FORM is `text`, `json` or
+//! PACKAGES are `NAME:VERSION:LICENSE` with `, ` between. CHANGES are `= OLD > NEW`, `- OLD` and `+ NEW`. A CHANGE is `kept`,
+//! `rewritten`, a word for machines with what was enough before and what is enough now, or `untold` with the reason of each
+//! side. FORM is `text`, `json` or
 //! `markdown`, HOW a word for machines, a RELEASE is `VERSION:LICENSE` or nothing, and in WRITTEN `~` stands for a newline. Each
 //! row that doesn't hold is printed with what was answered, and at last how many hold. The wanted changes were found by
 //! queues of each name in another language, the written texts by hand.
 #![tactic(auto)]
 
 mod answers;
+mod licenses;
 
 use crate::answers::answer;
+use spdx_catalogue::Catalogue;
+use spdx_known::LIST;
 use std::io;
 use std::process::ExitCode;
 
 fn start(rt: &HostRuntime) -> io::Result<u8> {
+    let Ok(catalogue) = Catalogue::from_json(rt.alloc(), LIST.as_bytes()) else {
+        return Ok(2);
+    };
     let text = io::read_to_string(rt.alloc(), rt.reader())?;
     let (mut held, mut others) = (0u64, 0u64);
     for line in text.as_str().lines() {
@@ -25,7 +34,7 @@ fn start(rt: &HostRuntime) -> io::Result<u8> {
             continue;
         }
         let (asked, wanted) = line.split_once(" => ").unwrap_or((line, ""));
-        let given = answer(rt.alloc(), asked)?;
+        let given = answer(rt.alloc(), &catalogue, asked)?;
         if given.as_str() == wanted {
             held = held.saturating_add(1);
         } else {

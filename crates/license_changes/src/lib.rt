@@ -1,8 +1,8 @@
 //! How the license of a package changed: whether it is written otherwise, and whether what it asks is the same, more or less.
 //!
 //! ```rust
-//! // crates/spdx_program/src/told.rt
-//! let (how, comparison) = match license_change(alloc, catalogue, old.license, new.license)? {
+//! // crates/changes_program/src/said.rt
+//! let change = license_change(alloc, catalogue, old.license, new.license)?;
 //! ```
 //!
 //! It stands on `spdx_compare`, and reads as `spdx_fix` mends.

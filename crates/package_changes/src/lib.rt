@@ -3,8 +3,8 @@
 //! Of licences it knows their texts alone.
 //!
 //! ```rust
-//! // crates/spdx_program/src/changes.rt
-//! let changes = changes_between(alloc, &old, &new)?;
+//! // crates/changes_program/src/run.rt
+//! let changes = changes_between(alloc, &before, &now)?;
 //! ```
 //!
 //! It stands on nothing but std.

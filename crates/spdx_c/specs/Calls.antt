@@ -11,8 +11,9 @@ use Rattle.spdx_calls.specs.Faults.{IsTextFault, IsCanonicalFault, IsFixFault, I
 use Rattle.spdx_calls.specs.Questions.{IsQuestionFault, IsChoiceFault}
 use Rattle.spdx_calls.specs.Answers.{Reads, PutsCanonical, PutsFix, PutsNormal, PutsChoice, PutsLines, PutsRequirements, IsTruth}
 use Rattle.spdx_calls.specs.Bits.{IsTruthByBits, IsBitsFault}
+use Rattle.spdx_calls.specs.Meanings.{PutsMeaning, IsMeaningFault, IsCompared, IsComparisonFault}
 use Rattle.spdx_c.specs.declared.report.Report.{Report}
-use Rattle.spdx_c.specs.Reports.{plain, with_length, of_check, of_put, of_fix, of_truth, of_answered}
+use Rattle.spdx_c.specs.Reports.{plain, with_length, of_check, of_put, of_fix, of_truth, of_relation, of_answered}
 use Rattle.spdx_c.specs.Modes.{mode_of, line_mode_of, IsUnmade}
 
 -- the call on this list answered in these numbers, P of a value and E of a fault
@@ -59,6 +60,16 @@ abbrev pub IsNormalCall : Option Rows → ℕ → List ℕ → List ℕ → List
 IsNormalCall list mode text old new report =
     IsCall list (mode_of mode) of_put (λ c m. PutsNormal c m text old new)
     (λ c m. IsTextFault c m text) report
+
+abbrev pub IsSimplifyCall : Option Rows → ℕ → List ℕ → List ℕ → List ℕ → Report → Type 0
+IsSimplifyCall list mode text old new report =
+    IsCall list (mode_of mode) of_put (λ c m. PutsMeaning c m text old new)
+    (λ c m. IsMeaningFault c m text) report
+
+abbrev pub IsCompareCall : Option Rows → ℕ → List ℕ → List ℕ → Report → Type 0
+IsCompareCall list mode one other report =
+    IsCall list (mode_of mode) of_relation (λ c m. IsCompared c m one other)
+    (λ c m. IsComparisonFault c m one other) report
 
 abbrev pub IsEvaluation : Option Rows → ℕ → List ℕ → List ℕ → Report → Type 0
 IsEvaluation list mode text licensees report =

@@ -4,12 +4,14 @@ use Rattle.spdx_calls.specs.declared.buffer.Put.{Put}
 use Rattle.spdx_calls.specs.declared.buffer.Put.TheVariants.{Whole, Short}
 use Rattle.spdx_calls.specs.declared.fault.Refusal.{Refusal}
 use Rattle.spdx_calls.specs.declared.fault.CallFault.{CallFault}
-use Rattle.spdx_calls.specs.declared.fault.CallFault.TheVariants.{NotText, Refused, LicenseeNotText, Licensee, Unmet, TooMany, BitCount, Memory}
+use Rattle.spdx_calls.specs.declared.fault.CallFault.TheVariants.{NotText, Refused, OtherNotText, OtherRefused, LicenseeNotText, Licensee, Unmet, TooMany, BitCount, TooManySets, Memory}
 use Rattle.spdx_calls.specs.declared.texts.Answered.{Answered}
+use Rattle.spdx_meaning.specs.declared.relation.Relation.{Relation}
+use Rattle.spdx_meaning.specs.declared.relation.Relation.TheVariants.{Same, More, Less, Neither}
 use Rattle.spdx_c.specs.declared.report.Report.{Report}
 
 -- a status: 0 ok, 1 refused, 2 no text, 3 a licensee refused, 4 a licensee no text, 5 unmet, 6 too
--- many, 7 no fix, 8 short, 9 an argument, 10 no list, 11 memory
+-- many, 7 no fix, 8 short, 9 an argument, 10 no list, 11 memory, 12 too many sets
 abbrev pub plain : ℕ → Report
 plain s =
     record {
@@ -52,11 +54,14 @@ with_refusal s n r =
 abbrev pub of_fault : CallFault → Report
 of_fault NotText = plain 2
 of_fault (Refused r) = with_refusal 1 0 r
+of_fault OtherNotText = with_number 2 1
+of_fault (OtherRefused r) = with_refusal 1 1 r
 of_fault (LicenseeNotText n) = with_number 4 n
 of_fault (Licensee n r) = with_refusal 3 n r
 of_fault Unmet = plain 5
 of_fault (TooMany n) = with_number 6 n
 of_fault (BitCount n) = with_number 9 n
+of_fault (TooManySets n) = with_number 12 n
 of_fault Memory = plain 11
 
 -- a text that is written, or too long for the buffer
@@ -97,6 +102,16 @@ abbrev pub of_truth : Result Bool CallFault → Report
 of_truth (Ok true) = plain 0
 of_truth (Ok false) = plain 5
 of_truth (Err fault) = of_fault fault
+
+abbrev pub relation_number : Relation → ℕ
+relation_number Same = 0
+relation_number More = 1
+relation_number Less = 2
+relation_number Neither = 3
+
+abbrev pub of_relation : Result Relation CallFault → Report
+of_relation (Ok relation) = with_number 0 (relation_number relation)
+of_relation (Err fault) = of_fault fault
 
 abbrev pub of_answered : Result Answered CallFault → Report
 of_answered (Ok answered) = put_with answered.summary.lines answered.summary.refused answered.put

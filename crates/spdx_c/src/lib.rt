@@ -10,13 +10,13 @@
 ghost use Rattle.std.specs.Prelude.{◌≡◌, ◌≢◌, None};
 ghost use Rattle.spdx_handle.specs.Lists.{rows_of, rows_lent};
 ghost use Rattle.spdx_c.specs.Modes.{IsOpening, IsClosing};
-ghost use Rattle.spdx_c.specs.Calls.{IsReasonCall, IsCheck, IsCanonicalCall, IsFixCall, IsNormalCall, IsEvaluation, IsBitsCall, IsRequirementsCall, IsChoiceCall, IsLinesCall};
+ghost use Rattle.spdx_c.specs.Calls.{IsReasonCall, IsCheck, IsCanonicalCall, IsFixCall, IsNormalCall, IsEvaluation, IsBitsCall, IsRequirementsCall, IsChoiceCall, IsLinesCall, IsSimplifyCall, IsCompareCall};
 
 mod opening;
 pub mod report;
 
 use crate::opening::{line_mode_of, mode_of, read};
-use crate::report::{Report, of_answered, of_check, of_fix, of_put, of_truth, plain};
+use crate::report::{Report, of_answered, of_check, of_fix, of_put, of_relation, of_truth, plain};
 use spdx_calls::buffer::put_text;
 use spdx_handle::{ListHandle, ListLoan};
 use std::alloc::Global;
@@ -149,6 +149,53 @@ pub extern "C" fn spdx_slices_normal(
     };
     let report = match mode_of(mode) {
         Some(mode) => of_put(spdx_calls::normal(alloc, seen.get(), mode, text, out)),
+        None => plain(report::ARGUMENT),
+    };
+    list.put_back(seen);
+    report
+}
+
+/// Puts the meaning text of an expression into the buffer.
+#[unsafe(no_mangle)]
+pub extern "C" fn spdx_slices_simplify(
+    alloc: Global,
+    list: &mut ListLoan,
+    mode: u32,
+    text: &[u8],
+    out: &mut [u8],
+) -> Report
+    ensures call { IsSimplifyCall (rows_lent list.old) mode text.now out.old out.new result }
+    ensures unwritten { result.status ≢ 0 → out.new ≡ out.old }
+    ensures kept { rows_lent list.new ≡ rows_lent list.old }
+{
+    let Some(seen) = list.take() else {
+        return plain(report::ARGUMENT);
+    };
+    let report = match mode_of(mode) {
+        Some(mode) => of_put(spdx_calls::simplify(alloc, seen.get(), mode, text, out)),
+        None => plain(report::ARGUMENT),
+    };
+    list.put_back(seen);
+    report
+}
+
+/// Tells how what two expressions ask compares.
+#[unsafe(no_mangle)]
+pub extern "C" fn spdx_slices_compare(
+    alloc: Global,
+    list: &mut ListLoan,
+    mode: u32,
+    one: &[u8],
+    other: &[u8],
+) -> Report
+    ensures call { IsCompareCall (rows_lent list.old) mode one.now other.now result }
+    ensures kept { rows_lent list.new ≡ rows_lent list.old }
+{
+    let Some(seen) = list.take() else {
+        return plain(report::ARGUMENT);
+    };
+    let report = match mode_of(mode) {
+        Some(mode) => of_relation(spdx_calls::compare(alloc, seen.get(), mode, one, other)),
         None => plain(report::ARGUMENT),
     };
     list.put_back(seen);

@@ -4,6 +4,7 @@ ghost use Rattle.std.specs.Prelude.{◌≡◌};
 ghost use Rattle.spdx_c.specs.Reports as spec;
 
 use spdx_calls::{Answered, CallFault, Put, Refusal};
+use spdx_meaning::Relation;
 
 /// What was asked is so, and what was to be written is.
 pub const OK: u32 = 0;
@@ -29,6 +30,8 @@ pub const ARGUMENT: u32 = 9;
 pub const LIST: u32 = 10;
 /// Memory was refused.
 pub const MEMORY: u32 = 11;
+/// Too many sets of requirements are made of an expression.
+pub const TOO_MANY_SETS: u32 = 12;
 
 /// What a call answers. A number that the status does not speak of is 0.
 #[repr(C)]
@@ -42,7 +45,8 @@ pub struct Report {
     pub start: usize,
     /// The byte behind the fault.
     pub end: usize,
-    /// Which licensee, counted from 0; or how many are useful; or how many bits are wanted.
+    /// Which licensee or which of two texts, counted from 0; how many licensees are useful, or sets are made; how many bits
+    /// are wanted; or how two expressions compare.
     pub number: usize,
     /// How many bytes the text has that was to be written, at `OK` and `SHORT`.
     pub length: usize,
@@ -94,11 +98,14 @@ fn of_fault(fault: CallFault) -> Report
     match fault {
         CallFault::NotText => plain(NOT_TEXT),
         CallFault::Refused(refusal) => with_refusal(REFUSED, 0, refusal),
+        CallFault::OtherNotText => with_number(NOT_TEXT, 1),
+        CallFault::OtherRefused(refusal) => with_refusal(REFUSED, 1, refusal),
         CallFault::LicenseeNotText(number) => with_number(LICENSEE_NOT_TEXT, number),
         CallFault::Licensee(number, refusal) => with_refusal(LICENSEE, number, refusal),
         CallFault::Unmet => plain(UNMET),
         CallFault::TooMany(count) => with_number(TOO_MANY, count),
         CallFault::BitCount(count) => with_number(ARGUMENT, count),
+        CallFault::TooManySets(count) => with_number(TOO_MANY_SETS, count),
         CallFault::Memory => plain(MEMORY),
     }
 }
@@ -152,6 +159,27 @@ pub(crate) fn of_truth(answer: Result<bool, CallFault>) -> Report
     match answer {
         Ok(true) => plain(OK),
         Ok(false) => plain(UNMET),
+        Err(fault) => of_fault(fault),
+    }
+}
+
+// The number of a relation.
+fn relation_number(relation: Relation) -> usize
+    ensures { result ≡ spec.relation_number relation }
+{
+    match relation {
+        Relation::Same => 0,
+        Relation::More => 1,
+        Relation::Less => 2,
+        Relation::Neither => 3,
+    }
+}
+
+pub(crate) fn of_relation(answer: Result<Relation, CallFault>) -> Report
+    ensures { result ≡ spec.of_relation answer }
+{
+    match answer {
+        Ok(relation) => with_number(OK, relation_number(relation)),
         Err(fault) => of_fault(fault),
     }
 }

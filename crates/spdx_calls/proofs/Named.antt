@@ -9,7 +9,7 @@ use Rattle.spdx_requirement.specs.Rows.{Rows}
 use Rattle.spdx_requirement.specs.Items.{Requirement}
 use Rattle.spdx_licensee.specs.LicenseeText.{Names}
 use Rattle.spdx_calls.specs.declared.fault.CallFault.{CallFault}
-use Rattle.spdx_calls.specs.declared.fault.CallFault.TheVariants.{NotText, Refused, LicenseeNotText, Licensee, Unmet, TooMany, BitCount, Memory}
+use Rattle.spdx_calls.specs.declared.fault.CallFault.TheVariants.{NotText, Refused, OtherNotText, OtherRefused, LicenseeNotText, Licensee, Unmet, TooMany, BitCount, TooManySets, Memory}
 use Rattle.spdx_calls.specs.Licensees.{AreNamed}
 use Rattle.spdx_calls.specs.Faults.{IsFaultOfLine, IsFirstFault, IsLicenseesFault}
 
@@ -57,11 +57,14 @@ by_fault : (c : Rows) (lines : List (List ℕ)) (fault : CallFault) → IsFirstF
 by_fault c lines Memory h = tt
 by_fault c lines NotText h = h
 by_fault c lines (Refused r) h = h
+by_fault c lines OtherNotText h = h
+by_fault c lines (OtherRefused r) h = h
 by_fault c lines (LicenseeNotText n) h = h
 by_fault c lines (Licensee n r) h = h
 by_fault c lines Unmet h = h
 by_fault c lines (TooMany n) h = h
 by_fault c lines (BitCount n) h = h
+by_fault c lines (TooManySets n) h = h
 
 -- an answer that hands on a fault
 pub handed_on : {T : Type 0} (P : CallFault → Type 0) (fault : CallFault) → P fault → (r : Result T CallFault) → IsErrAnd r (λ e. e ≡ fault) → IfErr r P

@@ -5,3 +5,4 @@ pub mod Faults
 pub mod Questions
 pub mod Answers
 pub mod Bits
+pub mod Meanings

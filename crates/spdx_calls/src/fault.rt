@@ -26,6 +26,10 @@ pub enum CallFault {
     NotText,
     /// The text is no expression.
     Refused(Refusal),
+    /// The second of two texts is not UTF-8.
+    OtherNotText,
+    /// The second of two texts is no expression.
+    OtherRefused(Refusal),
     /// The licensee of this number, counted from 0, is not UTF-8.
     LicenseeNotText(usize),
     /// The licensee of this number, counted from 0, is refused, at these bytes of its line.
@@ -36,6 +40,8 @@ pub enum CallFault {
     TooMany(usize),
     /// There is not a bit for each requirement: the expression has so many.
     BitCount(usize),
+    /// So many sets of requirements are made for a part of an expression, which is more than 4,096.
+    TooManySets(usize),
     /// Memory was refused.
     Memory,
 }
