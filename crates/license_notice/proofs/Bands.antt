@@ -1,5 +1,5 @@
 -- Rows in groups.
-use Rattle.std.proofs.Common.{◌≡◌, ℕ, zero, suc, ◌+◌, ◌<◌, Bool, true, false, cond, List, [], ◌∷◌, ◌++◌, length, get_or, map, take, drop, flat_map, append_assoc, All, Ordering, refl, sym, ap, ◌∙◌, subst, ◌⊎◌, inl, inr, arith}
+use Rattle.std.proofs.Common.{◌≡◌, ℕ, suc, ◌+◌, ◌<◌, Bool, true, false, cond, List, [], ◌∷◌, ◌++◌, length, map, take, drop, append_assoc, All, Ordering, refl, sym, ap, ◌∙◌, subst, ◌⊎◌, inl, inr, arith}
 use Rattle.std.specs.List.{AllByRecursion, prefix_len}
 use Rattle.std.specs.List.Sorted.{IsStrictlySortedBy}
 use Rattle.std.specs.Ordering.{ordering_then, is_eq}
@@ -10,7 +10,7 @@ use Rattle.std.proofs.lemmas.List.Elements.{All-from_recursion}
 use Rattle.std.specs.declared.cmp.Ordering.TheVariants.{Less, Equal, Greater}
 use Rattle.std.proofs.lemmas.Slice.Eq.{bytes_eq-Decides}
 use Rattle.license_notice.specs.declared.stands.Stand.{Stand}
-use Rattle.license_notice.specs.Rows.{Row, Line, Band, row, row_cmp, text_cmp, rows_in, all_rows}
+use Rattle.license_notice.specs.Rows.{Row, Line, Band, row, row_cmp, text_cmp, all_rows}
 use Rattle.license_notice.specs.Grouping.{line_in, onto, first_name, grouped}
 use Rattle.license_notice.specs.Stands.{row_of}
 use Rattle.license_notice.specs.declared.packages.Group.{Group}

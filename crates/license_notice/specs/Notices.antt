@@ -1,6 +1,5 @@
 -- What a notice says.
 use Rattle.std.specs.Prelude.{ℕ, List, map}
-use Rattle.std.specs.Borrow.{Bor}
 use Rattle.license_notice.specs.declared.packages.Release.{Release}
 use Rattle.license_notice.specs.declared.packages.Group.{Group}
 use Rattle.license_notice.specs.Rows.{Line, Band}

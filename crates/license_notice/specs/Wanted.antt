@@ -1,9 +1,8 @@
 -- What the packages' choices want.
-use Rattle.std.specs.Prelude.{ℕ, List, map, flat_map}
+use Rattle.std.specs.Prelude.{ℕ, List, map, flat_map, string_bytes}
 use Rattle.license_notice.specs.declared.packages.Package.{Package}
 use Rattle.license_notice.specs.declared.packages.Requirement.{Requirement}
 use Rattle.license_notice.specs.Rows.{Row, row}
-use Rattle.std.specs.Borrow.{Bor}
 
 -- a package stands under each requirement of its choice
 abbrev pub rows_of : Package → List Row
@@ -14,7 +13,7 @@ chosen_rows packages = flat_map rows_of packages
 
 -- the texts that a requirement wants
 abbrev pub texts_of : Requirement → List (List ℕ)
-texts_of q = map (λ (t : Bor (List ℕ)). t.now) q.texts.now
+texts_of q = map string_bytes q.texts.now
 
 abbrev pub texts_for : Package → List (List ℕ)
 texts_for p = flat_map texts_of p.choice.now

@@ -4,7 +4,7 @@
 //! Of licences it knows their names alone.
 //!
 //! ```rust
-//! // crates/notice_rows/src/pages.rt
+//! // crates/test_forms/src/notices.rt
 //! let notice = notice_of(alloc, packages)?;
 //! ```
 //!
@@ -18,13 +18,16 @@ ghost use Rattle.license_notice.specs.Notices.{bands_of, names_of};
 ghost use Rattle.license_notice.specs.Wanted.{chosen_rows, wanted_texts};
 
 mod groups;
+mod once;
 mod packages;
 mod stands;
 mod texts;
 
 use crate::groups::groups;
+pub use crate::once::each_once;
 pub use crate::packages::{Group, Notice, Package, Release, Requirement};
 use crate::stands::stands;
+pub use crate::texts::text_names;
 use crate::texts::texts;
 use std::alloc::{AllocError, Global};
 
@@ -38,10 +41,7 @@ use std::alloc::{AllocError, Global};
 /// # Errors
 ///
 /// Memory was refused.
-pub fn notice_of<'t>(
-    alloc: Global,
-    packages: &[Package<'_, '_, 't>],
-) -> Result<Notice<'t>, AllocError>
+pub fn notice_of<'t>(alloc: Global, packages: &[Package<'_, 't>]) -> Result<Notice<'t>, AllocError>
     // A row is on the page exactly if it is of some package's choice.
     ensures chosen { IfOk result (λ n. (r : Row) →
         Contains (all_rows (bands_of n.groups.items)) r ↔ Contains (chosen_rows packages.now) r) }

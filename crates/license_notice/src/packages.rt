@@ -2,23 +2,23 @@
 
 /// A requirement of a package's choice: a licence, with an exception where it has one.
 #[derive(Clone, Copy, Debug)]
-pub struct Requirement<'r, 't> {
+pub struct Requirement<'t> {
     /// As it is written, as `Apache-2.0 WITH LLVM-exception`.
     pub name: &'t str,
     /// The names of the texts that it wants, as `Apache-2.0` and `LLVM-exception`.
-    pub texts: &'r [&'t str],
+    pub texts: &'t [String],
 }
 
 /// A package, and the requirements under which it is taken.
 #[derive(Clone, Copy, Debug)]
-pub struct Package<'c, 'r, 't> {
+pub struct Package<'c, 't> {
     pub name: &'t str,
     pub version: &'t str,
-    pub choice: &'c [Requirement<'r, 't>],
+    pub choice: &'c [Requirement<'t>],
 }
 
 /// A package as a notice names it.
-#[derive(Clone, Copy, Debug)]
+#[derive(Clone, Copy, PartialEq, Eq, PartialOrd, Ord, Debug)]
 pub struct Release<'t> {
     pub name: &'t str,
     pub version: &'t str,

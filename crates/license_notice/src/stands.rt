@@ -20,7 +20,7 @@ pub(crate) struct Stand<'t> {
 /// What each package's choice says, in order, each once.
 pub(crate) fn stands<'t>(
     alloc: Global,
-    packages: &[Package<'_, '_, 't>],
+    packages: &[Package<'_, 't>],
 ) -> Result<Vec<Stand<'t>>, AllocError>
     ensures ascend { IfOk result (λ v. IsStrictlySortedBy row_cmp (map row_of v.items)) }
     ensures keeps { IfOk result (λ v. (r : Row) →
@@ -34,7 +34,7 @@ pub(crate) fn stands<'t>(
     Ok(stands)
 }
 
-fn chosen<'t>(alloc: Global, packages: &[Package<'_, '_, 't>]) -> Result<Vec<Stand<'t>>, AllocError>
+fn chosen<'t>(alloc: Global, packages: &[Package<'_, 't>]) -> Result<Vec<Stand<'t>>, AllocError>
     ensures { IfOk result (λ v. map row_of v.items ≡ chosen_rows packages.now) }
 {
     let mut stands = Vec::new(alloc);
@@ -44,10 +44,7 @@ fn chosen<'t>(alloc: Global, packages: &[Package<'_, '_, 't>]) -> Result<Vec<Sta
     Ok(stands)
 }
 
-fn put_stands<'t>(
-    stands: &mut Vec<Stand<'t>>,
-    package: &Package<'_, '_, 't>,
-) -> Result<(), AllocError>
+fn put_stands<'t>(stands: &mut Vec<Stand<'t>>, package: &Package<'_, 't>) -> Result<(), AllocError>
     ensures { OnOk result (map row_of stands.new.items
         ≡ map row_of stands.old.items ++ rows_of «package».now) }
 {

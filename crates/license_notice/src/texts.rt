@@ -1,6 +1,6 @@
 // The names of the texts that choices want.
 
-ghost use Rattle.std.specs.Prelude.{◌≡◌, ℕ, List, ◌++◌, OnOk, IfOk, Contains, map, flat_map};
+ghost use Rattle.std.specs.Prelude.{◌≡◌, ℕ, List, ◌++◌, OnOk, IfOk, Contains, map, flat_map, string_bytes};
 ghost use Rattle.std.specs.List.Sorted.{IsStrictlySortedBy};
 ghost use Rattle.license_notice.specs.Rows.{text_cmp};
 ghost use Rattle.license_notice.specs.Wanted.{texts_of, texts_for, wanted_texts};
@@ -11,7 +11,7 @@ use std::alloc::{AllocError, Global};
 /// The names of the texts that are wanted, in order, each once.
 pub(crate) fn texts<'t>(
     alloc: Global,
-    packages: &[Package<'_, '_, 't>],
+    packages: &[Package<'_, 't>],
 ) -> Result<Vec<&'t str>, AllocError>
     ensures ascend { IfOk result (λ v. IsStrictlySortedBy text_cmp (map (λ t. t.now) v.items)) }
     ensures keeps { IfOk result (λ v. (t : List ℕ) →
@@ -25,7 +25,7 @@ pub(crate) fn texts<'t>(
     Ok(texts)
 }
 
-fn wanted<'t>(alloc: Global, packages: &[Package<'_, '_, 't>]) -> Result<Vec<&'t str>, AllocError>
+fn wanted<'t>(alloc: Global, packages: &[Package<'_, 't>]) -> Result<Vec<&'t str>, AllocError>
     ensures { IfOk result (λ v. map (λ t. t.now) v.items ≡ wanted_texts packages.now) }
 {
     let mut texts = Vec::new(alloc);
@@ -35,12 +35,35 @@ fn wanted<'t>(alloc: Global, packages: &[Package<'_, '_, 't>]) -> Result<Vec<&'t
     Ok(texts)
 }
 
-fn put_texts<'t>(texts: &mut Vec<&'t str>, choice: &[Requirement<'_, 't>]) -> Result<(), AllocError>
+fn put_texts<'t>(texts: &mut Vec<&'t str>, choice: &[Requirement<'t>]) -> Result<(), AllocError>
     ensures { OnOk result (map (λ t. t.now) texts.new.items
         ≡ map (λ t. t.now) texts.old.items ++ flat_map texts_of choice.now) }
 {
     for requirement in choice {
-        texts.extend_from_slice(requirement.texts)?;
+        put_names(texts, requirement.texts)?;
     }
     Ok(())
+}
+
+fn put_names<'t>(texts: &mut Vec<&'t str>, names: &'t [String]) -> Result<(), AllocError>
+    ensures { OnOk result (map (λ t. t.now) texts.new.items
+        ≡ map (λ t. t.now) texts.old.items ++ map string_bytes names.now) }
+{
+    for name in names {
+        texts.push(name.as_str())?;
+    }
+    Ok(())
+}
+
+/// The names of the texts that the requirements want, in their order.
+///
+/// # Errors
+///
+/// Memory was refused.
+pub fn text_names<'t>(alloc: Global, choice: &[Requirement<'t>]) -> Result<Vec<&'t str>, AllocError>
+    ensures { IfOk result (λ v. map (λ t. t.now) v.items ≡ flat_map texts_of choice.now) }
+{
+    let mut texts = Vec::new(alloc);
+    put_texts(&mut texts, choice)?;
+    Ok(texts)
 }

@@ -58,7 +58,9 @@ pub fn is_license_text(file: &File<'_>) -> bool
     file.is_declared || is_license_name(name_in(file.path.as_bytes()))
 }
 
-fn is_owed(file: &File<'_>, offered: &[&str], chosen: &[&str]) -> bool
+/// Whether the file is owed where the package offers these licences and exceptions, and these of them are chosen, as
+/// `owed_files` says.
+pub fn is_owed(file: &File<'_>, offered: &[&str], chosen: &[&str]) -> bool
     ensures { result ≡ spec.is_owed (map (λ t. t.now) offered.now) (map (λ t. t.now) chosen.now)
         (seen file.now) }
 {

@@ -1,6 +1,6 @@
 use Rattle.std.proofs.Common.{◌≡◌, List, Contains, map, sym, ap, ◌∙◌, subst}
 use Rattle.std.specs.List.Sorted.{IsStrictlySortedBy}
-use Rattle.license_notice.specs.Rows.{Row, Band, row_cmp, all_rows}
+use Rattle.license_notice.specs.Rows.{Row, row_cmp, all_rows}
 use Rattle.license_notice.specs.Stands.{row_of}
 use Rattle.license_notice.specs.Notices.{bands_of}
 use Rattle.license_notice.proofs.Bands.{rows_grouped, names_grouped, none_empty}

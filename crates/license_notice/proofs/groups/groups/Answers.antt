@@ -1,10 +1,8 @@
-use Rattle.std.proofs.Common.{◌≡◌, ◌-◌, ◌<◌, ◌++◌, [], ◌∷◌, List, length, map, take, drop, arith, ◌∙◌, sym, ap, subst}
-use Rattle.std.proofs.lemmas.Grind.{common_steps}
+use Rattle.std.proofs.Common.{◌≡◌, ◌-◌, ◌<◌, ◌++◌, [], ◌∷◌, List, length, map, take, drop, arith, sym, subst}
 use Rattle.std.proofs.lemmas.List.{take_all, length-drop, length-take-le}
 use Rattle.std.proofs.lemmas.Bool.Decides.{nat_tests}
 use Rattle.license_notice.specs.declared.packages.Group.{Group}
 use Rattle.license_notice.specs.declared.stands.Stand.{Stand}
-use Rattle.license_notice.specs.Rows.{Band}
 use Rattle.license_notice.specs.Notices.{line_of, bands_of}
 use Rattle.license_notice.specs.Grouping.{grouped}
 use Rattle.license_notice.specs.Stands.{row_of}

@@ -1,4 +1,4 @@
-use Rattle.std.proofs.Common.{◌≡◌, ℕ, Contains, map, refl, sym, subst, ap, ◌&&◌, Bool, true, false, ◌∙◌, List}
+use Rattle.std.proofs.Common.{◌≡◌, ℕ, Contains, refl, sym, subst, ap, ◌&&◌, Bool, true, false, ◌∙◌, List}
 use Rattle.std.specs.Cmp.{IsTotalOrder, IsEquivalence, both_tied}
 use Rattle.std.specs.Cmp.Lexicographic.{on_texts, on_texts_equal, texts_ties}
 use Rattle.std.specs.Ordering.{eq_by_cmp}
@@ -9,7 +9,6 @@ use Rattle.std.proofs.lemmas.List.Kept.{IsStrictlySortedBy-dedup}
 use Rattle.license_notice.specs.declared.stands.Stand.{Stand}
 use Rattle.license_notice.specs.Rows.{Row, row, row_cmp}
 use Rattle.license_notice.specs.Stands.{row_of}
-use Rattle.license_notice.specs.Wanted.{chosen_rows}
 use Rattle.license_notice.proofs.Bands.{same}
 use Rattle.license_notice.proofs.Ordered.{sorted_map, kept, added_none}
 use Rattle.license_notice.proofs.stands.stands.Goals as goal

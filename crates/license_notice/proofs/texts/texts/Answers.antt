@@ -1,4 +1,4 @@
-use Rattle.std.proofs.Common.{◌≡◌, ℕ, List, Contains, map, sym, subst}
+use Rattle.std.proofs.Common.{ℕ, List, Contains, sym, subst}
 use Rattle.std.specs.Borrow.{Bor}
 use Rattle.std.specs.Cmp.Lexicographic.{on_texts, on_texts_equal, texts_ties}
 use Rattle.std.specs.Str.{bytes_eq}

@@ -1,0 +1,5 @@
+pub mod Packages
+pub mod Lacks
+pub mod Texts
+pub mod Page
+pub mod Totals
