@@ -3,8 +3,8 @@
 //! Of licences it knows their texts alone.
 //!
 //! ```rust
-//! // crates/spdx_program/src/baseline.rt
-//! known_among(alloc, &before, &now)
+//! // crates/gate_program/src/before.rt
+//! let known = known_among(alloc, &refused, &refusals)?;
 //! ```
 //!
 //! It stands on nothing but std.

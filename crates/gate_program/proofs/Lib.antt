@@ -1,2 +1,4 @@
 pub mod Zips
 pub mod Asking
+pub mod Law
+pub mod Runs

@@ -1,6 +1,5 @@
 -- The packages of the files that are judged, as the policy judges them.
 use Rattle.std.specs.Prelude.{◌≡◌, ℕ, List, Option, None, Some, map, flat_map, option_map, string_bytes}
-use Rattle.std.specs.Option.{option_copied}
 use Rattle.spdx_requirement.specs.Rows.{Rows}
 use Rattle.package_items.specs.declared.package.License.{License}
 use Rattle.package_items.specs.declared.package.License.TheVariants as license

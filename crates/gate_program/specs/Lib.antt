@@ -5,3 +5,5 @@ pub mod Asked
 pub mod Before
 pub mod Gated
 pub mod Texts
+pub mod Policy
+pub mod Run

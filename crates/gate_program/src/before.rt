@@ -174,8 +174,8 @@ fn add_packages<'t>(packages: &mut Vec<&'t Package>, more: &'t [Package]) -> Res
     Ok(())
 }
 
-// The package's name, unless that is the number of its line, which changes as lines come and go.
-fn name_of(listed: &Package) -> &str
+/// The package's name, unless that is the number of its line, which changes as lines come and go.
+pub fn name_of(listed: &Package) -> &str
     ensures { result.now ≡ told_name listed.now }
 {
     let name = listed.name.as_str();

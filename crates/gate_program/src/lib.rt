@@ -1,22 +1,28 @@
-//! What `spdx gate` tells of the packages of some files, and whether they pass.
+//! The command `spdx gate` over a shelf of files: what it reads, what it tells of the packages, and its status.
 //!
 //! The policy judges the packages of all files in their order; what an older file refuses is known. What is told is made of
 //! the report alone, so it says of each package what the policy says of it.
 //!
-//! A run is `Gated::of(alloc, &catalogue, &policy, files, None)?`, whose files `package_files` reads; `gate_text` says what is
-//! written of it. The program doesn't call it yet.
+//! ```rust
+//! // crates/spdx_program/src/gate.rt
+//! let run = gate_program::gate(alloc, &shelf, inside(), HEIRS.as_bytes(), asked)?;
+//! ```
 //!
-//! It stands on `package_files`, `gate_told`, `gate_baseline` and `spdx_gate`.
+//! It stands on `list_program`, `package_files`, `gate_told`, `gate_baseline` and `spdx_gate`.
 #![tactic(auto)]
 
 pub mod before;
 pub mod gated;
 pub mod judging;
 mod named;
+pub mod policy;
+pub mod run;
 mod tellings;
 pub mod told;
 
-pub use crate::before::Before;
+pub use crate::before::{Before, name_of};
 pub use crate::gated::Gated;
 pub use crate::judging::view;
+pub use crate::policy::{PolicyTrouble, policy_at};
+pub use crate::run::{End, GateTrouble, Request, Run, gate};
 pub use crate::told::{GateText, Look, gate_text};

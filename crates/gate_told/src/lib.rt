@@ -5,8 +5,8 @@
 //! the files and names of a run's packages they are its verdicts, which stand one behind the other in each form.
 //!
 //! ```rust
-//! // crates/spdx_program/src/gate.rt
-//! put_all_unused(alloc, &mut text, path, policy, &gated.report)?;
+//! // crates/gate_program/src/told.rt
+//! put_all_unused(alloc, text, path, policy, &gated.report)?;
 //! ```
 //!
 //! It stands on `spdx_gate` and `gate_forms`.

@@ -1,5 +1,5 @@
 -- A fault of a part is one of the whole.
-use Rattle.std.specs.Prelude.{◌≡◌, ℕ, List}
+use Rattle.std.specs.Prelude.{ℕ, List}
 use Rattle.shelves.specs.Shelf.{Shelved}
 use Rattle.package_files.specs.declared.fault.FileFault.{FileFault}
 use Rattle.package_files.specs.declared.fault.FileFault.TheVariants as fault

@@ -1,3 +1,4 @@
 pub mod Causes
 pub mod Slashes
 pub mod Parts
+pub mod Each

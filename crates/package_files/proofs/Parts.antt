@@ -1,11 +1,11 @@
 -- What is listed, of its parts.
-use Rattle.std.proofs.Common.{◌≡◌, ℕ, Bool, true, false, List, [], ◌∷◌, ◌∙◌, length, map, refl, sym, ap, subst, Ok, Err}
-use Rattle.std.specs.Prelude.{Option, None, cond, filter, string_bytes}
+use Rattle.std.proofs.Common.{◌≡◌, ℕ, Bool, true, false, List, [], ◌∷◌, ◌∙◌, map, refl, sym, ap, Ok}
+use Rattle.std.specs.Prelude.{None, cond, filter, string_bytes}
 use Rattle.std.specs.Char.{is_ascii_whitespace}
 use Rattle.std.specs.List.{list_all}
 use Rattle.std.proofs.lemmas.Bool.{cond-true, cond-false}
 use Rattle.std.proofs.lemmas.List.{length-map}
-use Rattle.package_items.specs.Rows.{row_of, fault_of}
+use Rattle.package_items.specs.Rows.{row_of}
 use Rattle.shelves.specs.Shelf.{Shelved}
 use Rattle.package_files.specs.declared.fault.FileFault.{FileFault}
 use Rattle.package_files.specs.declared.fault.FileFault.TheVariants as fault

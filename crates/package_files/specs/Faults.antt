@@ -1,5 +1,5 @@
 -- Why the packages of a file aren't had. Nothing is said of memory.
-use Rattle.std.specs.Prelude.{◌≡◌, ℕ, Bool, true, false, List, [], Option, Ok, Err, codes, string_bytes}
+use Rattle.std.specs.Prelude.{◌≡◌, ℕ, Bool, true, false, List, [], Option, Ok, Err, string_bytes}
 use Rattle.std.specs.declared.io.Error.{Error}
 use Rattle.package_items.specs.Rows.{fault_of}
 use Rattle.package_sources.specs.declared.form.Form.{Form}

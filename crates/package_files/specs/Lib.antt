@@ -1,3 +1,4 @@
 pub mod Reading
 pub mod Listed
 pub mod Faults
+pub mod All

@@ -1,5 +1,5 @@
 -- The packages of a file.
-use Rattle.std.specs.Prelude.{◌≡◌, ◌≢◌, ℕ, Bool, true, false, not, length, List, [], ◌∷◌, Option, None, Some, Result, Ok, Err, filter, map, bytes_eq, codes, string_bytes, if◌then◌else◌}
+use Rattle.std.specs.Prelude.{◌≡◌, ◌≢◌, ℕ, Bool, true, false, not, length, List, [], Option, None, Result, Ok, filter, map, bytes_eq, codes, string_bytes, if◌then◌else◌}
 use Rattle.std.specs.List.{list_all}
 use Rattle.std.specs.Char.{is_ascii_whitespace}
 use Rattle.package_items.specs.Rows.{Fault, PackageRow, row_of}

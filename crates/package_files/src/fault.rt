@@ -1,8 +1,11 @@
 // Why the packages of a file aren't had.
 
+ghost use Rattle.std.specs.Prelude.{◌≡◌};
+ghost use Rattle.package_files.specs.All as spec;
+
 use package_sources::SourceFault;
 use std::alloc::AllocError;
-use std::io;
+use std::io::{self, ErrorKind};
 
 /// Why the packages of a file aren't had.
 #[derive(Drop)]
@@ -24,5 +27,18 @@ impl From<AllocError> for FileFault {
 
     fn from(_error: AllocError) -> FileFault {
         FileFault::Memory
+    }
+}
+
+impl FileFault {
+    /// Whether memory was refused, to the system or to this program.
+    pub fn is_of_memory(&self) -> bool
+        ensures { result ≡ spec.is_of_memory self.now }
+    {
+        match self {
+            FileFault::Unreadable(_, error) => matches!(error.kind(), ErrorKind::OutOfMemory),
+            FileFault::Source(..) | FileFault::Empty(_) => false,
+            FileFault::Memory => true,
+        }
     }
 }

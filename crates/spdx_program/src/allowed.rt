@@ -1,9 +1,9 @@
 // What each package is used under by a policy.
 
-use crate::chosen::{ALL, Choice, without_choice};
-use crate::packages::view;
+use crate::chosen::{ALL, Choice, Chosen, without_choice};
 use crate::several::Several;
 use crate::trouble::Trouble;
+use gate_program::view;
 use package_choices::allowed::{Joint, Offer, joint_choices};
 use package_choices::texts_of;
 use package_sources::Package;
@@ -18,31 +18,59 @@ const NOT_ALLOWED: &str = "not allowed by the policy";
 
 const TOO_MANY: &str = "more than 1,024 requirements";
 
-/// The choice of each package among what the policy allows it; of one choice for all, where that is asked for.
+/// What the packages are used under among what the policy allows them; of one choice for all, where that is asked for.
 pub(crate) fn allowed<'c>(
     alloc: Global,
     catalogue: &'c Catalogue,
     policy: &Policy<'c>,
     packages: &[&Package],
     one_for_all: bool,
-) -> Result<Vec<Choice>, Trouble> {
+) -> Result<Chosen, Trouble> {
     let mut views = Vec::new(alloc);
     for package in packages {
         views.push(view(package))?;
     }
     let report = judge(alloc, catalogue, policy, &views)?;
     let places = all_places(alloc, packages, &report)?;
-    if one_for_all {
-        return together(alloc, packages, &report, &places);
-    }
+    let choices = if one_for_all {
+        together(alloc, packages, &report, &places)?
+    } else {
+        apart(alloc, packages, &report, &places)?
+    };
+    let offered = offered_at(alloc, &report, &places)?;
+    Ok(Chosen { choices, offered })
+}
+
+// The choice of each package by itself.
+fn apart(
+    alloc: Global,
+    packages: &[&Package],
+    report: &Report<'_>,
+    places: &[usize],
+) -> Result<Vec<Choice>, Trouble> {
     let mut choices = Vec::new(alloc);
     for (package, place) in packages.iter().zip(places.iter()) {
-        if let Some(judged) = judged_at(&report, *place) {
+        if let Some(judged) = judged_at(report, *place) {
             let numbers = numbers_of(alloc, package, &judged.choice)?;
             choices.push(chosen(alloc, judged.nodes.as_slice(), numbers)?)?;
         }
     }
     Ok(choices)
+}
+
+// All requirements of what was judged at each place.
+fn offered_at(
+    alloc: Global,
+    report: &Report<'_>,
+    places: &[usize],
+) -> Result<Vec<Choice>, AllocError> {
+    let mut all = Vec::new(alloc);
+    for place in places {
+        if let Some(judged) = judged_at(report, *place) {
+            all.push(offered(alloc, judged.nodes.as_slice())?)?;
+        }
+    }
+    Ok(all)
 }
 
 // Of each package the place of its judgement. Each one that has no choice of its own is told.
@@ -177,4 +205,14 @@ fn chosen(alloc: Global, nodes: &[ExprNode<'_>], numbers: &[usize]) -> Result<Ch
         }
     }
     Ok(choice)
+}
+
+fn offered(alloc: Global, nodes: &[ExprNode<'_>]) -> Result<Choice, AllocError> {
+    let mut offered = Vec::new(alloc);
+    for node in nodes {
+        if let ExprNode::Req(requirement) = node {
+            offered.push(texts_of(alloc, &requirement.req)?)?;
+        }
+    }
+    Ok(offered)
 }

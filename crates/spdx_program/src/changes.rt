@@ -1,20 +1,15 @@
 // The command `diff`: what changed between two lists of packages.
 
-use crate::baseline::told_name;
 use crate::console::Console;
-use crate::list;
-use crate::packages::{AllListed, Listed, Wanted, read_all, tell_forms};
-use crate::policy::policy;
+use crate::list::{HEIRS, inside};
+use crate::packages::{read_as, tell_forms};
 use crate::system::System;
-use crate::told::{ToldChange, told_changes};
 use crate::trouble::Trouble;
-use change_forms::{Form, How, put_changes};
+use change_forms::Form;
+use changes_program::{Request, Run, Totals};
 use line_engine::lines::write_all;
-use package_changes::{Package, changes_between};
-use package_sources::License;
-use spdx::Catalogue;
-use spdx_gate::{Package as Judged, judge};
-use spdx_policy::Policy;
+use package_files::Wanted;
+use shelves::SystemShelf;
 use spdx_words::{ChangesForm, ChangesRequest};
 use std::alloc::{AllocError, Global};
 use std::io::Write;
@@ -27,129 +22,63 @@ pub(crate) fn changes<R: System, O: Write + Drop, F: Write + Drop>(
     console: &mut Console<O, F>,
 ) -> Result<u8, Trouble> {
     let alloc = rt.alloc();
-    let catalogue = list::catalogue(rt, request.list)?;
-    let policy = match request.policy {
-        Some(path) => Some(policy(rt, &catalogue, path)?),
-        None => None,
-    };
-    let paths = [request.old, request.new];
-    let wanted = Wanted {
-        source: request.source,
-        allow_empty: request.allow_empty,
-        exclude_own: request.exclude_own,
-        tells_form: false,
-        paths: &paths,
-    };
-    let AllListed { files, status } = read_all(rt, wanted, console)?;
+    let shelf = SystemShelf::new(rt);
+    let asked = asked(request);
+    let run = changes_program::changes(alloc, &shelf, inside(), HEIRS.as_bytes(), asked)?;
+    let status = run.status();
+    let Run {
+        files,
+        left_out,
+        told,
+    } = run;
+    for fault in left_out {
+        console.tell(alloc, &Trouble::from(fault));
+    }
     tell_forms(alloc, &files, console)?;
-    let [older, newer] = files.as_slice() else {
+    let Some(told) = told else {
         return Ok(status);
     };
-    let old = packages_of(alloc, older)?;
-    let new = packages_of(alloc, newer)?;
-    let changes = changes_between(alloc, &old, &new)?;
-    let mut told = told_changes(alloc, &catalogue, &changes)?;
-    if let Some(policy) = &policy {
-        mark_refused(alloc, &catalogue, policy, &mut told)?;
-    }
-    let text = written(alloc, request.form, &told)?;
-    write_all(&mut console.output, &text)?;
+    write_all(&mut console.output, &told.text)?;
     if request.tells_totals {
-        let totals = totals_of(alloc, old.len(), new.len(), &told)?;
+        let totals = totals_text(alloc, told.totals)?;
         let _ = write_all(&mut console.faults, totals.as_bytes());
     }
-    Ok(u8::from(told.iter().any(|change| change.is_refused)))
+    Ok(status)
 }
 
-// The packages of a file, as changes have them.
-fn packages_of(alloc: Global, listed: &Listed) -> Result<Vec<Package<'_>>, AllocError> {
-    let mut packages = Vec::new(alloc);
-    for package in &listed.packages {
-        packages.push(Package {
-            name: told_name(package),
-            version: match &package.version {
-                Some(version) => version.as_str(),
-                None => "",
-            },
-            license: match &package.license {
-                License::Stated(text) => text.as_str(),
-                License::Unstated => "",
-            },
-        })?;
+// What the request asks of a run.
+fn asked<'r>(request: &'r ChangesRequest<'r>) -> Request<'r> {
+    Request {
+        list: request.list,
+        policy: request.policy,
+        wanted: Wanted {
+            source: read_as(request.source),
+            allow_empty: request.allow_empty,
+            exclude_own: request.exclude_own,
+        },
+        old: request.old,
+        new: request.new,
+        form: match request.form {
+            ChangesForm::Text => Form::Text,
+            ChangesForm::Json => Form::Json,
+            ChangesForm::Markdown => Form::Markdown,
+        },
     }
-    Ok(packages)
-}
-
-// Marks those that came or changed and that the policy refuses.
-fn mark_refused<'c>(
-    alloc: Global,
-    catalogue: &'c Catalogue,
-    policy: &Policy<'c>,
-    told: &mut Vec<ToldChange<'_>>,
-) -> Result<(), AllocError> {
-    let mut packages = Vec::new(alloc);
-    for change in told.iter() {
-        if let Some(package) = change.new {
-            packages.push(judged(&package))?;
-        }
-    }
-    let report = judge(alloc, catalogue, policy, &packages)?;
-    let mut rows = report.rows.iter();
-    for change in told.iter_mut() {
-        if change.new.is_some() {
-            if let Some(row) = rows.next() {
-                change.is_refused = !row.verdict.is_allowed();
-            }
-        }
-    }
-    Ok(())
-}
-
-fn judged<'p>(package: &Package<'p>) -> Judged<'p> {
-    Judged {
-        name: package.name,
-        version: stated(package.version),
-        license: stated(package.license),
-    }
-}
-
-fn stated(text: &str) -> Option<&str> {
-    if text.is_empty() { None } else { Some(text) }
-}
-
-fn written(
-    alloc: Global,
-    form: ChangesForm,
-    told: &[ToldChange<'_>],
-) -> Result<Vec<u8>, AllocError> {
-    let mut tellings = Vec::new(alloc);
-    for change in told {
-        tellings.push(change.telling())?;
-    }
-    let form = match form {
-        ChangesForm::Text => Form::Text,
-        ChangesForm::Json => Form::Json,
-        ChangesForm::Markdown => Form::Markdown,
-    };
-    let mut text = Vec::new(alloc);
-    put_changes(alloc, &mut text, form, &tellings)?;
-    Ok(text)
 }
 
 // The line with the totals.
-fn totals_of(
-    alloc: Global,
-    before: usize,
-    after: usize,
-    told: &[ToldChange<'_>],
-) -> Result<String, AllocError> {
-    let came = count(told, How::Came);
-    let went = count(told, How::Went);
-    let changed = told.len().saturating_sub(came).saturating_sub(went);
-    let more = count(told, How::More).saturating_add(count(told, How::Other));
-    let refused = told.iter().filter(|change| change.is_refused).count();
+fn totals_text(alloc: Global, totals: Totals) -> Result<String, AllocError> {
+    let Totals {
+        before,
+        now,
+        came,
+        went,
+        changed,
+        more,
+        refused,
+    } = totals;
     let mut line = format!(in alloc;
-        "{before} packages before, {after} now: {came} came, {went} went"
+        "{before} packages before, {now} now: {came} came, {went} went"
     )?;
     line.push_str(format!(in alloc;
         ", {changed} changed license ({more} ask for more)"
@@ -159,8 +88,4 @@ fn totals_of(
     }
     line.push('\n')?;
     Ok(line)
-}
-
-fn count(told: &[ToldChange<'_>], how: How) -> usize {
-    told.iter().filter(|change| change.how == how).count()
 }

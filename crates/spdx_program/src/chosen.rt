@@ -19,25 +19,36 @@ pub(crate) const ALL: &str = "all packages together";
 /// The requirements of a package's choice, with the texts that they want.
 pub(crate) type Choice = Vec<RequirementTexts>;
 
-/// The choice of each package, in their order, among what the request accepts.
-pub(crate) fn choices<R: System>(
+/// What packages are used under.
+#[derive(Drop)]
+pub(crate) struct Chosen {
+    /// The choice of each package, in their order.
+    pub(crate) choices: Vec<Choice>,
+    /// All requirements of each package's expression.
+    pub(crate) offered: Vec<Choice>,
+}
+
+/// What the packages are used under, among what the request accepts.
+pub(crate) fn choose<R: System>(
     rt: &R,
     catalogue: &Catalogue,
     request: &NoticeRequest<'_>,
     packages: &[&Package],
-) -> Result<Vec<Choice>, Trouble> {
+) -> Result<Chosen, Trouble> {
     let alloc = rt.alloc();
     match request.accepted {
         Accepted::List(list, is_lax) => {
             let accepted = licensees(alloc, catalogue, list)?;
             let expressions = expressions(alloc, catalogue, mode_of(is_lax), packages)?;
-            among(
+            let choices = among(
                 alloc,
                 packages,
                 &expressions,
                 &accepted,
                 request.one_for_all,
-            )
+            )?;
+            let offered = offered_by(alloc, &expressions)?;
+            Ok(Chosen { choices, offered })
         }
         Accepted::Policy(path) => {
             let policy = policy(rt, catalogue, path)?;
@@ -203,6 +214,19 @@ fn why_unmet(alloc: Global, unmet: Unmet) -> Result<String, AllocError> {
 fn unmet_trouble(alloc: Global, unmet: Unmet) -> Result<Trouble, AllocError> {
     let why = why_unmet(alloc, unmet)?;
     Ok(Trouble::NoChoice(String::from_str(alloc, ALL)?, why))
+}
+
+// All requirements of each expression.
+fn offered_by(alloc: Global, expressions: &[Expression<'_>]) -> Result<Vec<Choice>, AllocError> {
+    let mut all = Vec::new(alloc);
+    for expression in expressions {
+        let mut offered = Vec::new(alloc);
+        for requirement in expression.requirements() {
+            offered.push(texts_of(alloc, &requirement.req)?)?;
+        }
+        all.push(offered)?;
+    }
+    Ok(all)
 }
 
 fn with_texts(alloc: Global, choices: &[Vec<LicenseReq<'_>>]) -> Result<Vec<Choice>, Trouble> {

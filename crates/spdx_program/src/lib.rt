@@ -13,7 +13,6 @@
 #![tactic(auto)]
 
 mod allowed;
-mod baseline;
 mod changes;
 mod check;
 mod chosen;
@@ -22,6 +21,7 @@ mod console;
 mod diff;
 mod fix;
 mod gate;
+mod general;
 mod left;
 mod list;
 mod make;
@@ -36,12 +36,13 @@ mod serve;
 mod several;
 mod show;
 mod simplify;
+mod sources;
 mod sums;
 mod system;
-mod told;
 mod trouble;
 mod walk;
 mod wanted;
+mod within;
 
 pub use crate::console::Screen;
 pub use crate::list::known_version;

@@ -5,7 +5,8 @@ use crate::trouble::Trouble;
 use list_program::{Inside, list_at, named_list};
 use shelves::SystemShelf;
 use spdx::{Catalogue, Failure};
-use spdx_known::{EXTRAS, HEIRS, LIST, VERSION};
+pub(crate) use spdx_known::HEIRS;
+use spdx_known::{EXTRAS, LIST, VERSION};
 use spdx_list::Extras;
 use std::alloc::Global;
 
@@ -14,8 +15,8 @@ pub fn known_version() -> &'static str {
     VERSION
 }
 
-// What the program has inside.
-fn inside() -> Inside<'static> {
+/// What the program has inside.
+pub(crate) fn inside() -> Inside<'static> {
     Inside {
         list: LIST.as_bytes(),
         extras: EXTRAS.as_bytes(),

@@ -5,31 +5,14 @@ use crate::system::{System, paths_or_input};
 use crate::trouble::Trouble;
 use document_references::shared_references;
 pub(crate) use package_files::Listed;
-use package_files::listed_at;
-use package_sources::{Form, License, Package, Pointers};
+use package_sources::{Form, Pointers};
 use shelves::SystemShelf;
-use spdx_gate::Package as Judged;
 use spdx_words::{Source, SourceForm};
 use std::alloc::{AllocError, Global};
 use std::io::Write;
 
 // How many references are told by name.
 const MOST_NAMED: usize = 5;
-
-/// A package, as a policy judges it.
-pub(crate) fn view(package: &Package) -> Judged<'_> {
-    Judged {
-        name: package.name.as_str(),
-        version: match &package.version {
-            Some(version) => Some(version.as_str()),
-            None => None,
-        },
-        license: match &package.license {
-            License::Stated(text) => Some(text.as_str()),
-            License::Unstated => None,
-        },
-    }
-}
 
 /// Which packages are wanted of which files.
 #[derive(Clone, Copy)]
@@ -60,14 +43,17 @@ pub(crate) fn read_all<R: System, O: Write + Drop, F: Write + Drop>(
     console: &mut Console<O, F>,
 ) -> Result<AllListed, Trouble> {
     let alloc = rt.alloc();
-    let mut files = Vec::new(alloc);
+    let each = package_files::Wanted {
+        source: read_as(wanted.source),
+        allow_empty: wanted.allow_empty,
+        exclude_own: wanted.exclude_own,
+    };
+    let paths = paths_or_input(wanted.paths);
+    let all = package_files::all_listed_at(alloc, &SystemShelf::new(rt), each, paths)?;
+    let package_files::AllListed { files, left_out } = all;
     let mut status = 0;
-    for path in paths_or_input(wanted.paths) {
-        match wanted_in(rt, wanted, *path) {
-            Ok(listed) => files.push(listed)?,
-            Err(trouble) if trouble.is_passed_over() => status = console.tell(alloc, &trouble),
-            Err(trouble) => return Err(trouble),
-        }
+    for fault in left_out {
+        status = console.tell(alloc, &Trouble::from(fault));
     }
     if wanted.tells_form {
         tell_forms(alloc, &files, console)?;
@@ -76,19 +62,8 @@ pub(crate) fn read_all<R: System, O: Write + Drop, F: Write + Drop>(
     Ok(AllListed { files, status })
 }
 
-// The packages that are wanted of a file.
-fn wanted_in<R: System>(rt: &R, wanted: Wanted<'_>, path: &str) -> Result<Listed, Trouble> {
-    let each = package_files::Wanted {
-        source: read_as(wanted.source),
-        allow_empty: wanted.allow_empty,
-        exclude_own: wanted.exclude_own,
-    };
-    let listed = listed_at(rt.alloc(), &SystemShelf::new(rt), each, path)?;
-    Ok(listed)
-}
-
-// Tells which references several of SPDX's documents have, the first five of them by name.
-fn tell_shared<O: Write + Drop, F: Write + Drop>(
+/// Tells which references several of SPDX's documents have, the first five of them by name.
+pub(crate) fn tell_shared<O: Write + Drop, F: Write + Drop>(
     alloc: Global,
     source: Source<'_>,
     files: &[Listed],
@@ -163,19 +138,8 @@ fn is_guessed(file: &Listed, name: &str) -> bool {
     }
 }
 
-/// The packages of a baseline, which is read as the other files are, or is what an earlier run wrote.
-pub(crate) fn listed_before<R: System>(
-    rt: &R,
-    source: Source<'_>,
-    path: &str,
-) -> Result<Listed, Trouble> {
-    let shelf = SystemShelf::new(rt);
-    let listed = package_files::listed_before(rt.alloc(), &shelf, read_as(source), path)?;
-    Ok(listed)
-}
-
-// How files are read.
-fn read_as(source: Source<'_>) -> package_files::Source<'_> {
+/// How files are read.
+pub(crate) fn read_as(source: Source<'_>) -> package_files::Source<'_> {
     match source {
         Source::Auto => package_files::Source::Auto,
         Source::Named(form) => package_files::Source::Named(named(form)),

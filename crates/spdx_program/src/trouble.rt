@@ -2,6 +2,7 @@
 
 use crate::replace::{Loss, Obstacle};
 use foreign_text::{Sink, text_for};
+use gate_program::{GateTrouble, PolicyTrouble};
 use line_engine::device::Failed;
 use line_engine::lines::RunFault;
 use list_program::ListTrouble;
@@ -54,6 +55,8 @@ pub(crate) enum Trouble {
     Unmeant(String, String),
     /// A licence's text can't be had, and why.
     Text(String, String),
+    /// A package wants the text of this name, which neither the package has nor anybody else.
+    NoText(String, String),
     /// The list has no such name; and what is told of those that may be meant.
     Unlisted(String, String),
     /// The mended file can't be written.
@@ -124,6 +127,27 @@ impl From<FileFault> for Trouble {
             FileFault::Source(path, fault) => Trouble::Source(path, fault),
             FileFault::Empty(path) => Trouble::Empty(path),
             FileFault::Memory => Trouble::Memory,
+        }
+    }
+}
+
+impl From<PolicyTrouble> for Trouble {
+    fn from(trouble: PolicyTrouble) -> Trouble {
+        match trouble {
+            PolicyTrouble::Unreadable(path, error) => Trouble::of_path(path, error),
+            PolicyTrouble::NoPolicy(path, fault) => Trouble::Policy(path, fault),
+            PolicyTrouble::NoHeirs(fault) => Trouble::NoExtras(fault),
+            PolicyTrouble::Memory => Trouble::Memory,
+        }
+    }
+}
+
+impl From<GateTrouble> for Trouble {
+    fn from(trouble: GateTrouble) -> Trouble {
+        match trouble {
+            GateTrouble::List(trouble) => Trouble::from(trouble),
+            GateTrouble::Policy(trouble) => Trouble::from(trouble),
+            GateTrouble::Memory => Trouble::Memory,
         }
     }
 }
@@ -217,7 +241,7 @@ impl Trouble {
     pub(crate) fn status(&self) -> u8 {
         match self {
             Trouble::Unwritable(..) | Trouble::Output | Trouble::Memory => 3,
-            Trouble::NoChoice(..) => 1,
+            Trouble::NoChoice(..) | Trouble::NoText(..) => 1,
             Trouble::Lost(..)
             | Trouble::Guessed(..)
             | Trouble::LeftBehind(_)
@@ -257,6 +281,7 @@ impl Trouble {
             | Trouble::Unmeant(name, why)
             | Trouble::NoChoice(name, why)
             | Trouble::Text(name, why)
+            | Trouble::NoText(name, why)
             | Trouble::Unlisted(name, why) => (name.as_str(), why.as_str()),
             Trouble::Nameless => ("SPDX_LIST", ""),
             Trouble::NoExtras(_) => ("the extras inside", ""),
@@ -315,6 +340,7 @@ impl Trouble {
                 write!(text, "spdx: {name}: {why}\n")
             }
             Trouble::Text(..) => write!(text, "spdx: the text of {name}: {why}\n"),
+            Trouble::NoText(..) => write!(text, "spdx: {name}: no text of {why}\n"),
             Trouble::Unlisted(..) => write!(text, "spdx: {name}: not in the list{why}\n"),
             Trouble::Unwritable(_, error) => write!(text, "spdx: {name}: not written: {error}\n"),
             Trouble::Special(_) => {

@@ -10,11 +10,12 @@ const GATE_EXAMPLE: &str = "Example:
 Status: 0 every package is allowed, 1 some package is not, 2 wrong words, list, policy or file, 3 a write or
 memory failed.";
 
-const NOTICE_EXAMPLE: &str = "Example:
+const NOTICE_EXAMPLE: &str = "Examples:
   spdx notice --accept MIT,Apache-2.0 --texts texts --format html --from cargo metadata.json > notice.html
+  spdx notice --accept MIT,Apache-2.0 --sources vendor --strict --from cargo metadata.json > notice.txt
 
-Status: 0 the page is written, 1 some package has no choice that is accepted, 2 wrong words, list, policy, file or
-license text, 3 a write or memory failed. No page is written but with 0.";
+Status: 0 the page is written, 1 some package has no choice that is accepted, or with --strict no text, 2 wrong words,
+list, policy, file or license text, 3 a write or memory failed. No page is written but with 0.";
 
 const DIFF_EXAMPLE: &str = "Example:
   spdx diff --from cargo --policy policy.toml --format markdown before.json after.json > comment.md
@@ -103,10 +104,12 @@ pub(crate) fn notice<'a>(alloc: Global) -> Result<Command<'a>, AllocError> {
             "The folder with the texts, as MIT.txt",
         ))?
         .arg(flag(alloc, "without-texts", "Leaves the texts out").conflicts_with("texts")?)?
+        .arg(own_texts_folder(alloc)?)?
+        .arg(strict(alloc)?)?
         .arg(flag(
             alloc,
             "follow",
-            "Follows links that lead out of the folder of the texts",
+            "Follows links that lead out of the folder of the texts, or of a package in that of the sources",
         ))?
         .arg(flag(
             alloc,
@@ -127,6 +130,26 @@ pub(crate) fn notice<'a>(alloc: Global) -> Result<Command<'a>, AllocError> {
     sources(alloc, notice)?
         .arg(list_file(alloc))?
         .arg(paths(alloc))
+}
+
+// The folder whose packages have texts of their own.
+fn own_texts_folder<'a>(alloc: Global) -> Result<Arg<'a>, AllocError> {
+    option(
+        alloc,
+        "sources",
+        "DIR",
+        "The folder with the packages, as serde-1.0.219, whose own texts are taken",
+    )
+    .conflicts_with("without-texts")
+}
+
+fn strict<'a>(alloc: Global) -> Result<Arg<'a>, AllocError> {
+    flag(
+        alloc,
+        "strict",
+        "With --sources: writes no page where a package has no text",
+    )
+    .requires_arg("sources")
 }
 
 /// The command `diff`.

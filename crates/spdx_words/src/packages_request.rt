@@ -123,9 +123,13 @@ pub struct NoticeRequest<'w> {
     pub list: Option<&'w str>,
     pub accepted: Accepted<'w>,
     pub source: Source<'w>,
-    /// The folder with the texts; none where they are left out.
+    /// The folder with the general texts, if one is named.
     pub texts: Option<&'w str>,
-    /// Whether links that lead out of that folder are followed.
+    /// The folder in which packages lie with texts of their own, if one is named.
+    pub sources: Option<&'w str>,
+    /// Whether no page is written where a package has no text.
+    pub is_strict: bool,
+    /// Whether links are followed that lead out of the folder of the texts, or of a package within that of the sources.
     pub follow: bool,
     /// Whether what a terminal would obey in the texts is written by its number.
     pub plain: bool,

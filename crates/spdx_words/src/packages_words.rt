@@ -39,7 +39,8 @@ pub(crate) fn notice_request<'w>(
     matches: &ArgMatches<'w>,
 ) -> Result<Request<'w>, Error> {
     let texts_folder = matches.get_str("texts");
-    if texts_folder.is_none() && !matches.get_flag("without-texts") {
+    let sources = matches.get_str("sources");
+    if texts_folder.is_none() && sources.is_none() && !matches.get_flag("without-texts") {
         let why =
             "the texts are missing: say --texts DIR, or --without-texts for a page without them";
         return Err(refused(alloc, ErrorKind::MissingRequiredArgument, why));
@@ -49,6 +50,8 @@ pub(crate) fn notice_request<'w>(
         accepted: accepted(alloc, matches)?,
         source: source(alloc, matches)?,
         texts: texts_folder,
+        sources,
+        is_strict: matches.get_flag("strict"),
         follow: matches.get_flag("follow"),
         plain: matches.get_flag("plain"),
         one_for_all: matches.get_flag("one-for-all"),

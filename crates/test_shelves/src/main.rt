@@ -1,11 +1,15 @@
-//! The rows of what is read over a shelf of values: which list, and which packages.
+//! The rows of what is read over a shelf of values: which list, which packages, what the gate
+//! says of them, and what changed between two lists of them.
 //!
 //! Each part has its rows in a file that lies where the program runs, NAME.rows, and is told behind a line `== PART`: those
 //! that don't hold, then how many do. The head of each module has the form of its rows.
 #![tactic(auto)]
 
+mod diffs;
+mod gates;
 mod lists;
 mod packages;
+mod shelf;
 
 use std::io::Write;
 use std::process::ExitCode;
@@ -19,8 +23,15 @@ fn start(rt: &HostRuntime) -> io::Result<u8> {
     shown.push_str("== packages\n")?;
     let rows = fs::read_to_string(rt, "packages.rows")?;
     let are_packages_good = packages::try_rows(rt.alloc(), &mut shown, rows.as_str())?;
+    shown.push_str("== gates\n")?;
+    let rows = fs::read_to_string(rt, "gates.rows")?;
+    let are_gates_good = gates::try_rows(rt.alloc(), &mut shown, rows.as_str())?;
+    shown.push_str("== diffs\n")?;
+    let rows = fs::read_to_string(rt, "diffs.rows")?;
+    let are_diffs_good = diffs::try_rows(rt.alloc(), &mut shown, rows.as_str())?;
     io::writer(rt).write_all(shown.as_bytes())?;
-    Ok(u8::from(!(are_lists_good && are_packages_good)))
+    let are_good = are_lists_good && are_packages_good && are_gates_good && are_diffs_good;
+    Ok(u8::from(!are_good))
 }
 
 fn main(rt: HostRuntime) -> ExitCode {

@@ -1,21 +1,22 @@
 // The packages of files, over a shelf of values.
 //
-// The first rows are the shelf's files: `= PATH`, and behind it the file's lines, each behind `| `. `= -` is the input. A row
+// The first rows are the shelf's files, as `shelf` reads them. A row
 // `PATH | WORDS => WANTED` has the packages of a file; its words are a form, `empty` where a file without packages passes, and
 // `others` where one's own are left out. `before PATH | FORM => WANTED` reads a baseline. What is wanted is the path as it is
 // told, the form if it was guessed, and each package by name, version and licence, or why there are none. A line that begins
 // with `#` says something to readers.
 
+use crate::shelf::shelf_of;
 use package_files::{FileFault, Listed, Source, Wanted, listed_at, listed_before};
 use package_sources::{Form, License};
-use shelves::{Held, HeldFile};
+use shelves::Held;
 use std::alloc::{AllocError, Global};
 use test_rows::Tally;
 
 /// Appends the rows that don't hold, and how many do; gives whether all do.
 pub(crate) fn try_rows(alloc: Global, shown: &mut String, text: &str) -> Result<bool, AllocError> {
     let mut tally = Tally::new();
-    let shelf = shelf(alloc, text)?;
+    let shelf = shelf_of(alloc, text)?;
     for row in text.lines() {
         if let Some((given, wanted)) = row.split_once(" => ") {
             let answered = answer(alloc, &shelf, given)?;
@@ -79,40 +80,4 @@ fn told(alloc: Global, listed: &Listed) -> Result<String, AllocError> {
         told.push_str(format!(in alloc; " [{name} {version} {license}]")?.as_str())?;
     }
     Ok(told)
-}
-
-// The files of the first rows.
-fn shelf(alloc: Global, text: &str) -> Result<Held, AllocError> {
-    let mut files = Vec::new(alloc);
-    for part in text.split("\n= ").skip(1) {
-        files.push(file(alloc, part)?)?;
-    }
-    let input = input_of(alloc, &files)?;
-    Ok(Held {
-        files,
-        folders: Vec::new(alloc),
-        variables: Vec::new(alloc),
-        input,
-    })
-}
-
-fn file(alloc: Global, part: &str) -> Result<HeldFile, AllocError> {
-    let mut lines = part.lines();
-    let path = String::from_str(alloc, lines.next().unwrap_or(""))?;
-    let mut bytes = Vec::new(alloc);
-    for line in lines {
-        if let Some(text) = line.strip_prefix("| ") {
-            bytes.extend_from_slice(text.as_bytes())?;
-            bytes.push(b'\n')?;
-        }
-    }
-    Ok(HeldFile { path, bytes })
-}
-
-fn input_of(alloc: Global, files: &[HeldFile]) -> Result<Vec<u8>, AllocError> {
-    let mut input = Vec::new(alloc);
-    if let Some(file) = files.iter().find(|file| file.path.as_str() == "-") {
-        input.extend_from_slice(&file.bytes)?;
-    }
-    Ok(input)
 }

@@ -2,7 +2,6 @@ use Rattle.std.proofs.Common.{List, [], ◌∷◌, ◌++◌, ◌∙◌, ap, map,
 use Rattle.std.proofs.lemmas.List.{map-append, take_more}
 use Rattle.std.proofs.lemmas.List.Elements.{All-push, All-same}
 use Rattle.spdx_gate.specs.declared.judgement.Judgement.{Judgement}
-use Rattle.gate_program.specs.declared.tellings.ShownOf.{ShownOf}
 use Rattle.gate_program.specs.Tellings.{IsShownIn, judgement_in}
 use Rattle.gate_program.proofs.tellings.shown_of.Goals as goal
 

@@ -1,0 +1,4 @@
+pub mod Packages
+pub mod Said
+pub mod Tellings
+pub mod Run

@@ -1,0 +1,95 @@
+// Shelves that stand in texts of rows, and how rows tell what comes of them.
+
+use list_program::Inside;
+use package_files::FileFault;
+use shelves::{Held, HeldFile};
+use std::alloc::{AllocError, Global};
+
+/// A few rows of SPDX's list, as a program has them inside.
+const LIST: &str = r#"{"version":"rows","licenses":[
+{"flags":31,"full_name":"GNU General Public License v2.0 only","name":"GPL-2.0"},
+{"flags":27,"full_name":"GNU General Public License v2.0 only","name":"GPL-2.0-only"},
+{"flags":28,"full_name":"GNU General Public License v2.0 w/Classpath exception","name":"GPL-2.0-with-classpath-exception"},
+{"flags":3,"full_name":"ISC License","name":"ISC"},
+{"flags":3,"full_name":"MIT License","name":"MIT"},
+{"flags":3,"full_name":"zlib License","name":"Zlib"}
+],"exceptions":[{"flags":0,"name":"Classpath-exception-2.0"}],"imprecise":[]}"#;
+
+/// What stands in the place of deprecated names.
+pub(crate) const HEIRS: &str = r#"{"copyleft":[],"imprecise":[],"instead":[
+{"name":"GPL-2.0-with-classpath-exception","write":"GPL-2.0-only WITH Classpath-exception-2.0"}]}"#;
+
+/// What a program of rows has inside.
+pub(crate) fn inside() -> Inside<'static> {
+    Inside {
+        list: LIST.as_bytes(),
+        extras: HEIRS.as_bytes(),
+    }
+}
+
+/// The shelf of a text's files: `= PATH`, and behind it the file's lines, each behind `| `. `= -` is the input.
+pub(crate) fn shelf_of(alloc: Global, text: &str) -> Result<Held, AllocError> {
+    let mut files = Vec::new(alloc);
+    for part in text.split("\n= ").skip(1) {
+        files.push(file(alloc, part)?)?;
+    }
+    let input = input_of(alloc, &files)?;
+    Ok(Held {
+        files,
+        folders: Vec::new(alloc),
+        variables: Vec::new(alloc),
+        input,
+    })
+}
+
+fn file(alloc: Global, part: &str) -> Result<HeldFile, AllocError> {
+    let mut lines = part.lines();
+    let path = String::from_str(alloc, lines.next().unwrap_or(""))?;
+    let mut bytes = Vec::new(alloc);
+    for line in lines {
+        if let Some(text) = line.strip_prefix("| ") {
+            bytes.extend_from_slice(text.as_bytes())?;
+            bytes.push(b'\n')?;
+        }
+    }
+    Ok(HeldFile { path, bytes })
+}
+
+fn input_of(alloc: Global, files: &[HeldFile]) -> Result<Vec<u8>, AllocError> {
+    let mut input = Vec::new(alloc);
+    if let Some(file) = files.iter().find(|file| file.path.as_str() == "-") {
+        input.extend_from_slice(&file.bytes)?;
+    }
+    Ok(input)
+}
+
+/// The faults of files that are left out, each in brackets behind a blank.
+pub(crate) fn told_faults(alloc: Global, faults: &[FileFault]) -> Result<String, AllocError> {
+    let mut told = String::new(alloc);
+    for fault in faults {
+        let fault = told_fault(alloc, fault)?;
+        told.push_str(format!(in alloc; " [{fault}]")?.as_str())?;
+    }
+    Ok(told)
+}
+
+/// Why the packages of a file aren't had.
+pub(crate) fn told_fault(alloc: Global, fault: &FileFault) -> Result<String, AllocError> {
+    match fault {
+        FileFault::Unreadable(path, _) => format!(in alloc; "unreadable {path}"),
+        FileFault::Source(path, _) => format!(in alloc; "refused {path}"),
+        FileFault::Empty(path) => format!(in alloc; "no packages in {path}"),
+        FileFault::Memory => Err(AllocError),
+    }
+}
+
+/// The lines of the text, with ` / ` before each but the first.
+pub(crate) fn lines_of(alloc: Global, text: &[u8]) -> Result<String, AllocError> {
+    let text = String::from_utf8_lossy(alloc, text)?;
+    let mut told = String::new(alloc);
+    for (number, line) in text.as_str().lines().enumerate() {
+        told.push_str(if number == 0 { " " } else { " / " })?;
+        told.push_str(line)?;
+    }
+    Ok(told)
+}
