@@ -1,6 +1,6 @@
 //! Sets of numbers, and lists of sets of which none includes another.
 
-ghost use Rattle.std.specs.Prelude.{◌≡◌, ◌++◌, ◌&&◌, ◌||◌, ℕ, Bool, map, fold, OnOk, IfOk};
+ghost use Rattle.std.specs.Prelude.{◌≡◌, ◌++◌, ◌&&◌, ◌||◌, ℕ, Bool, map, fold, vec_len, OnOk, IfOk};
 ghost use Rattle.least_sets.specs.Sets.{includes, includes_some, without, either, with_set, both, set_of, sets_in, met_by, AreApart};
 
 use std::alloc::{AllocError, Global};
@@ -85,23 +85,67 @@ fn add_unions(
     Ok(())
 }
 
-/// The least unions of a set of each side.
-///
-/// Each union is compared with each one that is kept.
-pub fn both(
+// Each union is compared with each one that is kept.
+fn least_unions(
     alloc: Global,
     left: &[Vec<usize>],
     right: &[Vec<usize>],
 ) -> Result<Vec<Vec<usize>>, AllocError>
-    ensures exact { IfOk result (λ sets.
+    ensures { IfOk result (λ sets.
         sets_in sets.items ≡ both (sets_in left.now) (sets_in right.now)) }
-    ensures means { IfOk result (λ sets. (p : ℕ → Bool) → met_by p (sets_in sets.items)
-        ≡ (met_by p (sets_in left.now) && met_by p (sets_in right.now))) }
-    ensures apart { IfOk result (λ sets. AreApart (sets_in sets.items)) }
 {
     let mut sets = Vec::new(alloc);
     for set in left {
         add_unions(alloc, &mut sets, set.as_slice(), right)?;
     }
+    Ok(sets)
+}
+
+// The union of the only set of each side. The left one's numbers go behind the right one's, which aren't copied: an `AND` of
+// many leans right.
+fn only_union(
+    mut left: Vec<Vec<usize>>,
+    mut right: Vec<Vec<usize>>,
+) -> Result<Vec<Vec<usize>>, AllocError>
+    requires left_one { vec_len left ≡ 1 }
+    requires right_one { vec_len right ≡ 1 }
+    ensures { IfOk result (λ sets.
+        sets_in sets.items ≡ both (sets_in left.items) (sets_in right.items)) }
+{
+    right[0].append(&mut left[0])?;
+    Ok(right)
+}
+
+// The least unions, at the cost of the left side alone where each side has one set.
+fn unions_of(
+    alloc: Global,
+    left: Vec<Vec<usize>>,
+    right: Vec<Vec<usize>>,
+) -> Result<Vec<Vec<usize>>, AllocError>
+    ensures { IfOk result (λ sets.
+        sets_in sets.items ≡ both (sets_in left.items) (sets_in right.items)) }
+{
+    if left.len() == 1 && right.len() == 1 {
+        return only_union(left, right);
+    }
+    least_unions(alloc, left.as_slice(), right.as_slice())
+}
+
+/// The least unions of a set of each side.
+///
+/// Where each side has one set, that takes time for the length of the left one alone. Else each union is compared with each
+/// one that is kept.
+pub fn both(
+    alloc: Global,
+    left: Vec<Vec<usize>>,
+    right: Vec<Vec<usize>>,
+) -> Result<Vec<Vec<usize>>, AllocError>
+    ensures exact { IfOk result (λ sets.
+        sets_in sets.items ≡ both (sets_in left.items) (sets_in right.items)) }
+    ensures means { IfOk result (λ sets. (p : ℕ → Bool) → met_by p (sets_in sets.items)
+        ≡ (met_by p (sets_in left.items) && met_by p (sets_in right.items))) }
+    ensures apart { IfOk result (λ sets. AreApart (sets_in sets.items)) }
+{
+    let sets = unions_of(alloc, left, right)?;
     Ok(sets)
 }

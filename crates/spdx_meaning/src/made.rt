@@ -108,7 +108,7 @@ fn join(
         return Err(Failure::Refused(TooManySets(count)));
     }
     match operator {
-        Operator::And => Ok(both(alloc, left.as_slice(), right.as_slice())?),
+        Operator::And => Ok(both(alloc, left, right)?),
         Operator::Or => Ok(either(left, right)?),
     }
 }

@@ -23,7 +23,7 @@ use Rattle.spdx_meaning_text.specs.Ranks.{rank_in}
 use Rattle.spdx_meaning_text.specs.LeastSets.{AreLeastSets}
 use Rattle.spdx_meaning_text.proofs.Later.{mapped_all, mapped_any, mapped_later, mapped_differ, mapped_sets_cmp}
 use Rattle.spdx_meaning_text.proofs.Numbers.{same_number, from_apart, from_ordered, all_from_rising}
-use Rattle.spdx_meaning_text.proofs.Ranks.{rank_cmp, rank_tied, same_is_tied, first_at, found_at}
+use Rattle.spdx_meaning_text.proofs.Ranks.{rank_cmp, rank_tied, same_is_tied}
 
 -- ---- elements
 
@@ -65,7 +65,7 @@ accepts_mapped {X} f h sets =
 
 -- ---- the ranks of a tree
 
-module _ (t : Tree) (d : Requirement) where
+module _ (t : Tree) where
   abbrev pub rank : Requirement → ℕ
   rank r = rank_in (leaves t) r
 
@@ -76,33 +76,8 @@ module _ (t : Tree) (d : Requirement) where
   abbrev pub IsRank : ℕ → Type 0
   IsRank k = is_rank k ≡ true
 
-  abbrev pub at : ℕ → Requirement
-  at k = first_at rank d (leaves t) k
-
   leaf_rank : (r : Requirement) → In (leaves t) r → IsRank (rank r)
   leaf_rank r there = any_in (λ q. rank q == rank r) (leaves t) r there (eq-eqb (rank r) (rank r) refl)
-
-  at_in : (k : ℕ) → IsRank k → In (leaves t) (at k)
-  at_in k e = (found_at rank d (leaves t) k e).0
-
-  at_rank : (k : ℕ) → IsRank k → rank (at k) ≡ k
-  at_rank k e = (found_at rank d (leaves t) k e).1
-
-  at_cmp : (a b : ℕ) → IsRank a → IsRank b → requirement_cmp (at a) (at b) ≡ nat_cmp a b
-  at_cmp a b h k =
-      sym (rank_cmp (leaves t) (at a) (at b) (at_in a h) (at_in b k))
-      ∙ ap (λ (n : ℕ). nat_cmp n (rank (at b))) (at_rank a h)
-      ∙ ap (λ (n : ℕ). nat_cmp a n) (at_rank b k)
-
-  at_same : (a b : ℕ) → IsRank a → IsRank b → same_requirement (at a) (at b) ≡ (a == b)
-  at_same a b h k = same_is_tied (at a) (at b) ∙ ap is_eq (at_cmp a b h k) ∙ sym (same_number a b)
-
-  -- the requirement that is found by the rank of another one is the same
-  accepted_alike : (h : Requirement → Bool) → IsAcceptance h → (r : Requirement) → In (leaves t) r → h r ≡ h (at (rank r))
-  accepted_alike h ok r there =
-      let k = leaf_rank r there in
-      let tied = rank_tied (leaves t) r (at (rank r)) there (at_in (rank r) k) (sym (at_rank (rank r) k)) in
-      ok r (at (rank r)) (same_is_tied r (at (rank r)) ∙ ap is_eq tied)
 
   -- ---- the sets hold ranks alone
 
@@ -134,16 +109,39 @@ module _ (t : Tree) (d : Requirement) where
     pub all_ranks : AllByRecursion (AllByRecursion IsRank) sets
     all_ranks = each_ranks sets (λ s k. k) (each_passes sets apart)
 
+-- ---- each rank stands for a requirement that has it
+
+module _ (t : Tree) (at : ℕ → Requirement) (at_in : (k : ℕ) → IsRank t k → In (leaves t) (at k)) (at_rank : (k : ℕ) → IsRank t k → rank t (at k) ≡ k) where
+  at_cmp : (a b : ℕ) → IsRank t a → IsRank t b → requirement_cmp (at a) (at b) ≡ nat_cmp a b
+  at_cmp a b h k =
+      sym (rank_cmp (leaves t) (at a) (at b) (at_in a h) (at_in b k))
+      ∙ ap (λ (n : ℕ). nat_cmp n (rank t (at b))) (at_rank a h)
+      ∙ ap (λ (n : ℕ). nat_cmp a n) (at_rank b k)
+
+  at_same : (a b : ℕ) → IsRank t a → IsRank t b → same_requirement (at a) (at b) ≡ (a == b)
+  at_same a b h k = same_is_tied (at a) (at b) ∙ ap is_eq (at_cmp a b h k) ∙ sym (same_number a b)
+
+  -- the requirement that is found by the rank of another one is the same
+  accepted_alike : (h : Requirement → Bool) → IsAcceptance h → (r : Requirement) → In (leaves t) r → h r ≡ h (at (rank t r))
+  accepted_alike h ok r there =
+      let k = leaf_rank t r there in
+      let tied = rank_tied (leaves t) r (at (rank t r)) there (at_in (rank t r) k) (sym (at_rank (rank t r) k)) in
+      ok r (at (rank t r)) (same_is_tied r (at (rank t r)) ∙ ap is_eq tied)
+
+  module _ (sets : List (List ℕ)) (means : (p : ℕ → Bool) → holds (λ r. p (rank t r)) t ≡ met_by p sets) (apart : Sets.AreApart sets) where
+    ranks : AllByRecursion (AllByRecursion (IsRank t)) sets
+    ranks = all_ranks t sets means apart
+
     pub are_least : All IsStrictlyIncreasing sets → Order.AreInOrder sets → AreLeastSets t (map (map at) sets)
     are_least rise up = record {
       means = λ h ok.
-          holds_alike h (λ r. h (at (rank r))) t (accepted_alike h ok) ∙ means (λ k. h (at k)) ∙ sym (accepts_mapped at h sets);
-      apart = mapped_later (AllByRecursion IsRank) (map at) (differ ◌==◌) (differ same_requirement)
-          (λ s m h k. mapped_differ IsRank at ◌==◌ same_requirement at_same s m h k) sets all_ranks (from_apart sets apart);
-      rise = all_mapped (map at) (λ (s : List ℕ). AllByRecursion IsRank s × AllLater (is_before nat_cmp) s) (AllLater (is_before requirement_cmp))
-          (λ s h. mapped_later IsRank at (is_before nat_cmp) (is_before requirement_cmp) (λ a b i j. ap is_lt (at_cmp a b i j)) s h.0 h.1)
-          sets (both_all (AllByRecursion IsRank) (AllLater (is_before nat_cmp)) sets all_ranks (all_from_rising sets rise));
-      ordered = mapped_later (AllByRecursion IsRank) (map at) (is_before (sets_cmp nat_cmp)) (is_before (sets_cmp requirement_cmp))
-          (λ s m h k. ap is_lt (mapped_sets_cmp IsRank at nat_cmp requirement_cmp at_cmp s m h k)) sets all_ranks (from_ordered sets up);
-      of_tree = all_mapped (map at) (AllByRecursion IsRank) (AllByRecursion (In (leaves t))) (λ s h. all_mapped at IsRank (In (leaves t)) at_in s h) sets all_ranks;
+          holds_alike h (λ r. h (at (rank t r))) t (accepted_alike h ok) ∙ means (λ k. h (at k)) ∙ sym (accepts_mapped at h sets);
+      apart = mapped_later (AllByRecursion (IsRank t)) (map at) (differ ◌==◌) (differ same_requirement)
+          (λ s m h k. mapped_differ (IsRank t) at ◌==◌ same_requirement at_same s m h k) sets ranks (from_apart sets apart);
+      rise = all_mapped (map at) (λ (s : List ℕ). AllByRecursion (IsRank t) s × AllLater (is_before nat_cmp) s) (AllLater (is_before requirement_cmp))
+          (λ s h. mapped_later (IsRank t) at (is_before nat_cmp) (is_before requirement_cmp) (λ a b i j. ap is_lt (at_cmp a b i j)) s h.0 h.1)
+          sets (both_all (AllByRecursion (IsRank t)) (AllLater (is_before nat_cmp)) sets ranks (all_from_rising sets rise));
+      ordered = mapped_later (AllByRecursion (IsRank t)) (map at) (is_before (sets_cmp nat_cmp)) (is_before (sets_cmp requirement_cmp))
+          (λ s m h k. ap is_lt (mapped_sets_cmp (IsRank t) at nat_cmp requirement_cmp at_cmp s m h k)) sets ranks (from_ordered sets up);
+      of_tree = all_mapped (map at) (AllByRecursion (IsRank t)) (AllByRecursion (In (leaves t))) (λ s h. all_mapped at (IsRank t) (In (leaves t)) at_in s h) sets ranks;
     }

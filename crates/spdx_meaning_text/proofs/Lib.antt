@@ -10,3 +10,4 @@ pub mod Telling
 pub mod Written
 pub mod Needed
 pub mod Counted
+pub mod Ranked

@@ -5,9 +5,10 @@ use Rattle.std.specs.List.{list_any, list_all}
 use Rattle.std.specs.Ordering.{nat_cmp, is_lt, is_eq, ordering_reverse}
 use Rattle.std.specs.declared.cmp.Ordering.{Ordering}
 use Rattle.std.specs.declared.cmp.Ordering.TheVariants.{Less, Equal, Greater}
+use Rattle.std.specs.List.Sorted.{IsPermutation}
 use Rattle.std.proofs.lemmas.Bool.{eqb-true}
+use Rattle.std.proofs.lemmas.List.Sorted.{sum_by-IsPermutation}
 use Rattle.std.proofs.lemmas.Cmp.{tied_itself, alike_right}
-use Rattle.std.proofs.lemmas.List.Sums.{sum_by-cons}
 use Rattle.spdx_requirement.specs.Items.{Requirement}
 use Rattle.spdx_requirement.specs.Orders.{requirement_cmp}
 use Rattle.spdx_requirement.specs.Equality.{same_requirement}
@@ -15,6 +16,7 @@ use Rattle.spdx_requirement.specs.EqualityLaws.{requirements_decide}
 use Rattle.least_sets.proofs.Means.{same_truth, and_first, and_second}
 use Rattle.spdx_meaning_text.specs.Sets.{In, is_before}
 use Rattle.spdx_meaning_text.specs.Ranks.{rank_in}
+use Rattle.spdx_meaning_text.proofs.Counted.{count-cons}
 use Rattle.spdx_meaning_text.proofs.Order.{requirements_total, tied_key, key_tied}
 use Rattle.spdx_meaning_text.proofs.Numbers.{is_less, is_more, is_level}
 
@@ -34,9 +36,6 @@ all_in q (y ∷ ys) x e h = elim h [
 ]
 
 -- ---- counts
-
-count-cons : {X : Type 0} (p : X → Bool) (x : X) (xs : List X) → count_by p (x ∷ xs) ≡ cond (p x) 1 0 + count_by p xs
-count-cons p x xs = sum_by-cons (λ z. cond (p z) 1 0) x xs
 
 more_one : (a b : Bool) → (a ≡ true → b ≡ true) → cond a 1 0 ≤ cond b 1 0
 more_one true true h = omega arith
@@ -110,6 +109,10 @@ tied_of_same r s e = key_tied r s ((requirements_decide r s).0 e)
 
 pub rank_tied : (qs : List Requirement) (r s : Requirement) → In qs r → In qs s → rank_in qs r ≡ rank_in qs s → requirement_cmp r s ≡ Equal
 rank_tied qs r s r_in s_in e = sym (rank_cmp qs r s r_in s_in) ∙ is_level (rank_in qs r) (rank_in qs s) e
+
+-- the order in which they stand makes no difference
+pub ranks_same : (qs os : List Requirement) → IsPermutation qs os → (r : Requirement) → rank_in os r ≡ rank_in qs r
+ranks_same qs os same r = sum_by-IsPermutation (λ q. cond (is_before requirement_cmp q r) 1 0) qs os same
 
 -- ---- the first that has a number
 

@@ -1,11 +1,16 @@
 -- The text that is written is that of the least sets.
-use Rattle.std.proofs.Common.{◌≡◌, ℕ, Bool, true, false, ◌||◌, cond, List, [], ◌∷◌, ◌++◌, None, length, map, Ok, refl, sym, ◌∙◌, ap, All}
-use Rattle.std.specs.Prelude.{◌==◌, codes, string_bytes}
+use Rattle.std.proofs.Common.{◌≡◌, ℕ, ◌<◌, Bool, true, List, [], ◌∷◌, ◌++◌, Option, None, length, map, get_or, Ok, refl, sym, ◌∙◌, ap, subst, inl, inr, All}
+use Rattle.std.specs.Prelude.{◌==◌, codes}
+use Rattle.std.specs.Option.{option_map_or}
 use Rattle.std.specs.Global.{Vec}
 use Rattle.std.specs.List.{list_any, AllByRecursion}
-use Rattle.std.specs.List.Sorted.{IsStrictlyIncreasing}
-use Rattle.std.proofs.lemmas.List.{length-map}
+use Rattle.std.specs.List.Sorted.{IsPermutation, IsStrictlyIncreasing}
+use Rattle.std.specs.declared.cmp.Ordering.TheVariants.{Equal}
+use Rattle.std.proofs.lemmas.List.Elements.{All-nil, All-cons, All-get_or}
+use Rattle.std.proofs.lemmas.List.Sorted.{All-permutation, list_any-IsPermutation}
+use Rattle.std.proofs.lemmas.Option.{slice_get-get_or}
 use Rattle.spdx_requirement.specs.Items.{Requirement, referred}
+use Rattle.spdx_requirement.specs.Orders.{requirement_cmp}
 use Rattle.spdx_requirement.specs.Texts.{requirement_text}
 use Rattle.spdx_parser.specs.Tree.{Tree, leaves}
 use Rattle.spdx_evaluation.specs.Truth.{holds}
@@ -13,45 +18,14 @@ use Rattle.least_sets.specs.Sets.{set_of, sets_in, met_by, AreApart}
 use Rattle.least_sets.specs.Order.{AreInOrder}
 use Rattle.spdx_meaning.specs.Made.{made_by}
 use Rattle.spdx_meaning.proofs.Meaning.{made_means}
-use Rattle.spdx_meaning_text.specs.Ranks.{rank_in}
+use Rattle.spdx_meaning_text.specs.Sets.{In}
+use Rattle.spdx_meaning_text.specs.Ranks.{rank_in, name_at}
 use Rattle.spdx_meaning_text.specs.Joined.{joined, more_joined}
 use Rattle.spdx_meaning_text.specs.MeaningText.{IsMeaningText}
-use Rattle.spdx_meaning_text.specs.declared.names.Named.{Named}
-use Rattle.spdx_meaning_text.specs.Plan.{named_of, named_in, name_at}
-use Rattle.spdx_meaning_text.proofs.Ranks.{first_at}
-use Rattle.spdx_meaning_text.proofs.Least.{IsRank, at, all_ranks, are_least, anything}
-
--- ---- names
-
-rank_part : ℕ × List ℕ → ℕ
-rank_part p = p.0
-
-module _ (qs : List Requirement) where
-  pub ranks_are : (names : List Named) (rs : List Requirement) → map named_of names ≡ map (named_in qs) rs → map (λ n. n.rank) names ≡ map (rank_in qs) rs
-  ranks_are [] [] e = refl
-  ranks_are [] (r ∷ rs) e = absurd cc
-  ranks_are (n ∷ ns) [] e = absurd cc
-  ranks_are (n ∷ ns) (r ∷ rs) e =
-      let first : named_of n ≡ named_in qs r = cc in
-      let more : map named_of ns ≡ map (named_in qs) rs = cc in
-      let rank : n.rank ≡ rank_in qs r = ap (λ (p : ℕ × List ℕ). p.0) first in
-      let rest : map (λ n. n.rank) ns ≡ map (rank_in qs) rs = ranks_are ns rs more in
-      cc
-
-  name_found : (d : Requirement) (k : ℕ) (names : List Named) (rs : List Requirement) → map named_of names ≡ map (named_in qs) rs → list_any (λ r. rank_in qs r == k) rs ≡ true → name_at names k ≡ requirement_text (first_at (rank_in qs) d rs k)
-  name_found d k names [] e h = let bad : false ≡ true = h in cc
-  name_found d k [] (r ∷ rs) e h = absurd cc
-  name_found d k (n ∷ ns) (r ∷ rs) e h =
-      let first : named_of n ≡ named_in qs r = cc in
-      let more : map named_of ns ≡ map (named_in qs) rs = cc in
-      ap (λ (m : ℕ). cond (m == k) (string_bytes n.name) (name_at ns k)) (ap (λ (p : ℕ × List ℕ). p.0) first)
-      ∙ ap (λ (x : List ℕ). cond (rank_in qs r == k) x (name_at ns k)) (ap (λ (p : ℕ × List ℕ). p.1) first)
-      ∙ step (rank_in qs r == k) (λ there. name_found d k ns rs more there) h
-    where
-      step : (b : Bool) → (list_any (λ r. rank_in qs r == k) rs ≡ true → name_at ns k ≡ requirement_text (first_at (rank_in qs) d rs k)) → (b || list_any (λ r. rank_in qs r == k) rs) ≡ true
-          → cond b (requirement_text r) (name_at ns k) ≡ requirement_text (cond b r (first_at (rank_in qs) d rs k))
-      step true more there = refl
-      step false more there = more there
+use Rattle.spdx_meaning_text.proofs.Order.{requirements_total}
+use Rattle.spdx_meaning_text.proofs.Ranks.{rank_same, ranks_same, first_at, found_at}
+use Rattle.spdx_meaning_text.proofs.Ranked.{Rises, at_rank}
+use Rattle.spdx_meaning_text.proofs.Least.{IsRank, rank, all_ranks, are_least, anything}
 
 -- ---- texts that are joined
 
@@ -70,25 +44,44 @@ module _ {X Y : Type 0} (In : X → Type 0) (between : List ℕ) (f : X → List
 nothing : Requirement
 nothing = record { license = referred (record { document = None; name = [] }); addition = None }
 
-pub as_many : (t : Tree) (names : List Named) (ranks : List ℕ) → map named_of names ≡ map (named_in (leaves t)) (leaves t) → ranks ≡ map (λ n. n.rank) names → length ranks ≡ length (leaves t)
-as_many t names ranks e is = ap length (is ∙ ranks_are (leaves t) names (leaves t) e) ∙ length-map (leaves t) (rank_in (leaves t))
+each_in : (xs ys : List Requirement) → ((r : Requirement) → In xs r → In ys r) → All (In ys) xs
+each_in [] ys h = All-nil (In ys)
+each_in (x ∷ xs) ys h = All-cons (In ys) x xs (h x (inl refl)) (each_in xs ys (λ r k. h r (inr k)))
 
-module _ (t : Tree) (names : List Named) (named : map named_of names ≡ map (named_in (leaves t)) (leaves t)) where
-  set_alike : (s : List ℕ) → AllByRecursion (IsRank t nothing) s → joined (codes " AND ") (name_at names) s ≡ joined (codes " AND ") requirement_text (map (at t nothing) s)
-  set_alike s all =
-      joined_alike (IsRank t nothing) (codes " AND ") (name_at names) requirement_text (at t nothing) (λ k h. name_found (leaves t) nothing k names (leaves t) named h) s all
+module _ (t : Tree) (os : List Requirement) (same : IsPermutation (leaves t) os) (up : Rises requirement_cmp requirements_total os) where
+  abbrev at : ℕ → Requirement
+  at k = get_or os k nothing
+
+  found : (k : ℕ) → IsRank t k → (k < length os) × (rank t (at k) ≡ k)
+  found k h =
+      let there : list_any (λ r. rank t r == k) os ≡ true = sym (list_any-IsPermutation (λ r. rank t r == k) (leaves t) os same) ∙ h in
+      let r = first_at (rank t) nothing os k in
+      let is = found_at (rank t) nothing os k there in
+      let first = at_rank requirement_cmp requirements_total os up r nothing is.0 in
+      let here : rank_in os r ≡ k = ranks_same (leaves t) os same r ∙ is.1 in
+      let level : requirement_cmp (at k) r ≡ Equal = subst (λ (n : ℕ). requirement_cmp (get_or os n nothing) r ≡ Equal) here first.1 in
+      (subst (λ (n : ℕ). n < length os) here first.0, rank_same (leaves t) (at k) r level ∙ is.1)
+
+  at_in : (k : ℕ) → IsRank t k → In (leaves t) (at k)
+  at_in k h = All-get_or (In (leaves t)) os k nothing (found k h).0 (All-permutation (In (leaves t)) (leaves t) os same (each_in (leaves t) (leaves t) (λ r k. k)))
+
+  name_found : (k : ℕ) → IsRank t k → name_at os k ≡ requirement_text (at k)
+  name_found k h = ap (λ (z : Option Requirement). option_map_or requirement_text z []) (slice_get-get_or os k nothing (found k h).0)
+
+  set_alike : (s : List ℕ) → AllByRecursion (IsRank t) s → joined (codes " AND ") (name_at os) s ≡ joined (codes " AND ") requirement_text (map at s)
+  set_alike s all = joined_alike (IsRank t) (codes " AND ") (name_at os) requirement_text at name_found s all
 
   pub is_meaning_text : (made : List (List ℕ)) (vs : List (Vec ℕ)) (text : List ℕ) → made_by (rank_in (leaves t)) t ≡ Ok made → ((p : ℕ → Bool) → met_by p (sets_in vs) ≡ met_by p made) → AreApart (sets_in vs) → All IsStrictlyIncreasing (sets_in vs) → AreInOrder (sets_in vs)
-      → text ≡ joined (codes " OR ") (λ v. joined (codes " AND ") (name_at names) (set_of v)) vs → IsMeaningText t text
-  is_meaning_text made vs text is same apart rise up written =
+      → text ≡ joined (codes " OR ") (λ v. joined (codes " AND ") (name_at os) (set_of v)) vs → IsMeaningText t text
+  is_meaning_text made vs text is alike apart rise ordered written =
       let sets = sets_in vs in
-      let means : (p : ℕ → Bool) → holds (λ r. p (rank_in (leaves t) r)) t ≡ met_by p sets = λ p. made_means (rank_in (leaves t)) p t made is ∙ sym (same p) in
-      let f = joined (codes " AND ") (name_at names) in
+      let means : (p : ℕ → Bool) → holds (λ r. p (rank_in (leaves t) r)) t ≡ met_by p sets = λ p. made_means (rank_in (leaves t)) p t made is ∙ sym (alike p) in
+      let f = joined (codes " AND ") (name_at os) in
       record {
-        sets = map (map (at t nothing)) sets;
-        least = are_least t nothing sets means apart rise up;
+        sets = map (map at) sets;
+        least = are_least t at at_in (λ k h. (found k h).1) sets means apart rise ordered;
         written =
             written
             ∙ joined_alike (λ (v : Vec ℕ). Unit {0}) (codes " OR ") (λ v. f (set_of v)) f set_of (λ v h. refl) vs (anything vs)
-            ∙ joined_alike (AllByRecursion (IsRank t nothing)) (codes " OR ") f (joined (codes " AND ") requirement_text) (map (at t nothing)) set_alike sets (all_ranks t nothing sets means apart);
+            ∙ joined_alike (AllByRecursion (IsRank t)) (codes " OR ") f (joined (codes " AND ") requirement_text) (map at) set_alike sets (all_ranks t sets means apart);
       }

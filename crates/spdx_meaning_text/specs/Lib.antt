@@ -3,4 +3,3 @@ pub mod Ranks
 pub mod LeastSets
 pub mod Joined
 pub mod MeaningText
-pub mod Plan

@@ -10,7 +10,7 @@
 #![tactic(auto)]
 
 pub mod laws;
-mod names;
+mod ranking;
 pub mod text;
 
 pub use crate::text::meaning_text;

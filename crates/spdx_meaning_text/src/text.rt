@@ -2,16 +2,17 @@
 
 ghost use Rattle.std.specs.Prelude.{◌≡◌, ◌++◌, codes, map, IfOk, IfErr, OnOk, IsOk, Err, string_bytes};
 ghost use Rattle.spdx_requirement.specs.Failures.{IfRefused};
+ghost use Rattle.spdx_requirement.specs.Items.{requirement_of};
 ghost use Rattle.spdx_parser.specs.Tree.{node_of};
 ghost use Rattle.spdx_evaluation.specs.Postfix.{IsPostfix, tree_in};
 ghost use Rattle.least_sets.specs.Sets.{set_of};
 ghost use Rattle.spdx_meaning_text.specs.MeaningText.{made_by_rank, IsMeaningText};
 ghost use Rattle.spdx_meaning_text.specs.Joined.{joined};
-ghost use Rattle.spdx_meaning_text.specs.Plan.{name_at};
+ghost use Rattle.spdx_meaning_text.specs.Ranks.{name_at};
 
-use crate::names::{Named, names_of, ranks_of};
-use least_sets::order::in_order;
-use spdx_catalogue::Failure;
+use crate::ranking::{in_order, ranks_of};
+use least_sets::order;
+use spdx_catalogue::{Failure, LicenseReq};
 use spdx_meaning::TooManySets;
 use spdx_meaning::made::sets_of;
 use spdx_parser::node::ExprNode;
@@ -33,56 +34,66 @@ pub fn meaning_text(alloc: Global, nodes: &[ExprNode<'_>]) -> Result<String, Fai
     ensures few { IfOk result (λ text. IsOk (made_by_rank (tree_in nodes.now))) }
     ensures err { IfErr result (IfRefused (λ e. made_by_rank (tree_in nodes.now) ≡ Err e.0)) }
 {
-    let names = names_of(alloc, nodes)?;
-    let ranks = ranks_of(alloc, names.as_slice())?;
+    let requirements = in_order(alloc, nodes)?;
+    let ranks = ranks_of(alloc, nodes, requirements.as_slice())?;
     let sets = sets_of(alloc, nodes, ranks.as_slice())?;
-    let ordered = in_order(alloc, sets)?;
+    let ordered = order::in_order(alloc, sets)?;
     let mut text = String::new(alloc);
-    put_sets(&mut text, names.as_slice(), ordered.as_slice())?;
+    put_sets(&mut text, requirements.as_slice(), ordered.as_slice())?;
     Ok(text)
 }
 
 // Appends the sets.
-fn put_sets(text: &mut String, names: &[Named], sets: &[Vec<usize>]) -> Result<(), AllocError>
+fn put_sets(
+    text: &mut String,
+    requirements: &[LicenseReq<'_>],
+    sets: &[Vec<usize>],
+) -> Result<(), AllocError>
     ensures { OnOk result (string_bytes text.new ≡ string_bytes text.old ++ joined (codes " OR ")
-        (λ s. joined (codes " AND ") (name_at names.now) (set_of s)) sets.now) }
+        (λ s. joined (codes " AND ") (name_at (map requirement_of requirements.now)) (set_of s)) sets.now) }
 {
     let Some((first, others)) = sets.split_first() else {
         return Ok(());
     };
-    put_set(text, names, first.as_slice())?;
+    put_set(text, requirements, first.as_slice())?;
     for set in others {
         text.push_str(" OR ")?;
-        put_set(text, names, set.as_slice())?;
+        put_set(text, requirements, set.as_slice())?;
     }
     Ok(())
 }
 
 // Appends the requirements of a set.
-fn put_set(text: &mut String, names: &[Named], set: &[usize]) -> Result<(), AllocError>
+fn put_set(
+    text: &mut String,
+    requirements: &[LicenseReq<'_>],
+    set: &[usize],
+) -> Result<(), AllocError>
     ensures { OnOk result (string_bytes text.new ≡ string_bytes text.old
-        ++ joined (codes " AND ") (name_at names.now) set.now) }
+        ++ joined (codes " AND ") (name_at (map requirement_of requirements.now)) set.now) }
 {
     let Some((first, others)) = set.split_first() else {
         return Ok(());
     };
-    put_name(text, names, *first)?;
+    put_name(text, requirements, *first)?;
     for rank in others {
         text.push_str(" AND ")?;
-        put_name(text, names, *rank)?;
+        put_name(text, requirements, *rank)?;
     }
     Ok(())
 }
 
-// Appends the first name that has the rank.
-fn put_name(text: &mut String, names: &[Named], rank: usize) -> Result<(), AllocError>
+// Appends the requirement that has the rank.
+fn put_name(
+    text: &mut String,
+    requirements: &[LicenseReq<'_>],
+    rank: usize,
+) -> Result<(), AllocError>
     ensures { OnOk result (string_bytes text.new ≡ string_bytes text.old
-        ++ name_at names.now rank) }
+        ++ name_at (map requirement_of requirements.now) rank) }
 {
-    for one in names {
-        if one.rank == rank {
-            return text.push_str(one.name.as_str());
-        }
+    match requirements.get(rank) {
+        Some(requirement) => write!(text, "{requirement}"),
+        None => Ok(()),
     }
-    Ok(())
 }

@@ -6,7 +6,7 @@ use Rattle.spdx_requirement.specs.Orders.{requirement_cmp}
 use Rattle.spdx_meaning_text.specs.Sets.{is_before}
 use Rattle.spdx_meaning_text.proofs.Order.{requirements_total}
 use Rattle.spdx_meaning_text.proofs.Counted.{counted, parted, count-map}
-use Rattle.spdx_meaning_text.proofs.names.rank_among.Goals as goal
+use Rattle.spdx_meaning_text.proofs.ranking.rank_among.Goals as goal
 
 pub returns : goal.returns
 returns c =

@@ -2,7 +2,7 @@ use Rattle.std.proofs.Common.{◌≡◌, ◌++◌, drop, map}
 use Rattle.spdx_requirement.specs.Items.{requirement_of}
 use Rattle.spdx_evaluation.specs.Requirements.{requirements_in}
 use Rattle.spdx_evaluation.proofs.Nodes.{requirement_at}
-use Rattle.spdx_meaning_text.proofs.names.copies_of.Given as goal
+use Rattle.spdx_meaning_text.proofs.ranking.copies_of.Given as goal
 
 abbrev pub invariant-loop-node : goal.invariant-loop-node
 invariant-loop-node l =
