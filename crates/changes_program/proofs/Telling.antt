@@ -1,11 +1,9 @@
 -- What is told of each change, with the mark of its own row.
-use Rattle.std.proofs.Common.{◌≡◌, ℕ, ◌+◌, ◌<◌, ◌≤◌, zero, suc, List, [], ◌∷◌, ◌++◌, get_or, length, map, drop, refl, sym, ap, ◌∙◌, add-one, append_assoc, arith, subst}
+use Rattle.std.proofs.Common.{◌≡◌, ℕ, ◌+◌, ◌≤◌, zero, suc, List, [], ◌∷◌, ◌++◌, length, map, drop, refl, sym, ap, ◌∙◌, add-one, append_assoc, arith, subst}
 use Rattle.std.specs.Borrow.{Bor}
 use Rattle.std.specs.List.{AllZip}
-use Rattle.std.specs.Option.{MatchOption, option_copied}
-use Rattle.std.specs.Prelude.{Bool, true, false, ◌&&◌, not, Option, None, Some, IfSome, is_some, slice_get}
+use Rattle.std.specs.Prelude.{Bool, true, false, ◌&&◌, not, Option, None, Some, is_some, slice_get}
 use Rattle.std.proofs.lemmas.List.{append-nil, drop-drop, map-append}
-use Rattle.std.proofs.lemmas.Option.{slice_get_past, slice_get_read}
 use Rattle.spdx_requirement.specs.Rows.{Rows}
 use Rattle.spdx_policy.specs.Rules.{Rules}
 use Rattle.spdx_gate.specs.declared.judgement.Judgement.{Judgement}
@@ -16,6 +14,7 @@ use Rattle.spdx_gate.specs.declared.report.Row as gate
 use Rattle.spdx_gate.specs.Reports.{IsRow, IsVerdictOf}
 use Rattle.spdx_gate.specs.Verdicts.{passes}
 use Rattle.gate_program.specs.Files.{moved_package}
+use Rattle.gate_program.proofs.Asking.{drop_end}
 use Rattle.package_changes.specs.Rows.{Row}
 use Rattle.change_forms.specs.declared.tellings.Telling.{Telling}
 use Rattle.changes_program.specs.declared.said.Said.{Said}
@@ -23,14 +22,6 @@ use Rattle.changes_program.specs.Said.{SaidRow, said_row}
 use Rattle.changes_program.specs.Tellings.{AreTold, IsJudgedBy, IsMarkOf, judged_if, judged_of, moved_telling, row_at, telling_as, telling_of, tellings_from}
 
 -- ---- one more is told
-
-drop_end : {X : Type 0} (xs : List X) (n : ℕ) → length xs ≤ n → drop n xs ≡ []
-drop_end [] zero le = refl
-drop_end [] (suc n) le = refl
-drop_end (x ∷ xs) zero le = absurd (omega (arith, le))
-drop_end (x ∷ xs) (suc n) le =
-    let rest : length xs ≤ n = omega (arith, le) in
-    drop_end xs n rest
 
 pub one_told : (report : Option Report) (said : List Said) (n : ℕ) (x : Said) (t : Telling) (all new : List Telling) (whole : List Telling)
     → drop n said ≡ x ∷ drop (suc n) said → new ≡ all ++ t ∷ [] → moved_telling t ≡ telling_of (said_row x) (row_at report n)
@@ -54,11 +45,6 @@ all_told report said n all whole le e =
     ∙ e
 
 -- ---- the row of a number
-
-pub found : (rows : List gate.Row) (n : ℕ) (o : Option (Bor gate.Row)) (P : Bor gate.Row → Type 0) → IfSome o (λ x. x.now ≡ get_or rows n x.now)
-    → MatchOption o (length rows ≤ n) (λ x. (n < length rows) × P x) → option_copied o ≡ slice_get rows n
-found rows n None P is at = sym (slice_get_past rows n at)
-found rows n (Some x) P is at = sym (slice_get_read rows (length rows) n x.now refl at.0 is)
 
 abbrev first_or : {X : Type 0} → X → List X → X
 first_or d [] = d

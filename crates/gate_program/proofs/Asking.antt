@@ -15,7 +15,7 @@ use Rattle.package_files.specs.declared.listed.Listed.{Listed}
 use Rattle.gate_program.specs.Asked.{asked_at, asked_from, asked_of, lent, moved_asked, packages_in, refusal_in}
 use Rattle.gate_program.specs.Before.{AreKnown}
 
-drop_end : {X : Type 0} (xs : List X) (n : ℕ) → length xs ≤ n → drop n xs ≡ []
+pub drop_end : {X : Type 0} (xs : List X) (n : ℕ) → length xs ≤ n → drop n xs ≡ []
 drop_end [] zero le = refl
 drop_end [] (suc n) le = refl
 drop_end (x ∷ xs) zero le = absurd (omega (arith, le))

@@ -55,10 +55,12 @@ IsNoOlder s a f = IsNoOlderBy s a.wanted.source (option_copied a.baseline) f
 
 -- ---- how a run ends
 
+-- whether there is no file
 abbrev pub is_none : List Listed → Bool
 is_none [] = true
 is_none (f ∷ fs) = false
 
+-- whether some package, or one of some file, has the name
 abbrev pub lists : List Package → List ℕ → Bool
 lists packages name = list_any (λ (p : Package). bytes_eq (string_bytes p.name) name) packages
 
@@ -84,13 +86,14 @@ IsToldEnd c p a files older ended =
     (text : GateText) × IsTold c p a files older text ×
     (ended ≡ end_of text (option_copied a.look.explain) files)
 
--- the run over these files, and that older one
+-- what is told of these files, and of that older one, ends the run
 pub record IsJudged (c : Rows) (p : Rules) (a : Request) (all : AllListed)
     (older : Option (Vec Listed)) (run : Run) : Type 0 where
   pub files_are : run.files.items ≡ all.files.items
   pub left_out_are : run.left_out ≡ all.left_out
   pub ends : IsToldEnd c p a all.files.items older run.end
 
+-- the run ends where the older file isn't had; where memory was refused, there is no run
 pub record IsWithoutBaseline (all : AllListed) (f : FileFault) (run : Run) : Type 0 where
   pub no_memory : is_of_memory f ≡ false
   pub files_are : run.files ≡ all.files

@@ -1,9 +1,9 @@
 // Catalogues that are read from JSON.
 
 use crate::answer::{Answer, NoAnswer, fields};
-use row_texts::number;
 use spdx::{Catalogue, Failure};
 use std::alloc::{AllocError, Global};
+use test_rows::number;
 
 /// The version of the catalogue that the text is, or its fault.
 pub fn text(alloc: Global, json: &str) -> Answer {

@@ -1,10 +1,10 @@
 // Catalogues that are made of rows, and the printed faults of rows.
 
 use crate::answer::{Answer, NoAnswer, fields, two_parts};
-use row_texts::number;
 use spdx::error::{CatalogueError, List};
 use spdx::{Catalogue, Exception, ImpreciseName, License};
 use std::alloc::{AllocError, Global};
+use test_rows::number;
 
 // A licence for each name, whose flags stand behind a blank, where it has any.
 fn licenses(alloc: Global, given: &str) -> Result<Vec<License>, AllocError> {

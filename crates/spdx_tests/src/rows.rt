@@ -6,9 +6,9 @@ use crate::{
     canonical, choice, copies, evaluation, json, lexing, licensees, look_ups, making, orders,
     parsing, printing,
 };
-use row_texts::written_out;
 use spdx::Catalogue;
 use std::alloc::{AllocError, Global};
+use test_rows::written_out;
 
 /// Which call the rows are of, and how many of them hold.
 #[derive(Drop)]

@@ -8,7 +8,7 @@ use gate_forms::{
 use std::alloc::{AllocError, Global};
 
 /// Appends a package that lacks a licence: nothing helps, something does, and that was not sought.
-pub fn put_advised(alloc: Global, shown: &mut Vec<u8>) -> Result<(), AllocError> {
+pub(crate) fn put_advised(alloc: Global, shown: &mut Vec<u8>) -> Result<(), AllocError> {
     put_advice(alloc, shown, Advice::Unmet)?;
     put_advice(alloc, shown, Advice::Allow(&["ISC", "Zlib\n"]))?;
     put_advice(alloc, shown, Advice::NotSought { entries: 1025 })

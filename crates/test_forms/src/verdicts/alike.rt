@@ -6,7 +6,7 @@ use gate_forms::{Advice, Leaf, Mark, Report, Verdict, Why, put_refusals};
 use std::alloc::{AllocError, Global};
 
 /// Appends refused packages, of which three and two are refused alike, among others.
-pub fn put_alike(alloc: Global, shown: &mut Vec<u8>) -> Result<(), AllocError> {
+pub(crate) fn put_alike(alloc: Global, shown: &mut Vec<u8>) -> Result<(), AllocError> {
     let missing = [Leaf {
         text: "Zlib",
         start: 0,

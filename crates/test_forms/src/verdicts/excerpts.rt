@@ -18,7 +18,7 @@ const READ: &str = "MIT AND MIT AND MIT AND MIT AND MIT AND MIT AND MIT AND MIT 
 
 /// Appends a package whose expression is none, which is shown round the fault, and one whose expression is read, which
 /// is shown whole.
-pub fn put_long(alloc: Global, shown: &mut Vec<u8>) -> Result<(), AllocError> {
+pub(crate) fn put_long(alloc: Global, shown: &mut Vec<u8>) -> Result<(), AllocError> {
     let fault = Why::Fault {
         reason: "unknown term",
         start: 140,

@@ -8,7 +8,7 @@ use gate_forms::{
 use std::alloc::{AllocError, Global};
 
 /// Appends them in each form that tells of a baseline, and the line of those that are known.
-pub fn put_beside_baseline(alloc: Global, shown: &mut Vec<u8>) -> Result<(), AllocError> {
+pub(crate) fn put_beside_baseline(alloc: Global, shown: &mut Vec<u8>) -> Result<(), AllocError> {
     let reports = all();
     for report in &reports {
         put_json(alloc, shown, report)?;

@@ -6,7 +6,7 @@ pub const HOSTILE: &str =
     "</h3><script>alert('1')</script>\"&amp;\x1b[31m\t\u{202e}名::\r\n::error::x";
 
 /// A package of a lock file.
-pub fn package<'r>(
+pub(crate) fn package<'r>(
     name: &'r str,
     expression: &'r str,
     verdict: Verdict,

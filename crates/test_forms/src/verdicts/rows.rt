@@ -9,7 +9,7 @@ use gate_forms::{
 use std::alloc::{AllocError, Global};
 
 /// Appends each package in each form, and the page.
-pub fn put_all(alloc: Global, shown: &mut Vec<u8>) -> Result<(), AllocError> {
+pub(crate) fn put_all(alloc: Global, shown: &mut Vec<u8>) -> Result<(), AllocError> {
     let fault = Why::Fault {
         reason: "unknown <term>",
         start: 4,

@@ -4,7 +4,7 @@ use gate_forms::{Need, Summary, put_summary, put_unused};
 use std::alloc::{AllocError, Global};
 
 /// Appends warnings of entries that are not used, and what would make all packages pass.
-pub fn put_behind(alloc: Global, shown: &mut Vec<u8>) -> Result<(), AllocError> {
+pub(crate) fn put_behind(alloc: Global, shown: &mut Vec<u8>) -> Result<(), AllocError> {
     put_unused(alloc, shown, "policy.toml", &[])?;
     let unused = [
         "deny \"AGPL-3.0-only\"",
