@@ -29,6 +29,7 @@ ul { margin: 0; padding: 0; list-style: none; columns: 16rem; }
 li { break-inside: avoid; }
 details { margin: .5rem 0; border: 1px solid var(--line); border-radius: .4rem; }
 summary { padding: .5rem .75rem; font-weight: 600; cursor: pointer; }
+details > ul { padding: 0 .75rem .5rem; }
 pre { margin: 0; padding: .75rem; background: var(--shade); font: .8rem/1.45 ui-monospace, monospace;
 white-space: pre-wrap; border-top: 1px solid var(--line); }
 section, pre { scroll-margin-top: 1rem; }
@@ -39,6 +40,7 @@ body { max-width: none; padding: 0; font-size: 10pt; }
 details { border: 0; }
 details::details-content { content-visibility: visible; display: block; height: auto; }
 details > pre { display: block; font-size: 8pt; }
+details > ul { padding: 0; }
 summary { list-style: none; padding: 0; }
 h2, h3, summary { break-after: avoid; }
 }
