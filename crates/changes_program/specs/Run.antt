@@ -1,5 +1,5 @@
 -- A run of the command: what is read, what is told, and how it ends.
-use Rattle.std.specs.Prelude.{◌≡◌, ℕ, Bool, true, false, List, [], ◌∷◌, Option, Some, None, ◌-◌, length, map, if◌then◌else◌}
+use Rattle.std.specs.Prelude.{◌≡◌, ◌≢◌, ℕ, Bool, true, false, List, [], ◌∷◌, Option, Some, None, ◌-◌, All, length, map, if◌then◌else◌}
 use Rattle.std.specs.List.{count_by, list_any}
 use Rattle.std.specs.Option.{option_copied}
 use Rattle.shelves.specs.Shelf.{Shelved}
@@ -9,11 +9,14 @@ use Rattle.list_program.specs.Troubles.{IsNoNamedList}
 use Rattle.package_items.specs.declared.package.Package.{Package}
 use Rattle.package_files.specs.declared.listed.Listed.{Listed}
 use Rattle.package_files.specs.All.{AreListed}
+use Rattle.package_files.specs.Listed.{IsListedAt}
 use Rattle.spdx_policy.specs.Rules.{Rules}
 use Rattle.gate_program.specs.declared.policy.PolicyTrouble.{PolicyTrouble}
 use Rattle.gate_program.specs.declared.run.GateTrouble.{GateTrouble}
 use Rattle.gate_program.specs.declared.run.GateTrouble.TheVariants as trouble
 use Rattle.gate_program.specs.Policy.{IsNoPolicyAt, IsPolicyAt}
+use Rattle.gate_program.specs.Run.{IsAllowed}
+use Rattle.package_changes.specs.Rows.{ChangeRow, Row, came, stayed, went}
 use Rattle.package_changes.specs.Pairing.{changes}
 use Rattle.change_forms.specs.declared.forms.Form.{Form}
 use Rattle.change_forms.specs.declared.tellings.How.{How}
@@ -26,7 +29,7 @@ use Rattle.changes_program.specs.declared.run.Told.{Told}
 use Rattle.changes_program.specs.declared.run.Totals.{Totals}
 use Rattle.changes_program.specs.Packages.{row_in}
 use Rattle.changes_program.specs.Said.{AreSaid, SaidRow}
-use Rattle.changes_program.specs.Tellings.{AreTold}
+use Rattle.changes_program.specs.Tellings.{AreTold, judged_if}
 
 -- ---- what is counted
 
@@ -133,3 +136,30 @@ status_by (Some told) = if told.is_refused then 1 else 0
 
 abbrev pub status_of : Run → ℕ
 status_of run = status_by run.told
+
+-- ---- laws
+
+-- the package came or its licence changed, and this is how the newer file has it
+abbrev pub IsNew : ChangeRow → Row → Type 0
+IsNew (came r) new = r ≡ new
+IsNew (went r) new = ⊥
+IsNew (stayed old r) new = (r ≡ new) × (old.license ≢ r.license)
+
+-- by the policy's own definition each such package passes
+abbrev pub DoNewOnesPass : Rows → Rules → List Package → List Package → Type 0
+DoNewOnesPass c p older newer =
+    All (λ x. (new : Row) → IsNew x new → IsAllowed c p (judged_if (Some new)))
+    (changes (map row_in older) (map row_in newer))
+
+-- each such package of the files at both paths, by the list and the policy that are read
+pub record NewOnesPass (s : Shelved) (inside : InsideBytes) (heirs : List ℕ) (a : Request)
+    (path : List ℕ) : Type 0 where
+  pub catalogue : Rows
+  pub policy : Rules
+  pub older : Listed
+  pub newer : Listed
+  pub list_is : IsNamedList s inside (option_copied a.list) catalogue
+  pub policy_is : IsPolicyAt s heirs catalogue path policy
+  pub older_is : IsListedAt s a.wanted a.old.now older
+  pub newer_is : IsListedAt s a.wanted a.new.now newer
+  pub pass : DoNewOnesPass catalogue policy older.packages.items newer.packages.items

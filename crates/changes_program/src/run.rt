@@ -1,6 +1,6 @@
 // A run of the command, over a shelf.
 
-ghost use Rattle.std.specs.Prelude.{◌≡◌, IfErr, IfOk};
+ghost use Rattle.std.specs.Prelude.{◌≡◌, ◌<◌, ℕ, List, IfErr, IfOk, Some};
 ghost use Rattle.std.specs.List.{count_by, list_any};
 ghost use Rattle.std.specs.Option.{option_copied};
 ghost use Rattle.list_program.specs.Named.{inside_of};
@@ -12,6 +12,7 @@ ghost use Rattle.changes_program.specs.Run.{
   IsRunOver,
   IsTold,
   IsToldOfBoth,
+  NewOnesPass,
   status_of,
 };
 
@@ -109,6 +110,10 @@ pub fn changes<S: Shelf>(
         (inside_of inside.entry.list.now inside.entry.extras.now) heirs.now request.entry) }
     ensures err { IfErr result (IsNoRun (S.told shelf.now)
         (inside_of inside.entry.list.now inside.entry.extras.now) heirs.now request.entry) }
+    ensures passes { IfOk result (λ run. status_of run < 1 → (path : List ℕ) →
+        option_copied request.entry.policy ≡ Some path →
+        NewOnesPass (S.told shelf.now) (inside_of inside.entry.list.now inside.entry.extras.now)
+        heirs.now request.entry path) }
 {
     let catalogue = named_list(alloc, shelf, inside, request.list)?;
     let policy = policy_if(alloc, shelf, heirs, &catalogue, request.policy)?;
