@@ -3,3 +3,5 @@ pub mod Refusals
 pub mod Meaning
 pub mod Least
 pub mod Relating
+pub mod Order
+pub mod Parted

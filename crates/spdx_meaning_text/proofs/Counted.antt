@@ -1,14 +1,8 @@
 -- How many of some that are in order stand before one: those in front of the first that doesn't.
 use Rattle.std.proofs.Common.{◌≡◌, ℕ, ◌+◌, ◌≤◌, zero, suc, Bool, true, false, cond, List, [], ◌∷◌, length, map, refl, sym, ◌∙◌, ap, arith}
-use Rattle.std.specs.Prelude.{count_by, slice_index_or}
-use Rattle.std.specs.Ordering.{is_lt, ordering_reverse}
-use Rattle.std.specs.declared.cmp.Ordering.{Ordering}
-use Rattle.std.specs.declared.cmp.Ordering.TheVariants.{Less, Equal, Greater}
-use Rattle.std.specs.Cmp.{IsTotalOrder}
-use Rattle.std.specs.List.Sorted.{IsSortedBy, IsPartitionedBy, IsPartitionPoint}
-use Rattle.std.proofs.lemmas.List.MinMax.{ranks_by}
+use Rattle.std.specs.Prelude.{count_by}
+use Rattle.std.specs.List.Sorted.{IsPartitionPoint}
 use Rattle.std.proofs.lemmas.List.Sums.{sum_by-cons}
-use Rattle.std.proofs.lemmas.List.Sorted.{sorted_far}
 
 pub count-cons : {X : Type 0} (p : X → Bool) (x : X) (xs : List X) → count_by p (x ∷ xs) ≡ cond (p x) 1 0 + count_by p xs
 count-cons p x xs = sum_by-cons (λ z. cond (p z) 1 0) x xs
@@ -24,29 +18,6 @@ counted p (x ∷ xs) (suc i) few point =
     let first : cond {A = ℕ} (p x) 1 0 ≡ 1 = ap (λ (b : Bool). cond {A = ℕ} b 1 0) (point.0 zero x (omega arith) (omega arith)) in
     let rest = counted p xs i (omega arith) (λ k d l h. point.0 (suc k) d (omega arith) (omega arith), λ k d l h. point.1 (suc k) d (omega arith) (omega arith)) in
     omega (arith, count-cons p x xs, first, rest)
-
--- the first of some that are sorted stand before one, and the others don't
-pub parted : {X K : Type 0} (cmp : K → K → Ordering) (o : IsTotalOrder cmp) (f : X → K) (xs : List X) (r : K) → IsSortedBy (λ x y. is_lt (cmp (f x) (f y))) xs → IsPartitionedBy (λ y. is_lt (cmp (f y) r)) xs
-parted {K = K} cmp o f xs r up i j d l m before = cases (cmp a b) refl
-  where
-    a : K
-    a = f (slice_index_or xs i d)
-
-    b : K
-    b = f (slice_index_or xs j d)
-
-    is : (w : Ordering) → is_lt w ≡ true → w ≡ Less
-    is Less e = refl
-    is Equal e = let bad : false ≡ true = e in cc
-    is Greater e = let bad : false ≡ true = e in cc
-
-    cases : (w : Ordering) → cmp a b ≡ w → is_lt (cmp a r) ≡ true
-    cases Less e = ap is_lt (o.trans a b r e (is (cmp b r) before))
-    cases Equal e = ap is_lt (o.congr a b r e) ∙ before
-    cases Greater e =
-        let back : is_lt (cmp b a) ≡ true = ap is_lt (o.antisymm b a ∙ ap ordering_reverse e) in
-        let bad : false ≡ true = sym (sorted_far (λ x y. is_lt (cmp (f x) (f y))) (ranks_by o f) xs up i j d l m) ∙ back in
-        cc
 
 pub count-map : {X Y : Type 0} (p : Y → Bool) (f : X → Y) (xs : List X) → count_by (λ x. p (f x)) xs ≡ count_by p (map f xs)
 count-map p f [] = refl

@@ -23,7 +23,8 @@ use Rattle.spdx_meaning_text.specs.Ranks.{rank_in}
 use Rattle.spdx_meaning_text.specs.LeastSets.{AreLeastSets}
 use Rattle.spdx_meaning_text.proofs.Later.{mapped_all, mapped_any, mapped_later, mapped_differ, mapped_sets_cmp}
 use Rattle.spdx_meaning_text.proofs.Numbers.{same_number, from_apart, from_ordered, all_from_rising}
-use Rattle.spdx_meaning_text.proofs.Ranks.{rank_cmp, rank_tied, same_is_tied}
+use Rattle.spdx_meaning.proofs.Order.{same_is_tied}
+use Rattle.spdx_meaning_text.proofs.Ranks.{rank_cmp, rank_tied}
 
 -- ---- elements
 

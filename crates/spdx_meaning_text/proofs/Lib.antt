@@ -1,4 +1,3 @@
-pub mod Order
 pub mod Later
 pub mod Numbers
 pub mod Ranks

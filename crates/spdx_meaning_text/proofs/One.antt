@@ -20,10 +20,10 @@ use Rattle.spdx_meaning.specs.Meaning.{IsEquivalent}
 use Rattle.spdx_meaning_text.specs.Sets.{In, AllLater, is_before, differ, sets_cmp}
 use Rattle.spdx_meaning_text.specs.Ranks.{rank_in}
 use Rattle.spdx_meaning_text.specs.LeastSets.{AreLeastSets}
-use Rattle.spdx_meaning_text.proofs.Order.{tied_key}
+use Rattle.spdx_meaning.proofs.Order.{tied_key, same_is_tied, tied_of_same}
 use Rattle.spdx_meaning_text.proofs.Later.{mapped_later, mapped_differ, mapped_sets_cmp}
 use Rattle.spdx_meaning_text.proofs.Numbers.{same_number, to_apart, to_ordered, all_to_rising}
-use Rattle.spdx_meaning_text.proofs.Ranks.{in_first, in_second, rank_cmp, rank_same, rank_tied, same_is_tied, tied_of_same}
+use Rattle.spdx_meaning_text.proofs.Ranks.{in_first, in_second, rank_cmp, rank_same, rank_tied}
 use Rattle.spdx_meaning_text.proofs.Least.{all_fits, all_mapped, both_all, accepts_mapped}
 
 -- ---- over one catalogue a row is told by its index

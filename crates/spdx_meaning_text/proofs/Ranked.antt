@@ -47,10 +47,7 @@ module _ {K : Type 0} (cmp : K → K → Ordering) (o : IsTotalOrder cmp) where
         (farther (map f ys) (later_not_less y ys (rest_sorted x (y ∷ ys) h)) next)
       where
         farther : (ks : List K) → list_all (λ z. not (lower z (f y))) ks ≡ true → by y x ≡ false → list_all (λ z. not (lower z (f x))) ks ≡ true
-        farther ks all next = weaker ks all
-          where
-            weaker : (ks : List K) → list_all (λ z. not (lower z (f y))) ks ≡ true → list_all (λ z. not (lower z (f x))) ks ≡ true
-            weaker ks all = all_weaker (λ z. not (lower z (f y))) (λ z. not (lower z (f x))) ks (λ z e. negated (lower z (f x)) (weak.chain z (f y) (f x) (turned_back (lower z (f y)) e) next)) all
+        farther ks all next = all_weaker (λ z. not (lower z (f y))) (λ z. not (lower z (f x))) ks (λ z e. negated (lower z (f x)) (weak.chain z (f y) (f x) (turned_back (lower z (f y)) e) next)) all
 
     pub rises : (xs : List X) → IsSortedBy by xs → Rises (map f xs)
     rises [] h = tt

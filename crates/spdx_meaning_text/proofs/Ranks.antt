@@ -2,7 +2,7 @@
 use Rattle.std.proofs.Common.{◌≡◌, ◌⊎◌, ℕ, ◌+◌, ◌<◌, ◌≤◌, Bool, true, false, ◌||◌, cond, List, [], ◌∷◌, ◌++◌, refl, sym, ◌∙◌, ap, inl, inr, arith}
 use Rattle.std.specs.Prelude.{count_by, ◌==◌}
 use Rattle.std.specs.List.{list_any, list_all}
-use Rattle.std.specs.Ordering.{nat_cmp, is_lt, is_eq, ordering_reverse}
+use Rattle.std.specs.Ordering.{nat_cmp, is_lt, ordering_reverse}
 use Rattle.std.specs.declared.cmp.Ordering.{Ordering}
 use Rattle.std.specs.declared.cmp.Ordering.TheVariants.{Less, Equal, Greater}
 use Rattle.std.specs.List.Sorted.{IsPermutation}
@@ -11,13 +11,11 @@ use Rattle.std.proofs.lemmas.List.Sorted.{sum_by-IsPermutation}
 use Rattle.std.proofs.lemmas.Cmp.{tied_itself, alike_right}
 use Rattle.spdx_requirement.specs.Items.{Requirement}
 use Rattle.spdx_requirement.specs.Orders.{requirement_cmp}
-use Rattle.spdx_requirement.specs.Equality.{same_requirement}
-use Rattle.spdx_requirement.specs.EqualityLaws.{requirements_decide}
-use Rattle.least_sets.proofs.Means.{same_truth, and_first, and_second}
+use Rattle.least_sets.proofs.Means.{and_first, and_second}
+use Rattle.spdx_meaning.proofs.Order.{requirements_total}
 use Rattle.spdx_meaning_text.specs.Sets.{In, is_before}
 use Rattle.spdx_meaning_text.specs.Ranks.{rank_in}
 use Rattle.spdx_meaning_text.proofs.Counted.{count-cons}
-use Rattle.spdx_meaning_text.proofs.Order.{requirements_total, tied_key, key_tied}
 use Rattle.spdx_meaning_text.proofs.Numbers.{is_less, is_more, is_level}
 
 pub in_first : {X : Type 0} (xs ys : List X) (x : X) → In xs x → In (xs ++ ys) x
@@ -93,19 +91,6 @@ rank_cmp qs r s r_in s_in = cases (requirement_cmp r s) refl
     cases Less e = is_less (rank_in qs r) (rank_in qs s) (rank_less qs r s r_in e)
     cases Equal e = is_level (rank_in qs r) (rank_in qs s) (rank_same qs r s e)
     cases Greater e = is_more (rank_in qs r) (rank_in qs s) (rank_less qs s r s_in (requirements_total.antisymm s r ∙ ap ordering_reverse e))
-
-pub same_is_tied : (r s : Requirement) → same_requirement r s ≡ is_eq (requirement_cmp r s)
-same_is_tied r s = same_truth (same_requirement r s) (is_eq (requirement_cmp r s))
-    (λ e. ap is_eq (key_tied r s ((requirements_decide r s).0 e)))
-    (λ e. (requirements_decide r s).1 (tied_key r s (is (requirement_cmp r s) e)))
-  where
-    is : (o : Ordering) → is_eq o ≡ true → o ≡ Equal
-    is Less e = let bad : false ≡ true = e in cc
-    is Equal e = refl
-    is Greater e = let bad : false ≡ true = e in cc
-
-pub tied_of_same : (r s : Requirement) → same_requirement r s ≡ true → requirement_cmp r s ≡ Equal
-tied_of_same r s e = key_tied r s ((requirements_decide r s).0 e)
 
 pub rank_tied : (qs : List Requirement) (r s : Requirement) → In qs r → In qs s → rank_in qs r ≡ rank_in qs s → requirement_cmp r s ≡ Equal
 rank_tied qs r s r_in s_in e = sym (rank_cmp qs r s r_in s_in) ∙ is_level (rank_in qs r) (rank_in qs s) e

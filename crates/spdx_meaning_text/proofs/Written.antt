@@ -22,7 +22,7 @@ use Rattle.spdx_meaning_text.specs.Sets.{In}
 use Rattle.spdx_meaning_text.specs.Ranks.{rank_in, name_at}
 use Rattle.spdx_meaning_text.specs.Joined.{joined, more_joined}
 use Rattle.spdx_meaning_text.specs.MeaningText.{IsMeaningText}
-use Rattle.spdx_meaning_text.proofs.Order.{requirements_total}
+use Rattle.spdx_meaning.proofs.Order.{requirements_total}
 use Rattle.spdx_meaning_text.proofs.Ranks.{rank_same, ranks_same, first_at, found_at}
 use Rattle.spdx_meaning_text.proofs.Ranked.{Rises, at_rank}
 use Rattle.spdx_meaning_text.proofs.Least.{IsRank, rank, all_ranks, are_least, anything}

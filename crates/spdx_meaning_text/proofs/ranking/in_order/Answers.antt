@@ -6,7 +6,7 @@ use Rattle.std.proofs.lemmas.List.Sorted.{IsPermutation-map}
 use Rattle.spdx_requirement.specs.Items.{Requirement, requirement_of}
 use Rattle.spdx_requirement.specs.Orders.{requirement_cmp}
 use Rattle.spdx_meaning_text.specs.Sets.{is_before}
-use Rattle.spdx_meaning_text.proofs.Order.{requirements_total}
+use Rattle.spdx_meaning.proofs.Order.{requirements_total}
 use Rattle.spdx_meaning_text.proofs.ranking.in_order.Goals as goal
 
 pub returns-clause-same : goal.returns-clause-same

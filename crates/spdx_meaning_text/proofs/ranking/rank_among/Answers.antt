@@ -4,8 +4,9 @@ use Rattle.spdx_requirement.specs.declared.requirement.LicenseReq.{LicenseReq}
 use Rattle.spdx_requirement.specs.Items.{requirement_of}
 use Rattle.spdx_requirement.specs.Orders.{requirement_cmp}
 use Rattle.spdx_meaning_text.specs.Sets.{is_before}
-use Rattle.spdx_meaning_text.proofs.Order.{requirements_total}
-use Rattle.spdx_meaning_text.proofs.Counted.{counted, parted, count-map}
+use Rattle.spdx_meaning.proofs.Order.{requirements_total}
+use Rattle.spdx_meaning.proofs.Parted.{parted}
+use Rattle.spdx_meaning_text.proofs.Counted.{counted, count-map}
 use Rattle.spdx_meaning_text.proofs.ranking.rank_among.Goals as goal
 
 pub returns : goal.returns

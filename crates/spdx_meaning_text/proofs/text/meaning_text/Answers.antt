@@ -12,7 +12,7 @@ use Rattle.spdx_meaning.proofs.Meaning.{made_apart}
 use Rattle.spdx_meaning.proofs.Refusals.{handed_on}
 use Rattle.spdx_meaning_text.specs.Ranks.{rank_in, name_at}
 use Rattle.spdx_meaning_text.specs.Joined.{joined}
-use Rattle.spdx_meaning_text.proofs.Order.{requirements_total}
+use Rattle.spdx_meaning.proofs.Order.{requirements_total}
 use Rattle.spdx_meaning_text.proofs.Ranked.{rises}
 use Rattle.spdx_meaning_text.proofs.Written.{is_meaning_text}
 use Rattle.spdx_meaning_text.proofs.text.meaning_text.Goals as goal

@@ -2,7 +2,7 @@
 use Rattle.std.proofs.Common.{◌≡◌, ℕ, ◌<◌, Bool, true, false, List, [], ◌∷◌, Option, Some, None, refl, sym, ◌∙◌, ap, subst}
 use Rattle.std.specs.Prelude.{option_map}
 use Rattle.std.specs.Option as option
-use Rattle.std.specs.Ordering.{nat_cmp, ordering_then}
+use Rattle.std.specs.Ordering.{nat_cmp, ordering_then, is_eq}
 use Rattle.std.specs.declared.cmp.Ordering.{Ordering}
 use Rattle.std.specs.declared.cmp.Ordering.TheVariants.{Less, Equal, Greater}
 use Rattle.std.specs.Cmp.{IsTotalOrder}
@@ -11,6 +11,9 @@ use Rattle.std.proofs.lemmas.Cmp.{nat_cmp_total, nat_list_cmp_total, on_total, t
 use Rattle.spdx_requirement.specs.Items.{Reference, LicenseTerm, listed, referred, Addition, excepted, added, Requirement}
 use Rattle.spdx_requirement.specs.Keys.{LicenseKey, license_reference, AdditionKey, exception_row, addition_reference, RequirementKey, license_key, addition_key, requirement_key}
 use Rattle.spdx_requirement.specs.Orders.{option_cmp, mark_cmp, reference_cmp, license_cmp, addition_cmp, requirement_cmp}
+use Rattle.spdx_requirement.specs.Equality.{same_requirement}
+use Rattle.spdx_requirement.specs.EqualityLaws.{requirements_decide}
+use Rattle.least_sets.proofs.Means.{same_truth}
 
 -- an order is total that answers as a total one does
 as_total : {K : Type 0} (R S : K → K → Ordering) → ((x y : K) → R x y ≡ S x y) → IsTotalOrder R → IsTotalOrder S
@@ -223,3 +226,18 @@ key_tied r s e =
     tied_both (license_cmp r.license s.license) (option_cmp addition_cmp r.addition s.addition)
     (license_ties r.license s.license (ap (λ (k : RequirementKey). k.license) e))
     (option_ties r.addition s.addition (ap (λ (k : RequirementKey). k.addition) e))
+
+-- ---- so it ties those that are the same
+
+pub same_is_tied : (r s : Requirement) → same_requirement r s ≡ is_eq (requirement_cmp r s)
+same_is_tied r s = same_truth (same_requirement r s) (is_eq (requirement_cmp r s))
+    (λ e. ap is_eq (key_tied r s ((requirements_decide r s).0 e)))
+    (λ e. (requirements_decide r s).1 (tied_key r s (is (requirement_cmp r s) e)))
+  where
+    is : (o : Ordering) → is_eq o ≡ true → o ≡ Equal
+    is Less e = let bad : false ≡ true = e in cc
+    is Equal e = refl
+    is Greater e = let bad : false ≡ true = e in cc
+
+pub tied_of_same : (r s : Requirement) → same_requirement r s ≡ true → requirement_cmp r s ≡ Equal
+tied_of_same r s e = key_tied r s ((requirements_decide r s).0 e)
