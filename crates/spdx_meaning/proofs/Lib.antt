@@ -5,3 +5,5 @@ pub mod Least
 pub mod Relating
 pub mod Order
 pub mod Parted
+pub mod Numbered
+pub mod Placing

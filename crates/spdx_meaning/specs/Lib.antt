@@ -1,4 +1,5 @@
 pub mod Places
+pub mod Placed
 pub mod Meaning
 pub mod Made
 pub mod Minimal

@@ -22,6 +22,9 @@ use std::alloc::Global;
 /// A requirement is the place where it first stands among the requirements, from 0. Of each set the places ascend; the
 /// sets are ordered by size, then by their first place that differs.
 ///
+/// For the places the requirements are sorted, and each is sought by binary search. [`least_sets::sets`] says what it takes to
+/// make the sets.
+///
 /// # Errors
 ///
 /// Memory was refused, or too many sets are made for a part of the expression: for an `OR` as many as its two sides have
