@@ -7,3 +7,4 @@ pub mod Order
 pub mod Parted
 pub mod Numbered
 pub mod Placing
+pub mod Marks

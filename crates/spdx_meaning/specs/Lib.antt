@@ -3,6 +3,7 @@ pub mod Placed
 pub mod Meaning
 pub mod Made
 pub mod Minimal
+pub mod Marks
 pub mod Stack
 pub mod Faults
 pub mod Relations

@@ -1,6 +1,6 @@
 //! Whether one expression asks at least what another one asks, and whether two are equivalent.
 
-ghost use Rattle.std.specs.Prelude.{◌≡◌, ◌≤◌, ◌↔◌, ◌⊎◌, IsTrue, length, map, IfOk, IfErr, Err};
+ghost use Rattle.std.specs.Prelude.{◌≡◌, ◌<◌, ◌≤◌, ◌↔◌, ◌⊎◌, IsTrue, All, length, map, IfOk, IfErr, Err};
 ghost use Rattle.std.specs.List.{list_all};
 ghost use Rattle.spdx_requirement.specs.Failures.{IfRefused};
 ghost use Rattle.spdx_parser.specs.Tree.{leaves, node_of};
@@ -9,6 +9,7 @@ ghost use Rattle.spdx_evaluation.specs.Truth.{truth_of};
 ghost use Rattle.least_sets.specs.Sets.{is_in, sets_in};
 ghost use Rattle.spdx_meaning.specs.Made.{made_in};
 ghost use Rattle.spdx_meaning.specs.Meaning.{AsksAtLeast, IsEquivalent};
+ghost use Rattle.spdx_meaning.specs.Marks.{has_mark, HasNoMark, AreMarked};
 
 use crate::error::TooManySets;
 use crate::made::sets_of;
@@ -21,7 +22,8 @@ use std::alloc::Global;
 /// Whether the one expression asks at least what the other one asks: whatever requirements are accepted, where the one holds
 /// the other one does.
 ///
-/// The least sets of the one are made, and the other one is read once for each of them until one doesn't make it hold.
+/// The requirements of the one are sorted, and each of both is sought among them by binary search. The least sets of the one are
+/// made, and the other one is read once for each of them until one doesn't make it hold.
 ///
 /// # Errors
 ///
@@ -41,7 +43,14 @@ pub fn asks_at_least<'c>(
     let sets = sets_of(alloc, one, numbers.as_slice())?;
     let places = places_among(alloc, one, other)?;
     let mut truths = Truths::with_room(alloc, other.len())?;
-    let asks = each_makes_hold(&mut truths, other, places.as_slice(), sets.as_slice());
+    let mut marks = vec![in alloc; 0; numbers.len() + 1]?;
+    let asks = each_makes_hold(
+        &mut truths,
+        marks.as_mut_slice(),
+        other,
+        places.as_slice(),
+        sets.as_slice(),
+    );
     Ok(asks)
 }
 
@@ -70,9 +79,11 @@ pub fn is_equivalent<'c>(
     asks_at_least(alloc, other, one)
 }
 
-// Whether the expression holds where the requirements of one of the sets are accepted, for each of them.
+// Whether the expression holds where the requirements of one of the sets are accepted, for each of them. The numbers of each set
+// get a mark of its own, so that those of the sets before it need not be taken away.
 fn each_makes_hold(
     truths: &mut Truths,
+    marks: &mut [usize],
     nodes: &[ExprNode<'_>],
     numbers: &[usize],
     sets: &[Vec<usize>],
@@ -80,28 +91,45 @@ fn each_makes_hold(
     requires tree { IsPostfix (map node_of nodes.now) }
     requires each { length numbers.now ≡ length (leaves (tree_in nodes.now)) }
     requires room { length nodes.now ≤ truths.old.room }
+    requires within { All (λ k. k < length marks.old) numbers.now }
+    requires unmarked { HasNoMark marks.old }
     ensures { result ≡ list_all
         (λ s. truth_of (tree_in nodes.now) (map (is_in s) numbers.now)) (sets_in sets.now) }
 {
-    for set in sets {
-        if !holds_with(truths, nodes, numbers, set.as_slice()) {
+    for (index, set) in sets.iter().enumerate() {
+        mark_each(marks, set.as_slice(), index + 1);
+        if !holds_with(truths, nodes, numbers, marks, index + 1) {
             return false;
         }
     }
     true
 }
 
-// Whether the expression holds where the requirements of some numbers are accepted.
+// Marks each of the numbers; those that are beyond the marks are left out.
+fn mark_each(marks: &mut [usize], numbers: &[usize], mark: usize)
+    ensures { AreMarked marks.old numbers.now mark marks.new }
+{
+    for number in numbers {
+        if *number < marks.len() {
+            marks[*number] = mark;
+        }
+    }
+}
+
+// Whether the expression holds where the requirements of the numbers with this mark are accepted.
 fn holds_with(
     truths: &mut Truths,
     nodes: &[ExprNode<'_>],
     numbers: &[usize],
-    accepted: &[usize],
+    marks: &[usize],
+    mark: usize,
 ) -> bool
     requires tree { IsPostfix (map node_of nodes.now) }
     requires each { length numbers.now ≡ length (leaves (tree_in nodes.now)) }
     requires room { length nodes.now ≤ truths.old.room }
-    ensures answer { result ≡ truth_of (tree_in nodes.now) (map (is_in accepted.now) numbers.now) }
+    requires within { All (λ k. k < length marks.now) numbers.now }
+    ensures answer { result
+        ≡ truth_of (tree_in nodes.now) (map (has_mark marks.now mark) numbers.now) }
     ensures room { truths.new.room ≡ truths.old.room }
 {
     let mut number = 0;
@@ -109,7 +137,7 @@ fn holds_with(
     for node in nodes {
         match node {
             ExprNode::Req(_) => {
-                truths.push(accepted.contains(&numbers[number]));
+                truths.push(marks[numbers[number]] == mark);
                 number += 1;
             }
             ExprNode::Op(Operator::And) => truths.both(),

@@ -14,7 +14,7 @@ use spdx_catalogue::Failure;
 use spdx_parser::node::ExprNode;
 use std::alloc::Global;
 
-/// How what the one expression asks compares with what the other one asks.
+/// How what the one expression asks compares with what the other one asks. Takes what [`asks_at_least`] takes, both ways.
 ///
 /// # Errors
 ///

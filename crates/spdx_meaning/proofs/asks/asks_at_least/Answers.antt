@@ -1,4 +1,5 @@
-use Rattle.std.proofs.Common.{◌≡◌, sym, ◌∙◌, ap, ℕ, List, map, Ok}
+use Rattle.std.proofs.Common.{◌≡◌, ◌<◌, sym, ◌∙◌, ap, subst, ℕ, List, length, map, All, Ok, arith}
+use Rattle.std.proofs.lemmas.List.{length-map}
 use Rattle.std.specs.Global.{Vec}
 use Rattle.std.specs.List.{list_all}
 use Rattle.spdx_parser.specs.Tree.{leaves}
@@ -8,7 +9,17 @@ use Rattle.least_sets.specs.Sets.{is_in, sets_in}
 use Rattle.spdx_meaning.specs.Places.{place_in}
 use Rattle.spdx_meaning.specs.Made.{made_in}
 use Rattle.spdx_meaning.proofs.Meaning.{MakesHold, asks_forth, asks_back, tests_are}
+use Rattle.spdx_meaning.proofs.Marks.{places_few}
 use Rattle.spdx_meaning.proofs.asks.asks_at_least.Goals as goal
+
+pub each_makes_hold-asks-requires-clause-within : goal.each_makes_hold-asks-requires-clause-within
+each_makes_hold-asks-requires-clause-within c =
+    let qs = leaves (tree_in c.args.one.now) in
+    let rs = leaves (tree_in c.args.other.now) in
+    let marks = c.as_mut_slice.result.now in
+    let each : length c.in_ok-numbers.numbers.items ≡ length qs = ap length c.in_ok-numbers.ensures ∙ length-map qs (place_in qs) in
+    let more : length qs < length marks = omega (arith, each, c.len.ensures, c.in_ok-marks.ensures.len, ap length c.as_mut_slice.ensures.value) in
+    subst (λ (ks : List ℕ). All (λ k. k < length marks) ks) (sym (c.as_slice-2.ensures.value ∙ c.in_ok-places.ensures)) (places_few qs rs (length marks) more)
 
 pub returns-clause-ok : goal.returns-clause-ok
 returns-clause-ok c =

@@ -4,14 +4,14 @@ use Rattle.spdx_parser.specs.declared.node.Operator.TheVariants.{And, Or}
 use Rattle.spdx_parser.specs.declared.node.ExprNode.TheVariants.{Op}
 use Rattle.spdx_evaluation.specs.Postfix.{tree_in}
 use Rattle.spdx_minimize.proofs.Asking.{begins, leaf_there, reads_requirement, reads_operator, finishes}
-use Rattle.least_sets.specs.Sets.{is_in}
+use Rattle.spdx_meaning.specs.Marks.{has_mark}
 use Rattle.spdx_meaning.proofs.Machine.{get_or-map}
 use Rattle.spdx_meaning.proofs.asks.holds_with.Goals as goal
 use Rattle.spdx_meaning.proofs.asks.holds_with.Goals.{in-Req, in-Op-And, in-Op-Or}
 
 pub loop-node-init : goal.loop-node-init
 loop-node-init c =
-    let each = length-map c.args.numbers.now (is_in c.args.accepted.now) in
+    let each = length-map c.args.numbers.now (has_mark c.args.marks.now c.args.mark) in
     record {
       so_far = begins _ _ _ (tree_in c.args.nodes.now) c.requires.tree (each ∙ c.requires.each) c.clear.ensures.items (omega (arith, c.requires.room, c.clear.ensures.room));
       place = omega arith;
@@ -23,11 +23,10 @@ loop-node-preserved c = elim c.match-node.branch [
   | in-Req w ↦
       let node = sym c.node-item.is ∙ w.in-Req.is in
       let there = leaf_there _ _ _ _ _ _ _ c.loop-node.invariant.so_far c.loop-node-test.true node in
-      let within : c.loop-node.number < length c.args.numbers.now = omega (arith, there, length-map c.args.numbers.now (is_in c.args.accepted.now)) in
-      let answer : w.contains.result ≡ is_in c.args.accepted.now (get_or c.args.numbers.now c.loop-node.number 0) = search rules in
+      let within : c.loop-node.number < length c.args.numbers.now = omega (arith, there, length-map c.args.numbers.now (has_mark c.args.marks.now c.args.mark)) in
       rw (w.number-is, w.truths-is) record {
         so_far = reads_requirement _ _ _ _ _ _ _ _ c.loop-node.invariant.so_far c.loop-node-test.true node
-            (w.push.ensures.items ∙ ap (λ (b : Bool). b ∷ c.loop-node.truths.items) (answer ∙ sym (get_or-map (is_in c.args.accepted.now) c.args.numbers.now c.loop-node.number 0 false within))) w.push.ensures.room;
+            (w.push.ensures.items ∙ ap (λ (b : Bool). b ∷ c.loop-node.truths.items) (sym (get_or-map (has_mark c.args.marks.now c.args.mark) c.args.numbers.now c.loop-node.number 0 false within))) w.push.ensures.room;
         place = omega (arith, c.loop-node.invariant.place);
         room = w.push.ensures.room ∙ c.loop-node.invariant.room;
       }
@@ -49,5 +48,5 @@ loop-node-preserved c = elim c.match-node.branch [
 
 pub returns-clause-answer : goal.returns-clause-answer
 returns-clause-answer c =
-    let each = length-map c.args.numbers.now (is_in c.args.accepted.now) in
+    let each = length-map c.args.numbers.now (has_mark c.args.marks.now c.args.mark) in
     finishes _ _ _ _ _ _ _ (tree_in c.args.nodes.now) c.loop-node.invariant.so_far (search rules) c.take.ensures.items c.requires.tree (each ∙ c.requires.each)
