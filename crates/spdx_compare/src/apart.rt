@@ -1,21 +1,22 @@
-// Requirements that tell two expressions apart.
+// The fewest requirements that tell two expressions apart.
 
-ghost use Rattle.std.specs.Prelude.{◌≡◌, IfOk, IfSome, map, true, false, string_bytes};
+ghost use Rattle.std.specs.Prelude.{◌≡◌, ◌++◌, IfOk, OnOk, flat_map, map, string_bytes};
 ghost use Rattle.spdx_requirement.specs.Items.{requirement_of};
-ghost use Rattle.spdx_parser.specs.Tree.{node_of};
+ghost use Rattle.spdx_parser.specs.Tree.{leaves, node_of};
 ghost use Rattle.spdx_evaluation.specs.Postfix.{IsPostfix, tree_in};
-ghost use Rattle.spdx_evaluation.specs.Truth.{holds};
-ghost use Rattle.spdx_compare.specs.Apart.{accepts, names_of, TellApart};
+ghost use Rattle.least_sets.specs.Sets.{sets_in};
+ghost use Rattle.spdx_meaning.specs.Minimal.{AreMinimalSets};
+ghost use Rattle.spdx_compare.specs.Apart.{IsAlone, name_at};
+ghost use Rattle.spdx_compare.specs.Comparing.{told_names};
 
 use spdx_catalogue::LicenseReq;
-use spdx_evaluation::evaluate;
+use spdx_meaning::first_unmet;
 use spdx_parser::node::ExprNode;
-use spdx_requirement::equality::are_same_requirement;
 use std::alloc::{AllocError, Global};
 
-// The first of some sets of the one's requirements, each by its places, with which alone the one holds and the other one
-// doesn't.
-pub(crate) fn first_apart<'c>(
+// The names of the fewest requirements with which alone the one holds and the other one doesn't, by the minimal sets of the
+// one.
+pub(crate) fn fewest_apart<'c>(
     alloc: Global,
     one: &[ExprNode<'c>],
     other: &[ExprNode<'c>],
@@ -23,81 +24,64 @@ pub(crate) fn first_apart<'c>(
 ) -> Result<Option<Vec<String>>, AllocError>
     requires tree { IsPostfix (map node_of one.now) }
     requires other { IsPostfix (map node_of other.now) }
-    ensures { IfOk result (λ found. IfSome found (λ names.
-        TellApart (tree_in one.now) (tree_in other.now) (map string_bytes names.items))) }
+    requires minimal { AreMinimalSets (tree_in one.now) (sets_in sets.now) }
+    ensures { IfOk result (λ found.
+        IsAlone (tree_in one.now) (tree_in other.now) (told_names found)) }
 {
-    for set in sets {
-        let accepted = those_at(alloc, one, set.as_slice())?;
-        if are_told_apart(alloc, one, other, accepted.as_slice())? {
-            return Ok(Some(names_of(alloc, accepted.as_slice())?));
-        }
+    match first_unmet(alloc, one, other, sets)? {
+        Some(places) => Ok(Some(names_at(alloc, one, places)?)),
+        None => Ok(None),
     }
-    Ok(None)
 }
 
-// Whether the one holds and the other one doesn't where these requirements alone are accepted.
-fn are_told_apart<'c>(
+// The names of the requirements at places.
+fn names_at(
     alloc: Global,
-    one: &[ExprNode<'c>],
-    other: &[ExprNode<'c>],
-    accepted: &[LicenseReq<'c>],
-) -> Result<bool, AllocError>
-    requires tree { IsPostfix (map node_of one.now) }
-    requires other { IsPostfix (map node_of other.now) }
-    ensures one { IfOk result (λ are. are ≡ true →
-        holds (accepts accepted.now) (tree_in one.now) ≡ true) }
-    ensures other { IfOk result (λ are. are ≡ true →
-        holds (accepts accepted.now) (tree_in other.now) ≡ false) }
-{
-    Ok(holds_with(alloc, one, accepted)? && !holds_with(alloc, other, accepted)?)
-}
-
-fn holds_with<'c>(
-    alloc: Global,
-    nodes: &[ExprNode<'c>],
-    accepted: &[LicenseReq<'c>],
-) -> Result<bool, AllocError>
+    nodes: &[ExprNode<'_>],
+    places: &[usize],
+) -> Result<Vec<String>, AllocError>
     requires { IsPostfix (map node_of nodes.now) }
-    ensures { IfOk result (λ truth. truth ≡ holds (accepts accepted.now) (tree_in nodes.now)) }
+    ensures { IfOk result (λ names. map string_bytes names.items
+        ≡ flat_map (name_at (leaves (tree_in nodes.now))) places.now) }
 {
-    let mut policy = |req: &LicenseReq<'_>| is_among(accepted, req);
-    evaluate(alloc, nodes, &mut policy)
-}
-
-// Whether the requirement is one of these.
-fn is_among(accepted: &[LicenseReq<'_>], req: &LicenseReq<'_>) -> bool
-    ensures { result ≡ accepts accepted.now (requirement_of req.now) }
-{
-    accepted
-        .iter()
-        .any(|other| are_same_requirement(other, req))
-}
-
-// Those of an expression's requirements that have these numbers, from left to right.
-fn those_at<'c>(
-    alloc: Global,
-    nodes: &[ExprNode<'c>],
-    numbers: &[usize],
-) -> Result<Vec<LicenseReq<'c>>, AllocError> {
-    let mut those = Vec::new(alloc);
-    let mut number: usize = 0;
-    for node in nodes {
-        if let ExprNode::Req(requirement) = node {
-            if numbers.contains(&number) {
-                those.push(requirement.req.try_clone(alloc)?)?;
-            }
-            number = number.saturating_add(1);
-        }
-    }
-    Ok(those)
-}
-
-fn names_of(alloc: Global, accepted: &[LicenseReq<'_>]) -> Result<Vec<String>, AllocError>
-    ensures { IfOk result (λ names. map string_bytes names.items ≡ names_of accepted.now) }
-{
+    let requirements = copies_of(alloc, nodes)?;
     let mut names = Vec::new(alloc);
-    for requirement in accepted {
-        names.push(format!(in alloc; "{}", requirement)?)?;
+    for place in places {
+        push_name(alloc, &mut names, &requirements, *place)?;
     }
     Ok(names)
+}
+
+// Appends the name of the requirement at the place, where there is one.
+fn push_name(
+    alloc: Global,
+    names: &mut Vec<String>,
+    requirements: &[LicenseReq<'_>],
+    place: usize,
+) -> Result<(), AllocError>
+    ensures { OnOk result (map string_bytes names.new.items ≡ map string_bytes names.old.items
+        ++ name_at (map requirement_of requirements.now) place) }
+{
+    let Some(requirement) = requirements.get(place) else {
+        return Ok(());
+    };
+    let name = format!(in alloc; "{}", requirement)?;
+    names.push(name)?;
+    Ok(())
+}
+
+// Copies of the requirements, from left to right.
+fn copies_of<'c>(alloc: Global, nodes: &[ExprNode<'c>]) -> Result<Vec<LicenseReq<'c>>, AllocError>
+    requires { IsPostfix (map node_of nodes.now) }
+    ensures { IfOk result (λ copies.
+        map requirement_of copies.items ≡ leaves (tree_in nodes.now)) }
+{
+    let mut copies = Vec::new(alloc);
+    for node in nodes {
+        if let ExprNode::Req(requirement) = node {
+            let copy = requirement.req.try_clone(alloc)?;
+            copies.push(copy)?;
+        }
+    }
+    Ok(copies)
 }

@@ -12,8 +12,8 @@
 mod apart;
 pub mod comparison;
 mod meaning;
-mod reading;
+pub mod reading;
 
-pub use crate::comparison::{Comparison, compare_nodes, compare_texts};
+pub use crate::comparison::{Comparison, compare_nodes, compare_sets, compare_texts};
 pub use crate::meaning::meaning_of;
-pub use crate::reading::Unmeant;
+pub use crate::reading::{Unmeant, nodes_of};

@@ -22,7 +22,12 @@ pub enum Unmeant<'t> {
     TooMany(TooManySets),
 }
 
-pub(crate) fn nodes_of<'c, 't>(
+/// The nodes of the expression that a text is.
+///
+/// # Errors
+///
+/// It is none, or memory was refused.
+pub fn nodes_of<'c, 't>(
     alloc: Global,
     catalogue: &'c Catalogue,
     mode: ParseMode,

@@ -1,8 +1,8 @@
 -- What the least sets of a tree say of what is accepted.
-use Rattle.std.proofs.Common.{◌≡◌, ℕ, suc, ◌+◌, Bool, true, false, ◌&&◌, ◌||◌, cond, nat_lt, List, [], ◌∷◌, ◌++◌, length, take, drop, map, Result, Ok, Err, refl, sym, ◌∙◌, ap, subst, arith}
-use Rattle.std.specs.Prelude.{not, ◌==◌}
+use Rattle.std.proofs.Common.{◌≡◌, ℕ, suc, ◌+◌, Bool, true, false, ◌&&◌, ◌||◌, cond, nat_lt, List, [], ◌∷◌, ◌++◌, Option, None, Some, length, take, drop, map, Result, Ok, Err, refl, sym, ◌∙◌, ap, subst, arith}
+use Rattle.std.specs.Prelude.{not, ◌==◌, is_none, is_some, option_map}
 use Rattle.std.proofs.lemmas.Bool.{eq-eqb}
-use Rattle.std.specs.List.{list_any, list_all}
+use Rattle.std.specs.List.{list_any, list_all, find}
 use Rattle.std.proofs.lemmas.List.{map-append, length-map, take-append-le, drop-append-le, take_all, drop_all}
 use Rattle.spdx_requirement.specs.Items.{Requirement}
 use Rattle.spdx_requirement.specs.Equality.{same_requirement}
@@ -18,6 +18,7 @@ use Rattle.least_sets.proofs.Means.{same_truth, some_passes, in_passes, either_m
 use Rattle.least_sets.proofs.Apart.{Among, all_from, none_passes, either_apart, both_apart}
 use Rattle.spdx_meaning.specs.Places.{place_in, answer_at}
 use Rattle.spdx_meaning.specs.Meaning.{IsAcceptance, AsksAtLeast, IsEquivalent}
+use Rattle.spdx_meaning.specs.Minimal.{is_unmet}
 use Rattle.spdx_meaning.specs.Made.{count_made, join_sets, made_of, made_beside, made_from, made_by, made_in}
 
 -- ---- the truth of a tree by its parts
@@ -122,7 +123,7 @@ made_apart f (Join o l r) sets e =
 same_itself : (r : Requirement) → same_requirement r r ≡ true
 same_itself r = (requirements_decide r r).1 refl
 
-same_with : (q r s : Requirement) → same_requirement r s ≡ true → same_requirement q r ≡ same_requirement q s
+pub same_with : (q r s : Requirement) → same_requirement r s ≡ true → same_requirement q r ≡ same_requirement q s
 same_with q r s e =
     let keys = (requirements_decide r s).0 e in
     same_truth (same_requirement q r) (same_requirement q s)
@@ -155,7 +156,7 @@ accepted_there h ok (q ∷ qs) r e = cases (same_requirement q r) refl (accepted
     cases true k more at = sym (ok q r k) ∙ at
     cases false k more at = more (sym (later q qs h (place_in qs r)) ∙ at)
 
-among_found : (qs : List Requirement) (r : Requirement) → Among qs r → list_any (λ q. same_requirement q r) qs ≡ true
+pub among_found : (qs : List Requirement) (r : Requirement) → Among qs r → list_any (λ q. same_requirement q r) qs ≡ true
 among_found qs r there = cases (list_any (λ q. same_requirement q r) qs) refl
   where
     cases : (b : Bool) → list_any (λ q. same_requirement q r) qs ≡ b → b ≡ true
@@ -191,7 +192,7 @@ includes_itself s = all_from (is_in s) s (λ k there. found k there (is_in s k) 
         missing : (k : ℕ) → not (k == k) ≡ true → ⊥
         missing k e = let bad : false ≡ true = sym (ap not (eq-eqb k k refl)) ∙ e in cc
 
-met_itself : (sets : List (List ℕ)) (s : List ℕ) → Among sets s → met_by (is_in s) sets ≡ true
+pub met_itself : (sets : List (List ℕ)) (s : List ℕ) → Among sets s → met_by (is_in s) sets ≡ true
 met_itself sets s there = cases (met_by (is_in s) sets) refl
   where
     cases : (b : Bool) → met_by (is_in s) sets ≡ b → b ≡ true
@@ -219,15 +220,35 @@ module _ (t u : Tree) (sets : List (List ℕ)) (e : made_in t ≡ Ok sets) where
       holds_grows (λ r. is_in one.0 (place_in qs r)) h (λ r k. accepted_there h ok qs r (in_passes (answer_at qs h) one.0 (place_in qs r) one.1 k)) u (one.3 MakesHold all)
 
 -- the test of a set, over the places of the other tree's requirements
-pub tests_are : (f : Requirement → ℕ) (u : Tree) (sets : List (List ℕ)) → list_all (λ s. truth_of u (map (is_in s) (map f (leaves u)))) sets ≡ list_all (λ s. holds (λ r. is_in s (f r)) u) sets
-tests_are f u [] = refl
-tests_are f u (s ∷ ss) =
-    let one : truth_of u (map (is_in s) (map f (leaves u))) ≡ holds (λ r. is_in s (f r)) u = ap (truth_of u) (each (leaves u)) in
-    ap (λ (b : Bool). b && list_all (λ s. truth_of u (map (is_in s) (map f (leaves u)))) ss) one ∙ ap (λ (b : Bool). holds (λ r. is_in s (f r)) u && b) (tests_are f u ss)
+test_is : (f : Requirement → ℕ) (u : Tree) (s : List ℕ) → truth_of u (map (is_in s) (map f (leaves u))) ≡ holds (λ r. is_in s (f r)) u
+test_is f u s = ap (truth_of u) (each (leaves u))
   where
     each : (rs : List Requirement) → map (is_in s) (map f rs) ≡ map (λ r. is_in s (f r)) rs
     each [] = refl
     each (r ∷ rs) = ap (λ (z : List Bool). is_in s (f r) ∷ z) (each rs)
+
+pub tests_are : (t u : Tree) (sets : List (List ℕ)) → find (λ s. not (truth_of u (map (is_in s) (map (place_in (leaves t)) (leaves u))))) sets ≡ find (is_unmet t u) sets
+tests_are t u [] = refl
+tests_are t u (s ∷ ss) =
+    let f = place_in (leaves t) in
+    ap (λ (b : Bool). cond (not b) (Some s) (find (λ s. not (truth_of u (map (is_in s) (map f (leaves u))))) ss)) (test_is f u s)
+    ∙ ap (λ (found : Option (List ℕ)). cond (is_unmet t u s) (Some s) found) (tests_are t u ss)
+
+-- where no set fails a test, each passes
+pub none_found : (q : List ℕ → Bool) (ss : List (List ℕ)) → is_none (find (λ s. not (q s)) ss) ≡ list_all q ss
+none_found q [] = refl
+none_found q (s ∷ ss) = step (q s) (none_found q ss)
+  where
+    step : (b : Bool) → is_none (find (λ s. not (q s)) ss) ≡ list_all q ss → is_none (cond (not b) (Some s) (find (λ s. not (q s)) ss)) ≡ (b && list_all q ss)
+    step true h = h
+    step false h = refl
+
+-- what `is_none` answers of what is told as something else
+pub none_told : {A B : Type 0} (f : A → B) (found : Option A) (b : Bool) → is_some found ≡ not b → b ≡ is_none (option_map f found)
+none_told f None true e = refl
+none_told f None false e = let bad : false ≡ true = e in cc
+none_told f (Some x) true e = let bad : true ≡ false = e in cc
+none_told f (Some x) false e = refl
 
 -- equivalent exactly if both ask
 pub both_ask : (t u : Tree) → AsksAtLeast t u → AsksAtLeast u t → IsEquivalent t u

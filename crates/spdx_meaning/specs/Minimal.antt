@@ -1,6 +1,6 @@
 -- What the minimal sets of a tree are. A requirement is the place where it first stands among the
 -- tree's requirements.
-use Rattle.std.specs.Prelude.{◌≡◌, ℕ, Bool, true, List, All}
+use Rattle.std.specs.Prelude.{◌≡◌, ℕ, Bool, true, not, List, All}
 use Rattle.std.specs.List.{list_all, AllByRecursion}
 use Rattle.std.specs.List.Sorted.{IsStrictlyIncreasing}
 use Rattle.spdx_requirement.specs.Items.{Requirement}
@@ -14,6 +14,10 @@ use Rattle.spdx_meaning.specs.Meaning.{IsAcceptance}
 -- whether the tree holds where the requirements of some places are accepted
 abbrev pub holds_at : (ℕ → Bool) → Tree → Bool
 holds_at p t = holds (λ r. p (place_in (leaves t) r)) t
+
+-- whether another tree doesn't hold where just the requirements of these places are accepted
+abbrev pub is_unmet : Tree → Tree → List ℕ → Bool
+is_unmet t u s = not (holds (λ r. is_in s (place_in (leaves t) r)) u)
 
 -- where no other places are accepted, the tree holds only if all of the set are
 abbrev pub NeedsAll : Tree → List ℕ → Type 0

@@ -35,7 +35,8 @@ pub fn compare<'c>(
     Ok(relation_of(forth, back))
 }
 
-fn relation_of(forth: bool, back: bool) -> Relation
+/// How they compare, from whether the first asks at least what the second one asks, and the other way round.
+pub fn relation_of(forth: bool, back: bool) -> Relation
     ensures { result ≡ relation_of forth back }
 {
     if forth {

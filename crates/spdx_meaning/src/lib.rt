@@ -18,8 +18,8 @@ pub mod minimal;
 mod places;
 pub mod relation;
 
-pub use crate::asks::{asks_at_least, is_equivalent};
-pub use crate::comparison::compare;
+pub use crate::asks::{asks_at_least, first_unmet, is_equivalent};
+pub use crate::comparison::{compare, relation_of};
 pub use crate::error::TooManySets;
 pub use crate::minimal::minimal_sets;
 pub use crate::relation::Relation;
