@@ -3,4 +3,5 @@ pub mod Wanted
 pub mod Notices
 pub mod Once
 pub mod Stands
+pub mod Places
 pub mod Grouping

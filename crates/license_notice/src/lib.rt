@@ -8,7 +8,8 @@
 //! let notice = notice_of(alloc, packages)?;
 //! ```
 //!
-//! It stands on nothing but std.
+//! `packages_in` has the packages of the groups, each once, for a page's contents by package, and `places_in` in which of
+//! some lists, as those of the groups, each of them stands. It stands on nothing but std.
 #![tactic(auto)]
 
 ghost use Rattle.std.specs.Prelude.{◌≡◌, ◌↔◌, ℕ, ◌<◌, List, IfOk, All, Contains, length, map};
@@ -20,12 +21,14 @@ ghost use Rattle.license_notice.specs.Wanted.{chosen_rows, wanted_texts};
 mod groups;
 mod once;
 mod packages;
+mod places;
 mod stands;
 mod texts;
 
 use crate::groups::groups;
-pub use crate::once::each_once;
+pub use crate::once::{each_once, packages_in};
 pub use crate::packages::{Group, Notice, Package, Release, Requirement};
+pub use crate::places::{Place, Places, places_in};
 use crate::stands::stands;
 pub use crate::texts::text_names;
 use crate::texts::texts;
