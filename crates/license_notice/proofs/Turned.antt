@@ -10,12 +10,12 @@ use Rattle.license_notice.proofs.Standing.{In, in_from, in_to, in_left, in_right
 
 -- ---- members of what is made of a list
 
-map_in : {X Y : Type 0} (f : X → Y) (xs : List X) (x : X) → In xs x → In (map f xs) (f x)
+pub map_in : {X Y : Type 0} (f : X → Y) (xs : List X) (x : X) → In xs x → In (map f xs) (f x)
 map_in f [] x h = absurd h
 map_in f (z ∷ xs) x (inl e) = inl (ap f e)
 map_in f (z ∷ xs) x (inr h) = inr (map_in f xs x h)
 
-map_out : {X Y : Type 0} (f : X → Y) (xs : List X) (y : Y) → In (map f xs) y → (x : X) × (In xs x × (f x ≡ y))
+pub map_out : {X Y : Type 0} (f : X → Y) (xs : List X) (y : Y) → In (map f xs) y → (x : X) × (In xs x × (f x ≡ y))
 map_out f [] y h = absurd h
 map_out f (z ∷ xs) y (inl e) = (z, (inl refl, e))
 map_out f (z ∷ xs) y (inr h) = let found = map_out f xs y h in (found.0, (inr found.1.0, found.1.1))
@@ -33,7 +33,7 @@ flat_out f (z ∷ xs) y h = by (flat_out f xs y) (in_either (f z) (flat_map f xs
     by more (inl k) = (z, (inl refl, k))
     by more (inr k) = let found = more k in (found.0, (inr found.1.0, found.1.1))
 
-filter_in : {X : Type 0} (p : X → Bool) (xs : List X) (x : X) → In xs x → p x ≡ true → In (filter p xs) x
+pub filter_in : {X : Type 0} (p : X → Bool) (xs : List X) (x : X) → In xs x → p x ≡ true → In (filter p xs) x
 filter_in p [] x h k = absurd h
 filter_in p (z ∷ xs) x (inl e) k = let here : p z ≡ true = ap p e ∙ k in rw here (inl e)
 filter_in p (z ∷ xs) x (inr h) k = by (filter_in p xs x h k) (p z) refl
@@ -42,7 +42,7 @@ filter_in p (z ∷ xs) x (inr h) k = by (filter_in p xs x h k) (p z) refl
     by more true e = rw e (inr more)
     by more false e = rw e more
 
-filter_out : {X : Type 0} (p : X → Bool) (xs : List X) (x : X) → In (filter p xs) x → In xs x × (p x ≡ true)
+pub filter_out : {X : Type 0} (p : X → Bool) (xs : List X) (x : X) → In (filter p xs) x → In xs x × (p x ≡ true)
 filter_out p [] x h = absurd h
 filter_out p (z ∷ xs) x h = by (filter_out p xs x) (p z) refl
   where

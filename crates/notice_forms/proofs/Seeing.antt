@@ -5,13 +5,14 @@ use Rattle.std.specs.Prelude.{not}
 use Rattle.std.specs.Fmt.{decimal, digits, digits_onto, digit_glyph}
 use Rattle.html_text.specs.Text.{HasNoMarkup, is_mark, page_char, page_text, read_from, shown_char, shown_text}
 use Rattle.html_text.proofs.Laws.{IsPlain, ArePlain, no_markup, plain_no_markup, plain_read, char_read}
+use Rattle.license_notice.specs.Places.{holds, bands_with}
 use Rattle.license_notice.specs.Rows.{Line, Band}
 use Rattle.notice_forms.specs.declared.style.TheConstants.{HTML_HEAD, HTML_STYLE}
 use Rattle.notice_forms.specs.Told.{Named, Told, package_count}
 use Rattle.notice_forms.specs.Numbered.{numbered}
-use Rattle.notice_forms.specs.Markup.{html_line, html_entry, html_text_entry, html_band, html_holders, html_text}
-use Rattle.notice_forms.specs.Html.{html_front, html_contents}
-use Rattle.notice_forms.specs.Seen.{untagged, said_line, said_entry, said_text_entry, said_band, said_holders, said_text, said_contents, said_page, html_body, IsShown}
+use Rattle.notice_forms.specs.Markup.{html_line, html_entry, html_text_entry, html_band, html_version, html_link, html_link_of, html_package, html_holders, html_text}
+use Rattle.notice_forms.specs.Html.{html_front, html_text_list, html_text_contents, html_contents, html_text_part, html_texts}
+use Rattle.notice_forms.specs.Seen.{untagged, said_line, said_entry, said_text_entry, said_band, said_version, said_link, said_package, said_holders, said_text, said_text_contents, said_contents, said_texts, said_page, html_body, IsShown}
 
 -- ---- pieces
 
@@ -131,6 +132,18 @@ line : (l : Line) → Shows false (html_line l) false (said_line l)
 unfolding html_line
 line l = then item (then (text l.name) (then version (then (text l.version) item_end)))
 
+version_end : Shows false (codes "</span>") false []
+version_end = record { go = λ rest out e. e }
+
+comma_link : Shows false (codes ", <a href=\"#l") true (codes ", ")
+comma_link = record { go = λ rest out e. rw e refl }
+
+anchor_end : Shows false (codes "</a>") false []
+anchor_end = record { go = λ rest out e. e }
+
+plain_end : Shows false (codes "</li>\n") false (10 ∷ [])
+plain_end = record { go = λ rest out e. rw e refl }
+
 link : Shows false (codes "<li><a href=\"#l") true []
 link = record { go = λ rest out e. e }
 
@@ -142,6 +155,38 @@ tag_end = record { go = λ rest out e. e }
 
 link_end : Shows false (codes "</a> <span>") false (32 ∷ [])
 link_end = record { go = λ rest out e. rw e refl }
+
+version_of : (v : List ℕ) → Shows false (html_version v) false (said_version v)
+unfolding html_version
+version_of [] = nothing
+version_of (b ∷ bs) =
+    subst (λ (t : List ℕ). Shows false (html_version (b ∷ bs)) false (32 ∷ t)) (append-nil (shown_text (b ∷ bs))) (then version (then (text (b ∷ bs)) version_end))
+
+requirement_link : (n : ℕ) (x : List ℕ) → Shows false (html_link n x) false (codes ", " ++ shown_text x)
+unfolding html_link
+requirement_link n x =
+    subst (λ (t : List ℕ). Shows false (html_link n x) false (codes ", " ++ t)) (append-nil (shown_text x)) (then comma_link (then (number n) (then tag_end (then (text x) anchor_end))))
+
+link_where : (c : Bool) (n : ℕ) (b : Band) → Shows false (cond c (html_link n b.requirement) []) false (cond c (said_link b) [])
+link_where true n b = requirement_link n b.requirement
+link_where false n b = nothing
+
+links : (l : Line) (n : ℕ) (bands : List Band) → Shows false (numbered (html_link_of l) n bands) false (flat_map (λ (b : Band). cond (holds b.lines l) (said_link b) []) bands)
+links l n bands = many_numbered (html_link_of l) (λ (b : Band). cond (holds b.lines l) (said_link b) []) (λ k b. link_where (holds b.lines l) k b) n bands
+
+only : (l : Line) (bands : List Band) → flat_map (λ (b : Band). cond (holds b.lines l) (said_link b) []) bands ≡ flat_map said_link (bands_with bands l)
+only l [] = refl
+only l (b ∷ bands) = by (holds b.lines l) refl (only l bands)
+  where
+    by : (c : Bool) → holds b.lines l ≡ c → flat_map (λ (b : Band). cond (holds b.lines l) (said_link b) []) bands ≡ flat_map said_link (bands_with bands l) →
+        flat_map (λ (b : Band). cond (holds b.lines l) (said_link b) []) (b ∷ bands) ≡ flat_map said_link (bands_with (b ∷ bands) l)
+    by true e more = rw e (ap (λ (xs : List ℕ). said_link b ++ xs) more)
+    by false e more = rw e more
+
+by_package : (bands : List Band) (l : Line) → Shows false (html_package bands l) false (said_package bands l)
+unfolding html_package
+by_package bands l =
+    then item (then (text l.name) (then (version_of l.version) (then (subst (λ (t : List ℕ). Shows false (numbered (html_link_of l) 0 bands) false t) (only l bands) (links l 0 bands)) plain_end)))
 
 text_link_end : Shows false (codes "</a></li>\n") false (10 ∷ [])
 text_link_end = record { go = λ rest out e. rw e refl }
@@ -205,16 +250,26 @@ text_below n t = then summary (then (text t.name) (then summary_end (then (holde
 licences : Shows false (codes "<nav>\n<h2>Licences</h2>\n<ol>\n") false (codes "\nLicences\n\n")
 licences = record { go = λ rest out e. rw e refl }
 
-texts : Shows false (codes "</ol>\n<h2>Licence texts</h2>\n<ol>\n") false (codes "\nLicence texts\n\n")
-texts = record { go = λ rest out e. rw e refl }
+to_packages : Shows false (codes "</ol>\n<h2><a href=\"#packages\">Packages</a></h2>\n") false (codes "\nPackages\n")
+to_packages = record { go = λ rest out e. rw e refl }
 
-contents_end : Shows false (codes "</ol>\n</nav>\n") false (codes "\n\n")
+texts_begin : Shows false (codes "<h2>Licence texts</h2>\n<ol>\n") false (codes "Licence texts\n\n")
+texts_begin = record { go = λ rest out e. rw e refl }
+
+texts_end : Shows false (codes "</ol>\n") false (10 ∷ [])
+texts_end = record { go = λ rest out e. rw e refl }
+
+contents_end : Shows false (codes "</nav>\n") false (10 ∷ [])
 contents_end = record { go = λ rest out e. rw e refl }
+
+text_contents : (ts : List Named) → Shows false (html_text_contents ts) false (said_text_contents ts)
+unfolding html_text_list
+text_contents [] = nothing
+text_contents (t ∷ ts) = then texts_begin (then (many_numbered html_text_entry said_text_entry text_entry 0 (t ∷ ts)) texts_end)
 
 contents : (p : Told) → Shows false (html_contents p.bands p.texts) false (said_contents p)
 unfolding html_contents
-contents p =
-    then licences (then (many_numbered html_entry said_entry entry 0 p.bands) (then texts (then (many_numbered html_text_entry said_text_entry text_entry 0 p.texts) contents_end)))
+contents p = then licences (then (many_numbered html_entry said_entry entry 0 p.bands) (then to_packages (then (text_contents p.texts) contents_end)))
 
 title_end : Shows false (codes "</h1>\n") false (10 ∷ [])
 title_end = record { go = λ rest out e. rw e refl }
@@ -222,8 +277,19 @@ title_end = record { go = λ rest out e. rw e refl }
 packages : Shows false (codes "<main>\n<h2>Packages by licence</h2>\n") false (codes "\nPackages by licence\n")
 packages = record { go = λ rest out e. rw e refl }
 
-texts_below : Shows false (codes "<h2>Licence texts</h2>\n") false (codes "Licence texts\n")
-texts_below = record { go = λ rest out e. rw e refl }
+all_packages : Shows false (codes "<h2 id=\"packages\">Packages</h2>\n<ul>\n") false (codes "Packages\n\n")
+all_packages = record { go = λ rest out e. rw e refl }
+
+packages_end : Shows false (codes "</ul>\n") false (10 ∷ [])
+packages_end = record { go = λ rest out e. rw e refl }
+
+texts_heading : Shows false (codes "<h2>Licence texts</h2>\n") false (codes "Licence texts\n")
+texts_heading = record { go = λ rest out e. rw e refl }
+
+texts_part : (ts : List Named) → Shows false (html_texts ts) false (said_texts ts)
+unfolding html_text_part
+texts_part [] = nothing
+texts_part (t ∷ ts) = then texts_heading (many_numbered html_text said_text text_below 0 (t ∷ ts))
 
 page_end : Shows false (codes "</main>\n</body>\n</html>\n") false (codes "\n\n\n")
 page_end = record { go = λ rest out e. rw e refl }
@@ -231,7 +297,7 @@ page_end = record { go = λ rest out e. rw e refl }
 body : (p : Told) → Shows false (html_body p) false (said_page p)
 body p =
     then (text p.title) (then title_end (then (contents p) (then packages (then (many_numbered html_band said_band band 0 p.bands)
-    (then texts_below (then (many_numbered html_text said_text text_below 0 p.texts) page_end))))))
+    (then all_packages (then (many (html_package p.bands) (said_package p.bands) (by_package p.bands) p.packages) (then packages_end (then (texts_part p.texts) page_end))))))))
 
 regroup : (h t s c r : List ℕ) → (h ++ (t ++ (s ++ (t ++ c)))) ++ r ≡ (h ++ (t ++ s)) ++ (t ++ (c ++ r))
 regroup h t s c r = simp append_assoc

@@ -1,8 +1,12 @@
 pub mod Told
+pub mod Refusals
 pub mod Plain
 pub mod Numbered
 pub mod Markup
 pub mod Html
+pub mod Found
+pub mod Json
+pub mod Hashed
 pub mod Markdown
 pub mod Pages
 pub mod Seen

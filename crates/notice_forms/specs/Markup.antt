@@ -1,7 +1,9 @@
 -- What the page of HTML has of each package, requirement and text.
-use Rattle.std.specs.Prelude.{ℕ, List, [], ◌∷◌, ◌++◌, length, flat_map, codes, decimal}
+use Rattle.std.specs.Prelude.{ℕ, List, [], ◌∷◌, ◌++◌, length, flat_map, codes, decimal, if◌then◌else◌}
 use Rattle.html_text.specs.Text.{page_text}
+use Rattle.license_notice.specs.Places.{holds}
 use Rattle.license_notice.specs.Rows.{Line, Band}
+use Rattle.notice_forms.specs.Numbered.{numbered}
 use Rattle.notice_forms.specs.Told.{Named, package_count}
 
 unfoldable pub html_line : Line → List ℕ
@@ -30,6 +32,27 @@ html_band n b =
     (decimal n ++ (codes "\">\n<h3>" ++
     (page_text b.requirement ++
     (codes "</h3>\n<ul>\n" ++ (flat_map html_line b.lines ++ codes "</ul>\n</section>\n")))))
+
+-- a version behind a blank, where there is one
+unfoldable pub html_version : List ℕ → List ℕ
+html_version [] = []
+html_version (b ∷ bs) = codes " <span>" ++ (page_text (b ∷ bs) ++ codes "</span>")
+
+-- a link to the packages of a requirement
+unfoldable pub html_link : ℕ → List ℕ → List ℕ
+html_link n requirement =
+    codes ", <a href=\"#l" ++
+    (decimal n ++ (codes "\">" ++ (page_text requirement ++ codes "</a>")))
+
+-- where the package stands under the requirement
+abbrev pub html_link_of : Line → ℕ → Band → List ℕ
+html_link_of l n b = if holds b.lines l then html_link n b.requirement else []
+
+-- a package in the contents by package, with a link to each requirement that it stands under
+unfoldable pub html_package : List Band → Line → List ℕ
+html_package bands l =
+    codes "<li>" ++ (page_text l.name ++
+    (html_version l.version ++ (numbered (html_link_of l) 0 bands ++ codes "</li>\n")))
 
 -- the packages that have a text, where there are any
 unfoldable pub html_holders : List Line → List ℕ

@@ -16,6 +16,7 @@ pub record Named : Type 0 where
 pub record Told : Type 0 where
   pub title : List ℕ
   pub bands : List Band
+  pub packages : List PackageLine
   pub texts : List Named
 
 abbrev pub named : LicenseText → Named
@@ -27,8 +28,12 @@ abbrev pub with_bytes : LicenseText → List ℕ → Named
 with_bytes t bytes = record (named t) { bytes = bytes }
 
 abbrev pub told : Page → Told
-told p =
-    record { title = p.title.now; bands = bands_of p.groups.now; texts = map named p.texts.now }
+told p = record {
+  title = p.title.now;
+  bands = bands_of p.groups.now;
+  packages = map line_of p.packages.now;
+  texts = map named p.texts.now;
+}
 
 -- a name in a line, which it can't end
 abbrev pub line_text : List ℕ → List ℕ

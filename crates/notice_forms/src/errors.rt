@@ -9,7 +9,7 @@ use std::alloc::AllocError;
 pub enum PageError<'t> {
     /// Memory was refused.
     Memory,
-    /// The text of this name is no UTF-8, which a page of HTML is.
+    /// The text of this name is no UTF-8, which pages of HTML and of JSON are.
     NotUtf8(&'t str),
 }
 

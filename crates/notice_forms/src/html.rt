@@ -5,8 +5,10 @@ ghost use Rattle.license_notice.specs.Notices.{line_of, band_of, bands_of};
 ghost use Rattle.notice_forms.specs.Told.{named, with_bytes, told};
 ghost use Rattle.notice_forms.specs.Numbered.{numbered};
 ghost use Rattle.notice_forms.specs.Markup.{html_line, html_entry, html_text_entry, html_band, html_holders, html_text};
-ghost use Rattle.notice_forms.specs.Html.{html_front, html_contents, html_page, IsHtmlRefusal};
+ghost use Rattle.notice_forms.specs.Html.{html_front, html_text_list, html_text_contents, html_contents, html_text_part, html_texts, html_page};
+ghost use Rattle.notice_forms.specs.Refusals.{IsTextRefusal};
 
+use crate::by_package::put_packages;
 use crate::errors::PageError;
 use crate::lines::put_package_count;
 use crate::pages::{LicenseText, Page};
@@ -22,13 +24,15 @@ pub(crate) fn put_html<'t>(
     shown: &Page<'_, 't>,
 ) -> Result<(), PageError<'t>>
     ensures ok { OnOk result (page.new.items ≡ page.old.items ++ html_page (told shown.now)) }
-    ensures err { IfErr result (IsHtmlRefusal (map named shown.now.texts.now)) }
+    ensures err { IfErr result (IsTextRefusal (map named shown.now.texts.now)) }
 {
     put_front(page, shown.title)?;
     put_contents(alloc, page, shown)?;
     page.extend_from_slice(b"<main>\n<h2>Packages by licence</h2>\n")?;
     put_bands(alloc, page, shown.groups)?;
-    page.extend_from_slice(b"<h2>Licence texts</h2>\n")?;
+    page.extend_from_slice(b"<h2 id=\"packages\">Packages</h2>\n<ul>\n")?;
+    put_packages(alloc, page, shown.groups, shown.packages)?;
+    page.extend_from_slice(b"</ul>\n")?;
     put_texts(alloc, page, shown.texts)?;
     page.extend_from_slice(b"</main>\n</body>\n</html>\n")?;
     Ok(())
@@ -52,13 +56,44 @@ fn put_contents(alloc: Global, page: &mut Vec<u8>, shown: &Page<'_, '_>) -> Resu
 {
     page.extend_from_slice(b"<nav>\n<h2>Licences</h2>\n<ol>\n")?;
     put_entries(alloc, page, shown.groups)?;
-    page.extend_from_slice(b"</ol>\n<h2>Licence texts</h2>\n<ol>\n")?;
-    put_text_entries(alloc, page, shown.texts)?;
-    page.extend_from_slice(b"</ol>\n</nav>\n")?;
+    page.extend_from_slice(b"</ol>\n<h2><a href=\"#packages\">Packages</a></h2>\n")?;
+    put_text_contents(alloc, page, shown.texts)?;
+    page.extend_from_slice(b"</nav>\n")?;
     Ok(())
 }
 
-fn put_number(alloc: Global, page: &mut Vec<u8>, number: usize) -> Result<(), AllocError>
+// The texts in the table of contents, where there are any.
+fn put_text_contents(
+    alloc: Global,
+    page: &mut Vec<u8>,
+    texts: &[LicenseText<'_, '_>],
+) -> Result<(), AllocError>
+    ensures { OnOk result (page.new.items
+        ≡ page.old.items ++ html_text_contents (map named texts.now)) }
+{
+    match texts {
+        [] => Ok(()),
+        [_, ..] => put_text_list(alloc, page, texts),
+    }
+}
+
+#[tactic(auto, unfolding(crate::specs::Html::html_text_list))]
+fn put_text_list(
+    alloc: Global,
+    page: &mut Vec<u8>,
+    texts: &[LicenseText<'_, '_>],
+) -> Result<(), AllocError>
+    ensures { OnOk result (page.new.items
+        ≡ page.old.items ++ html_text_list (map named texts.now)) }
+{
+    page.extend_from_slice(b"<h2>Licence texts</h2>\n<ol>\n")?;
+    put_text_entries(alloc, page, texts)?;
+    page.extend_from_slice(b"</ol>\n")?;
+    Ok(())
+}
+
+/// Appends a number.
+pub(crate) fn put_number(alloc: Global, page: &mut Vec<u8>, number: usize) -> Result<(), AllocError>
     ensures { OnOk result (page.new.items ≡ page.old.items ++ decimal number) }
 {
     let digits = format!(in alloc; "{number}")?;
@@ -179,14 +214,44 @@ fn put_line(page: &mut Vec<u8>, release: &Release<'_>) -> Result<(), AllocError>
     Ok(())
 }
 
+// The texts, where there are any.
 fn put_texts<'t>(
+    alloc: Global,
+    page: &mut Vec<u8>,
+    texts: &[LicenseText<'_, 't>],
+) -> Result<(), PageError<'t>>
+    ensures ok { OnOk result (page.new.items ≡ page.old.items ++ html_texts (map named texts.now)) }
+    ensures err { IfErr result (IsTextRefusal (map named texts.now)) }
+{
+    match texts {
+        [] => Ok(()),
+        [_, ..] => put_text_part(alloc, page, texts),
+    }
+}
+
+#[tactic(auto, unfolding(crate::specs::Html::html_text_part))]
+fn put_text_part<'t>(
+    alloc: Global,
+    page: &mut Vec<u8>,
+    texts: &[LicenseText<'_, 't>],
+) -> Result<(), PageError<'t>>
+    ensures ok { OnOk result (page.new.items
+        ≡ page.old.items ++ html_text_part (map named texts.now)) }
+    ensures err { IfErr result (IsTextRefusal (map named texts.now)) }
+{
+    page.extend_from_slice(b"<h2>Licence texts</h2>\n")?;
+    put_each_text(alloc, page, texts)?;
+    Ok(())
+}
+
+fn put_each_text<'t>(
     alloc: Global,
     page: &mut Vec<u8>,
     texts: &[LicenseText<'_, 't>],
 ) -> Result<(), PageError<'t>>
     ensures ok { OnOk result (page.new.items
         ≡ page.old.items ++ numbered html_text 0 (map named texts.now)) }
-    ensures err { IfErr result (IsHtmlRefusal (map named texts.now)) }
+    ensures err { IfErr result (IsTextRefusal (map named texts.now)) }
 {
     for (number, text) in texts.iter().enumerate() {
         let Ok(words) = str::from_utf8(text.bytes) else {

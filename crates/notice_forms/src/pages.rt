@@ -11,12 +11,15 @@ pub struct LicenseText<'r, 't> {
     pub bytes: &'t [u8],
 }
 
-/// A page: its title, each requirement with its packages, and the texts, in the order in which they are shown. Any names
-/// do: what they hold is shown as text.
+/// A page: its title, each requirement with its packages, the packages, and the texts, in the order in which they are shown.
+/// Any names do: what they hold is shown as text.
 #[derive(Clone, Copy, Debug)]
 pub struct Page<'r, 't> {
     pub title: &'t str,
     pub groups: &'r [Group<'t>],
+    /// Those of the contents by package, which only pages of HTML and of JSON have: as `license_notice::packages_in` gives
+    /// them.
+    pub packages: &'r [Release<'t>],
     pub texts: &'r [LicenseText<'r, 't>],
 }
 
@@ -27,4 +30,6 @@ pub enum Form {
     Markdown,
     /// One file, which loads nothing and runs no script.
     Html,
+    /// One document, with the members `packages` and `texts`.
+    Json,
 }

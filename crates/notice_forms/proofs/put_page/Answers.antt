@@ -1,6 +1,7 @@
 use Rattle.notice_forms.specs.Told.{told}
 use Rattle.notice_forms.proofs.Fenced.{stays_fenced}
 use Rattle.notice_forms.proofs.Heads.{begins_plainly}
+use Rattle.notice_forms.proofs.Naming.{names_its_texts}
 use Rattle.notice_forms.proofs.Seeing.{is_shown}
 use Rattle.notice_forms.proofs.put_page.Goals as goal
 
@@ -30,3 +31,12 @@ returns-in_err-extend_from_slice-clause-head c = begins_plainly (told c.args.sho
 
 pub returns-clause-head : goal.returns-clause-head
 returns-clause-head c = begins_plainly (told c.args.shown.now)
+
+pub returns-in_err-whole-clause-names : goal.returns-in_err-whole-clause-names
+returns-in_err-whole-clause-names c = names_its_texts (told c.args.shown.now)
+
+pub returns-in_err-extend_from_slice-clause-names : goal.returns-in_err-extend_from_slice-clause-names
+returns-in_err-extend_from_slice-clause-names c = names_its_texts (told c.args.shown.now)
+
+pub returns-clause-names : goal.returns-clause-names
+returns-clause-names c = names_its_texts (told c.args.shown.now)

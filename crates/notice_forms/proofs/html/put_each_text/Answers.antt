@@ -3,7 +3,7 @@ use Rattle.std.proofs.lemmas.List.{length-map, get_or-map}
 use Rattle.notice_forms.specs.Told.{Named, named, with_bytes}
 use Rattle.notice_forms.specs.Markup.{html_text}
 use Rattle.notice_forms.proofs.Numbering.{no_text, text_pushed}
-use Rattle.notice_forms.proofs.html.put_texts.Goals as goal
+use Rattle.notice_forms.proofs.html.put_each_text.Goals as goal
 
 pub returns-in_default-clause-err : goal.returns-in_default-clause-err
 returns-in_default-clause-err c =

@@ -1,0 +1,12 @@
+use Rattle.notice_forms.proofs.Pieces.{begun, written, ended}
+use Rattle.notice_forms.specs.Markup.{html_link}
+use Rattle.notice_forms.proofs.by_package.put_link.Goals as goal
+
+pub returns : goal.returns
+unfolding html_link
+returns c =
+    let w1 = written (begun c.args.page.now.items) _ _ c.in_ok-extend_from_slice.ensures.items in
+    let w2 = written w1 _ _ c.in_ok-put_number.ensures in
+    let w3 = written w2 _ _ c.in_ok-extend_from_slice-2.ensures.items in
+    let w4 = written w3 _ _ c.in_ok-put_text.ensures.ok in
+    ended w4 _ _ c.in_ok-extend_from_slice-3.ensures.items
