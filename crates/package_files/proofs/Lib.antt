@@ -1,4 +1,3 @@
 pub mod Causes
-pub mod Slashes
 pub mod Parts
 pub mod Each

@@ -6,3 +6,4 @@ pub mod Items
 pub mod Packages
 pub mod Nested
 pub mod Faults
+pub mod Paths

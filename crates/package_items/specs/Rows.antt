@@ -1,5 +1,5 @@
 -- Packages, items and faults, as texts and numbers.
-use Rattle.std.specs.Prelude.{ℕ, Bool, List, Option, option_map, string_bytes}
+use Rattle.std.specs.Prelude.{ℕ, Bool, List, map, Option, option_map, string_bytes}
 use Rattle.serde_json.specs.Data.{Data}
 use Rattle.serde_json.specs.View.{view}
 use Rattle.package_items.specs.declared.package.License.{License}
@@ -29,7 +29,8 @@ pub record PackageRow : Type 0 where
   pub name : List ℕ
   pub version : Option (List ℕ)
   pub license : LicenseRow
-  pub license_file : Option (List ℕ)
+  pub folder : Option (List ℕ)
+  pub license_files : List (List ℕ)
   pub evidence : ℕ
   pub is_own : Bool
   pub spot : SpotRow
@@ -78,7 +79,8 @@ row_of p = record {
   name = string_bytes p.name;
   version = option_map string_bytes p.version;
   license = license_of p.license;
-  license_file = option_map string_bytes p.license_file;
+  folder = option_map string_bytes p.folder;
+  license_files = map string_bytes p.license_files.items;
   evidence = p.evidence;
   is_own = p.is_own;
   spot = spot_of p.spot;

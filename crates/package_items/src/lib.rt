@@ -12,6 +12,7 @@ pub mod json;
 pub mod member;
 pub mod nested;
 pub mod package;
+pub mod paths;
 pub mod texts;
 
 pub use crate::error::{Found, SourceError, SourceFault};
@@ -24,4 +25,5 @@ pub use crate::json::{found_of, value_of};
 pub use crate::member::{license_at, text_if_any, text_of, texts_of};
 pub use crate::nested::{Parts, all_with_parts, with_parts};
 pub use crate::package::{License, Package, Spot, said};
-pub use crate::texts::{copy_of, is_blank, is_unstated, license_in};
+pub use crate::paths::{file_in, file_within, folder_in};
+pub use crate::texts::{copy_of, in_list, is_blank, is_unstated, license_in};

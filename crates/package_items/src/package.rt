@@ -35,8 +35,10 @@ pub struct Package {
     pub name: String,
     pub version: Option<String>,
     pub license: License,
-    /// The file that the license is said to stand in, if one is named.
-    pub license_file: Option<String>,
+    /// The folder that the package lies in, if the file says it: as it stands there, and not looked at.
+    pub folder: Option<String>,
+    /// The files that the license is said to stand in, in their order.
+    pub license_files: Vec<String>,
     /// How many licenses are told as evidence: they were seen in its files, and are not said to hold.
     pub evidence: usize,
     /// Whether the package is of the project that the file is about, and not one that the project takes from others.
@@ -59,7 +61,8 @@ pub fn said(
         name: String::from_str(alloc, name)?,
         version: copy_of(alloc, version)?,
         license,
-        license_file: None,
+        folder: None,
+        license_files: Vec::new(alloc),
         evidence: 0,
         is_own: item.is_own,
         spot: Spot::Pointer(String::from_str(alloc, item.at.as_str())?),

@@ -1,7 +1,7 @@
 // What the text of a license says.
 
-ghost use Rattle.std.specs.Prelude.{◌≡◌, IfOk, option_map, string_bytes};
-ghost use Rattle.std.specs.Option.{option_copied};
+ghost use Rattle.std.specs.Prelude.{◌≡◌, IfOk, map, option_map, string_bytes};
+ghost use Rattle.std.specs.Option.{option_copied, option_to_list};
 ghost use Rattle.package_items.specs.Rows.{license_of};
 ghost use Rattle.package_items.specs.Texts as spec;
 
@@ -40,4 +40,16 @@ pub fn copy_of(alloc: Global, text: Option<&str>) -> Result<Option<String>, Allo
         Some(text) => Ok(Some(String::from_str(alloc, text)?)),
         None => Ok(None),
     }
+}
+
+/// A copy of the text in a list, which is empty if there is none.
+pub fn in_list(alloc: Global, text: Option<&str>) -> Result<Vec<String>, AllocError>
+    ensures { IfOk result (λ copies.
+        map string_bytes copies.items ≡ option_to_list (option_copied text.entry)) }
+{
+    let mut copies = Vec::new(alloc);
+    if let Some(text) = text {
+        copies.push(String::from_str(alloc, text)?)?;
+    }
+    Ok(copies)
 }

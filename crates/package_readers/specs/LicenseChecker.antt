@@ -1,6 +1,7 @@
 -- What `license-checker --json` writes.
-use Rattle.std.specs.Prelude.{ℕ, ◌==◌, nat_eq, Bool, true, false, ◌||◌, bytes_eq, List, ◌++◌, length, Option, Some, None, Result, Ok, if◌then◌else◌, codes}
+use Rattle.std.specs.Prelude.{ℕ, ◌==◌, nat_eq, Bool, true, false, ◌||◌, bytes_eq, List, ◌++◌, length, Option, Some, None, option_map, Result, Ok, if◌then◌else◌, codes}
 use Rattle.std.specs.List.{ends_with}
+use Rattle.std.specs.Option.{option_to_list}
 use Rattle.std.specs.Path.{rsplit_once}
 use Rattle.serde_json.specs.Data.{Data, string, array}
 use Rattle.serde_json.specs.Find.{get}
@@ -8,7 +9,8 @@ use Rattle.package_items.specs.Rows.{Fault, LicenseRow, unstated, ItemRow, Packa
 use Rattle.package_items.specs.Texts.{license_in, license_of_all}
 use Rattle.package_items.specs.Members.{on_ok, text_if_any}
 use Rattle.package_items.specs.Items.{list_items, member_items, texts_of, if_object, each}
-use Rattle.package_items.specs.Packages.{said}
+use Rattle.package_items.specs.Packages.{said, placed, with_evidence}
+use Rattle.package_items.specs.Paths.{file_within}
 
 -- both parts of a key; there are none if the first is empty, for a scope of names begins with an at
 -- sign
@@ -69,24 +71,18 @@ guesses_in found = 0
 abbrev pub guesses : ItemRow → ℕ
 guesses i = guesses_in (get (codes "licenses") i.holds)
 
-abbrev pub with_file : Option (List ℕ) → ℕ → PackageRow → PackageRow
-with_file file n p =
-    record {
-      name = p.name;
-      version = p.version;
-      license = p.license;
-      license_file = file;
-      evidence = n;
-      is_own = p.is_own;
-      spot = p.spot;
-    }
+-- the file that is named, from the folder if it lies below it
+abbrev pub files : Option (List ℕ) → Option (List ℕ) → List (List ℕ)
+files folder file = option_to_list (option_map (file_within folder) file)
 
 -- the package that a member is; what is guessed is evidence
 abbrev pub checked : ItemRow → Result PackageRow Fault
 checked i =
     if_object i (on_ok (license i) (λ l.
     on_ok (text_if_any (i.at ++ codes "/licenseFile") (get (codes "licenseFile") i.holds)) (λ file.
-    Ok (with_file file (guesses i) (said i (name_of i.key) (version_of i.key) l)))))
+    on_ok (text_if_any (i.at ++ codes "/path") (get (codes "path") i.holds)) (λ folder.
+    Ok (with_evidence (guesses i) (placed folder (files folder file)
+    (said i (name_of i.key) (version_of i.key) l)))))))
 
 -- the packages of the members: each is one, in their order
 abbrev pub checked_packages : Data → Result (List PackageRow) Fault

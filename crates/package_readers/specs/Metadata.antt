@@ -1,11 +1,11 @@
 -- A METADATA or PKG-INFO file of a Python package.
-use Rattle.std.specs.Prelude.{ℕ, not, Bool, ◌&&◌, ◌||◌, ◌==◌, nat_eq, nat_lt, bytes_eq, List, [], ◌∷◌, ◌++◌, length, flat_map, count_by, option_map, Option, Some, None, Result, Ok, Err, if◌then◌else◌, codes}
+use Rattle.std.specs.Prelude.{ℕ, not, Bool, ◌&&◌, ◌||◌, ◌==◌, nat_eq, nat_lt, bytes_eq, List, [], ◌∷◌, ◌++◌, length, map, filter, flat_map, count_by, option_map, Option, Some, None, Result, Ok, Err, if◌then◌else◌, codes}
 use Rattle.std.specs.List.{slice_split, starts_with, position_or_len, before_first, after_first}
 use Rattle.std.specs.Str.{is_utf8, str_eq_ignore_ascii_case}
 use Rattle.package_items.specs.Rows.{Fault, not_utf8, no_field, LicenseRow, stated, unstated, PackageRow}
 use Rattle.package_items.specs.Texts.{is_blank, license_in}
 use Rattle.package_items.specs.Members.{on_ok, license_if_any}
-use Rattle.package_readers.specs.LicenseChecker.{with_file}
+use Rattle.package_items.specs.Packages.{placed, with_evidence}
 use Rattle.package_readers.specs.Lines.{trimmed, on_line_of, broken_line}
 
 -- a line that is empty, but for a carriage return, ends the fields
@@ -65,6 +65,21 @@ unless_empty (Some text) = if length text == 0 then None else Some text
 abbrev pub text_at : List ℕ → List (List ℕ) → Option (List ℕ)
 text_at name head = unless_empty (option_map text_in (field name head))
 
+-- what stands behind the name, and the lines that go on with it, if it begins with the name
+abbrev pub with_first : Option (List ℕ) → List (List ℕ) → List (List (List ℕ)) →
+    List (List (List ℕ))
+with_first None more others = others
+with_first (Some text) more others = with_folded text more ∷ others
+
+-- the lines of each field of that name
+abbrev pub fields : List ℕ → List (List ℕ) → List (List (List ℕ))
+fields name [] = []
+fields name (l ∷ ls) = with_first (behind_name name l) ls (fields name ls)
+
+-- the texts of all fields of that name that have one, in their order
+abbrev pub texts_at : List ℕ → List (List ℕ) → List (List ℕ)
+texts_at name head = filter (λ text. not (length text == 0)) (map text_in (fields name head))
+
 -- how many of the lines aren't blank
 abbrev pub written : List (List ℕ) → ℕ
 written lines = count_by (λ l. not (is_blank l)) lines
@@ -104,8 +119,9 @@ texts_held head = texts_in_field (field (codes "License") head)
 abbrev pub named : List (List ℕ) → Option (List ℕ) → Result PackageRow Fault
 named head None = Err (no_field (codes "Name"))
 named head (Some name) =
-    Ok (with_file (text_at (codes "License-File") head) (texts_held head)
-    (on_line_of 1 name (text_at (codes "Version") head) (license head)))
+    Ok (with_evidence (texts_held head)
+    (placed (Some (codes ".")) (texts_at (codes "License-File") head)
+    (on_line_of 1 name (text_at (codes "Version") head) (license head))))
 
 -- the package that the fields tell
 abbrev pub package_of : List (List ℕ) → Result PackageRow Fault

@@ -1,6 +1,6 @@
 // What `license-checker --json` writes.
 
-ghost use Rattle.std.specs.Prelude.{◌≡◌, ◌++◌, Ok, Err, IfOk, IfErr, map, codes, option_map};
+ghost use Rattle.std.specs.Prelude.{◌≡◌, ◌++◌, Ok, Err, IfOk, IfErr, map, codes, option_map, string_bytes};
 ghost use Rattle.std.specs.Option.{option_copied};
 ghost use Rattle.serde_json.specs.View.{view};
 ghost use Rattle.package_items.specs.Rows.{Says, item_row, license_of, row_of};
@@ -8,8 +8,8 @@ ghost use Rattle.package_items.specs.Values.{seen};
 ghost use Rattle.package_readers.specs.LicenseChecker as spec;
 
 use package_items::{
-    Item, License, Package, SourceError, check_object, copy_of, license_in, license_of_all,
-    list_in, member_items, said, text_if_any, texts_of,
+    Item, License, Package, SourceError, check_object, copy_of, file_within, in_list, license_in,
+    license_of_all, list_in, member_items, said, text_if_any, texts_of,
 };
 use serde_json::Value;
 use std::alloc::{AllocError, Global};
@@ -93,6 +93,17 @@ fn guesses(item: &Item<'_>) -> usize
     }
 }
 
+// The file that is named, from the folder if it lies below it.
+fn files(alloc: Global, folder: Option<&str>, file: Option<&str>) -> Result<Vec<String>, AllocError>
+    ensures { IfOk result (λ fs. map string_bytes fs.items
+        ≡ spec.files (option_copied folder.entry) (option_copied file.entry)) }
+{
+    match file {
+        Some(file) => in_list(alloc, Some(file_within(folder, file))),
+        None => in_list(alloc, None),
+    }
+}
+
 // The package that a member is.
 fn checked(alloc: Global, item: &Item<'_>) -> Result<Package, SourceError>
     ensures ok { IfOk result (λ p. spec.checked (item_row item.now) ≡ Ok (row_of p)) }
@@ -101,9 +112,11 @@ fn checked(alloc: Global, item: &Item<'_>) -> Result<Package, SourceError>
     check_object(alloc, item)?;
     let license = license(alloc, item)?;
     let file = text_if_any(alloc, item, "/licenseFile", item.value.get("licenseFile"))?;
+    let folder = text_if_any(alloc, item, "/path", item.value.get("path"))?;
     let (name, version) = (name_of(item.key), version_of(item.key));
     let mut package = said(alloc, item, name, version, license)?;
-    package.license_file = copy_of(alloc, file)?;
+    package.folder = copy_of(alloc, folder)?;
+    package.license_files = files(alloc, folder, file)?;
     package.evidence = guesses(item);
     Ok(package)
 }

@@ -23,6 +23,7 @@ pub(crate) fn text_lines(alloc: Global, text: &str) -> Result<Vec<&str>, AllocEr
 
 // The package of a line, with this name, version and license.
 pub(crate) fn on_line(
+    alloc: Global,
     number: usize,
     name: String,
     version: Option<String>,
@@ -35,7 +36,8 @@ pub(crate) fn on_line(
         name,
         version,
         license,
-        license_file: None,
+        folder: None,
+        license_files: Vec::new(alloc),
         evidence: 0,
         is_own: false,
         spot: Spot::Line(number),
@@ -48,7 +50,8 @@ fn plain(alloc: Global, number: usize, line: &str) -> Result<Package, SourceErro
     ensures err { IfErr result (Says (λ f. spec.plain number line.now ≡ Err f)) }
 {
     let name = format!(in alloc; "line {number}")?;
-    Ok(on_line(number, name, None, license_in(alloc, trimmed(line))?))
+    let license = license_in(alloc, trimmed(line))?;
+    Ok(on_line(alloc, number, name, None, license))
 }
 
 // The packages of the lines that aren't blank.

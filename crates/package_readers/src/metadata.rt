@@ -124,6 +124,38 @@ fn text_at(alloc: Global, name: &str, head: &[&str]) -> Result<Option<String>, A
     Ok(Some(text))
 }
 
+// The lines of each field of that name.
+fn fields<'t>(alloc: Global, name: &str, lines: &[&'t str]) -> Result<Vec<Vec<&'t str>>, AllocError>
+    ensures { IfOk result (λ fs. map (λ v. map (λ x. x.now) v.items) fs.items
+        ≡ spec.fields name.now (map (λ x. x.now) lines.now)) }
+{
+    let mut all = Vec::new(alloc);
+    let mut rest = lines;
+    while let [line, more @ ..] = rest {
+        if let Some(text) = behind_name(name, line) {
+            all.push(with_folded(alloc, text, more)?)?;
+        }
+        rest = more;
+    }
+    Ok(all)
+}
+
+// The texts of all fields of that name that aren't blank.
+fn texts_at(alloc: Global, name: &str, head: &[&str]) -> Result<Vec<String>, AllocError>
+    ensures { IfOk result (λ ts. map string_bytes ts.items
+        ≡ spec.texts_at name.now (map (λ x. x.now) head.now)) }
+{
+    let fields = fields(alloc, name, head)?;
+    let mut texts = Vec::new(alloc);
+    for lines in &fields {
+        let text = text_in(alloc, lines.as_slice())?;
+        if !text.is_empty() {
+            texts.push(text)?;
+        }
+    }
+    Ok(texts)
+}
+
 // How many lines aren't blank.
 fn written(lines: &[&str]) -> usize
     ensures value { result ≡ spec.written (map (λ x. x.now) lines.now) }
@@ -200,8 +232,10 @@ fn package_of(alloc: Global, head: &[&str]) -> Result<Package, SourceError>
         return Err(SourceError::Refused(SourceFault::NoField(name)));
     };
     let version = text_at(alloc, "Version", head)?;
-    let mut package = on_line(1, name, version, license(alloc, head)?);
-    package.license_file = text_at(alloc, "License-File", head)?;
+    let license = license(alloc, head)?;
+    let mut package = on_line(alloc, 1, name, version, license);
+    package.folder = Some(String::from_str(alloc, ".")?);
+    package.license_files = texts_at(alloc, "License-File", head)?;
     package.evidence = texts_held(alloc, head)?;
     Ok(package)
 }

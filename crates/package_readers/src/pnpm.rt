@@ -3,12 +3,13 @@
 ghost use Rattle.std.specs.Prelude.{◌≡◌, ◌++◌, Ok, Err, IfOk, IfErr, map, codes, Some};
 ghost use Rattle.std.specs.Option.{option_copied};
 ghost use Rattle.serde_json.specs.View.{view};
+ghost use Rattle.package_items.specs.Items.{each};
 ghost use Rattle.package_items.specs.Rows.{Says, item_row, license_of, row_of};
 ghost use Rattle.package_readers.specs.Pnpm as spec;
 
 use package_items::{
-    Item, License, Package, SourceError, check_object, license_in, list_in, list_in_if_any,
-    member_items, said, text_if_any, text_of, texts_of,
+    Item, License, Package, SourceError, check_object, copy_of, license_in, list_in,
+    list_in_if_any, member_items, said, text_if_any, text_of, texts_of,
 };
 use serde_json::Value;
 use std::alloc::{AllocError, Global};
@@ -63,20 +64,78 @@ fn versions<'v>(alloc: Global, item: &Item<'v>) -> Result<Vec<Option<&'v str>>, 
     Ok(each_or(alloc, other, texts.as_slice())?)
 }
 
-// A package of that name and license for each version.
+fn texts_if_any<'v>(alloc: Global, items: &[Item<'v>]) -> Result<Vec<Option<&'v str>>, SourceError>
+    ensures ok { IfOk result (λ ts.
+        each spec.path_of (map item_row items.now) ≡ Ok (map option_copied ts.items)) }
+    ensures err { IfErr result (Says (λ f. each spec.path_of (map item_row items.now) ≡ Err f)) }
+{
+    let mut texts = Vec::new(alloc);
+    for item in items {
+        texts.push(text_if_any(alloc, item, "", Some(item.value))?)?;
+    }
+    Ok(texts)
+}
+
+// The folder of each version; of one alone older kinds of pnpm write it elsewhere.
+fn folders<'v>(alloc: Global, item: &Item<'v>) -> Result<Vec<Option<&'v str>>, SourceError>
+    ensures ok { IfOk result (λ fs.
+        spec.folders (item_row item.now) ≡ Ok (map option_copied fs.items)) }
+    ensures err { IfErr result (Says (λ f. spec.folders (item_row item.now) ≡ Err f)) }
+{
+    let entries = list_in_if_any(alloc, item, "/paths", item.value.get("paths"))?;
+    let mut paths = texts_if_any(alloc, entries.as_slice())?;
+    let other = text_if_any(alloc, item, "/path", item.value.get("path"))?;
+    if paths.is_empty() {
+        paths.push(other)?;
+    }
+    Ok(paths)
+}
+
+// The folder at that place of the list, if it goes so far.
+#[tactic(auto, using(crate::proofs::Counts::same_at))]
+fn folder_at<'v>(folders: &[Option<&'v str>], index: usize) -> Option<&'v str>
+    ensures { option_copied result ≡ spec.folder_at (map option_copied folders.now) index }
+{
+    match folders.get(index) {
+        Some(folder) => *folder,
+        None => None,
+    }
+}
+
+// The package of one version, in that folder.
+fn version_in(
+    alloc: Global,
+    text: &str,
+    item: &Item<'_>,
+    name: &str,
+    folder: Option<&str>,
+    version: Option<&str>,
+) -> Result<Package, AllocError>
+    ensures { IfOk result (λ p. row_of p ≡ spec.version_in text.now (item_row item.now) name.now
+        (option_copied folder.entry) (option_copied version.entry)) }
+{
+    let mut package = said(alloc, item, name, version, license(alloc, text)?)?;
+    package.folder = copy_of(alloc, folder)?;
+    Ok(package)
+}
+
+// A package of that name and license for each version: the first in the first folder, and so on.
 fn each_version(
     alloc: Global,
     text: &str,
     item: &Item<'_>,
     name: &str,
+    folders: &[Option<&str>],
     versions: &[Option<&str>],
 ) -> Result<Vec<Package>, AllocError>
     ensures { IfOk result (λ ps. map row_of ps.items ≡ spec.each_version text.now
-        (item_row item.now) name.now (map option_copied versions.now)) }
+        (item_row item.now) name.now (map option_copied folders.now)
+        (map option_copied versions.now)) }
 {
     let mut packages = Vec::new(alloc);
-    for version in versions {
-        packages.push(said(alloc, item, name, *version, license(alloc, text)?)?)?;
+    for (index, version) in versions.iter().enumerate() {
+        let folder = folder_at(folders, index);
+        packages.push(version_in(alloc, text, item, name, folder, *version)?)?;
     }
     Ok(packages)
 }
@@ -91,7 +150,9 @@ fn packages_of(alloc: Global, text: &str, item: &Item<'_>) -> Result<Vec<Package
     check_object(alloc, item)?;
     let name = text_of(alloc, item, "/name", item.value.get("name"))?;
     let versions = versions(alloc, item)?;
-    Ok(each_version(alloc, text, item, name, versions.as_slice())?)
+    let folders = folders(alloc, item)?;
+    let (versions, folders) = (versions.as_slice(), folders.as_slice());
+    Ok(each_version(alloc, text, item, name, folders, versions)?)
 }
 
 fn group_packages(alloc: Global, group: &Item<'_>) -> Result<Vec<Package>, SourceError>
@@ -108,8 +169,8 @@ fn group_packages(alloc: Global, group: &Item<'_>) -> Result<Vec<Package>, Sourc
     Ok(packages)
 }
 
-/// The packages of what `pnpm licenses list --json` writes: one for each version of each item of each group. The groups
-/// stand in the order of the bytes of their names, which are the licenses.
+/// The packages of what `pnpm licenses list --json` writes: one for each version of each item of each group, in the folder that
+/// stands as far down the list of paths. The groups stand in the order of the bytes of their names, which are the licenses.
 ///
 /// # Errors
 ///

@@ -74,7 +74,13 @@ fn told_at(
 }
 
 // The package of a record, with this name, version and license.
-fn in_record(number: usize, name: String, version: Option<String>, license: License) -> Package
+fn in_record(
+    alloc: Global,
+    number: usize,
+    name: String,
+    version: Option<String>,
+    license: License,
+) -> Package
     ensures { row_of result ≡ spec.in_record_of number (string_bytes name)
         (option_map string_bytes version) (license_of license) }
 {
@@ -82,7 +88,8 @@ fn in_record(number: usize, name: String, version: Option<String>, license: Lice
         name,
         version,
         license,
-        license_file: None,
+        folder: None,
+        license_files: Vec::new(alloc),
         evidence: 0,
         is_own: false,
         spot: Spot::Record(number),
@@ -107,7 +114,8 @@ fn package_at(
     let Some(name) = told(alloc, name)? else {
         return Err(SourceError::Refused(SourceFault::NoName(number)));
     };
-    Ok(in_record(number, name, version, license_in(alloc, trimmed(license))?))
+    let license = license_in(alloc, trimmed(license))?;
+    Ok(in_record(alloc, number, name, version, license))
 }
 
 // The columns of a record: those that the header names, if there is one.

@@ -104,7 +104,8 @@ fn said_on(alloc: Global, number: usize, value: &Value) -> Result<Package, Sourc
     let text = text_on_if_any(alloc, number, "/expression", value.get("expression"))?;
     let name = String::from_str(alloc, name)?;
     let version = copy_of(alloc, version)?;
-    Ok(on_line(number, name, version, license_on(alloc, text)?))
+    let license = license_on(alloc, text)?;
+    Ok(on_line(alloc, number, name, version, license))
 }
 
 // The package of a line, by its number from 1.

@@ -8,7 +8,7 @@ use Rattle.package_items.specs.Members.{on_ok, text_of, text_if_any}
 use Rattle.package_items.specs.Items.{list_items, list_items_if_any, object_at, if_object}
 use Rattle.package_items.specs.Nested.{in_list, with_parts, all_with_parts}
 use Rattle.package_items.specs.Texts.{license_of_all}
-use Rattle.package_items.specs.Packages.{said}
+use Rattle.package_items.specs.Packages.{said, with_evidence}
 
 -- what stands at a member of a member
 abbrev pub inner : List ℕ → List ℕ → Data → Option Data
@@ -85,18 +85,6 @@ name_of i =
     on_ok (text_if_any (i.at ++ codes "/group") (get (codes "group") i.holds)) (λ group.
     on_ok (text_of (i.at ++ codes "/name") (get (codes "name") i.holds))
     (λ name. Ok (grouped group name)))
-
-abbrev pub with_evidence : ℕ → PackageRow → PackageRow
-with_evidence n p =
-    record {
-      name = p.name;
-      version = p.version;
-      license = p.license;
-      license_file = p.license_file;
-      evidence = n;
-      is_own = p.is_own;
-      spot = p.spot;
-    }
 
 -- the package that a component or a service is
 abbrev pub cyclonedx : ItemRow → Result PackageRow Fault

@@ -4,9 +4,11 @@ use Rattle.std.specs.Option.{is_some}
 use Rattle.serde_json.specs.Data.{Data, null, boolean, string, array, object, Members, no_members, member}
 use Rattle.serde_json.specs.Find.{get}
 use Rattle.package_items.specs.Rows.{Fault, LicenseRow, ItemRow}
-use Rattle.package_items.specs.Members.{on_ok, text_of, license_at}
+use Rattle.package_items.specs.Members.{on_ok, text_of, text_if_any, license_at}
 use Rattle.package_items.specs.Items.{list_items, member_items, root_item}
 use Rattle.package_items.specs.Nested.{in_object, with_parts}
+use Rattle.package_sources.specs.declared.npm.Lies.{Lies}
+use Rattle.package_sources.specs.declared.npm.Lies.TheVariants as lies
 use Rattle.package_sources.specs.declared.several.Entry.TheVariants as entry
 use Rattle.package_sources.specs.Several.{choice_of}
 use Rattle.package_sources.specs.Folders.{folder_name}
@@ -100,6 +102,22 @@ abbrev pub tree_items : List ℕ → Data → Option Data → Result (List ItemR
 tree_items stand_in d None = tree_parts stand_in d
 tree_items stand_in d (Some null) = tree_parts stand_in d
 tree_items stand_in d (Some entries) = entry_items stand_in entries
+
+abbrev pub lies_by : Option Data → Lies
+lies_by None = lies.AtPath
+lies_by (Some null) = lies.AtPath
+lies_by (Some entries) = lies.AtKey
+
+-- where the packages lie: those of a lock file at their keys, those of a tree where they say it, and
+-- that of a package.json here
+abbrev pub lies_in : Data → Lies
+lies_in d = if is_tree d then lies_by (get (codes "packages") d) else lies.Here
+
+-- the folder of an item; the root of a lock file lies here
+abbrev pub folder : Lies → ItemRow → Result (Option (List ℕ)) Fault
+folder lies.Here i = Ok (Some (codes "."))
+folder lies.AtKey i = if i.is_own then Ok (Some (codes ".")) else Ok (Some i.key)
+folder lies.AtPath i = text_if_any (i.at ++ codes "/path") (get (codes "path") i.holds)
 
 -- the packages of the entries of a lock file, of a tree, or of a package.json
 abbrev pub npm_items : List ℕ → Data → Result (List ItemRow) Fault

@@ -20,7 +20,7 @@ use Rattle.package_readers.specs.SpdxThree.{graph_packages}
 use Rattle.package_readers.specs.Verdicts.{verdict_packages}
 use Rattle.package_sources.specs.Cargo.{cargo_packages}
 use Rattle.package_sources.specs.Readings.{packages_of}
-use Rattle.package_sources.specs.Npm.{npm_items}
+use Rattle.package_sources.specs.Npm.{npm_items, lies_in}
 use Rattle.package_sources.specs.CycloneDx as bom
 use Rattle.package_sources.specs.Spdx as bill
 use Rattle.package_sources.specs.Pointer.{checked}
@@ -52,7 +52,7 @@ cargo d =
     cargo_packages members is))
 
 abbrev pub npm : List ℕ → Data → Result (List PackageRow) Fault
-npm folder d = on_ok (npm_items folder d) (packages_of reading.Npm)
+npm folder d = on_ok (npm_items folder d) (packages_of (reading.Npm (lies_in d)))
 
 abbrev pub composer_lists : Data → Option Data → Result (List ItemRow) Fault
 composer_lists d found =

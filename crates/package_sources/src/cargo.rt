@@ -1,6 +1,6 @@
 // What `cargo metadata` writes.
 
-ghost use Rattle.std.specs.Prelude.{◌≡◌, ◌++◌, Ok, Err, IfOk, IfErr, map, codes, bytes_eq};
+ghost use Rattle.std.specs.Prelude.{◌≡◌, ◌++◌, Ok, Err, IfOk, IfErr, map, codes, bytes_eq, option_map, string_bytes};
 ghost use Rattle.std.specs.List.{list_any};
 ghost use Rattle.serde_json.specs.View.{view};
 ghost use Rattle.package_items.specs.Rows.{Says, item_row, license_of, row_of};
@@ -8,8 +8,8 @@ ghost use Rattle.package_sources.specs.Cargo as spec;
 
 use crate::texts::slashes_as_or;
 use package_items::{
-    Item, License, Package, SourceError, check_object, copy_of, license_in, said, text_if_any,
-    text_of,
+    Item, License, Package, SourceError, check_object, copy_of, folder_in, in_list, license_in,
+    said, text_if_any, text_of,
 };
 use serde_json::Value;
 use std::alloc::Global;
@@ -56,6 +56,19 @@ fn is_own(members: &[Item<'_>], item: &Item<'_>) -> bool
     }
 }
 
+// The folder of the manifest.
+fn folder(alloc: Global, item: &Item<'_>) -> Result<Option<String>, SourceError>
+    ensures ok { IfOk result (λ f.
+        spec.folder (item_row item.now) ≡ Ok (option_map string_bytes f)) }
+    ensures err { IfErr result (Says (λ f. spec.folder (item_row item.now) ≡ Err f)) }
+{
+    let found = item.value.get("manifest_path");
+    match text_if_any(alloc, item, "/manifest_path", found)? {
+        Some(path) => Ok(copy_of(alloc, Some(folder_in(path)))?),
+        None => Ok(None),
+    }
+}
+
 // The package that an item is; the members of the workspace are one's own.
 fn cargo(alloc: Global, members: &[Item<'_>], item: &Item<'_>) -> Result<Package, SourceError>
     ensures ok { IfOk result (λ p.
@@ -68,8 +81,10 @@ fn cargo(alloc: Global, members: &[Item<'_>], item: &Item<'_>) -> Result<Package
     let version = text_if_any(alloc, item, "/version", item.value.get("version"))?;
     let license = cargo_license(alloc, item)?;
     let file = text_if_any(alloc, item, "/license_file", item.value.get("license_file"))?;
+    let folder = folder(alloc, item)?;
     let mut package = said(alloc, item, name, version, license)?;
-    package.license_file = copy_of(alloc, file)?;
+    package.folder = folder;
+    package.license_files = in_list(alloc, file)?;
     package.is_own = is_own(members, item);
     Ok(package)
 }

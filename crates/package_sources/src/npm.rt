@@ -1,6 +1,7 @@
 // What npm writes.
 
 ghost use Rattle.std.specs.Prelude.{◌≡◌, ◌++◌, Ok, Err, IfOk, IfErr, map, codes, string_bytes};
+ghost use Rattle.std.specs.Option.{option_copied};
 ghost use Rattle.serde_json.specs.Find.{get};
 ghost use Rattle.serde_json.specs.View.{view, members_view};
 ghost use Rattle.package_items.specs.Rows.{Says, item_row, license_of};
@@ -10,8 +11,8 @@ ghost use Rattle.package_sources.specs.Npm as spec;
 use crate::folder::folder_name;
 use crate::several::{Entry, choice_of};
 use package_items::{
-    Item, License, Parts, SourceError, license_at, list_in, member_items, root_item, text_of,
-    with_parts,
+    Item, License, Parts, SourceError, license_at, list_in, member_items, root_item, text_if_any,
+    text_of, with_parts,
 };
 use serde_json::{Map, Value};
 use std::alloc::{AllocError, Global};
@@ -216,6 +217,48 @@ fn tree_parts<'v>(
 {
     let root = root_item(alloc, stand_in, true, document);
     with_parts(alloc, Parts::Object("dependencies"), LEVELS, &root)
+}
+
+/// Where a package of npm's lies.
+#[derive(Clone, Copy)]
+pub(crate) enum Lies {
+    /// In the folder of the file.
+    Here,
+    /// In the folder that is its key, but for the root, which lies in the folder of the file.
+    AtKey,
+    /// In the folder that it says, if it says one.
+    AtPath,
+}
+
+/// Where the packages of what npm writes lie.
+pub(crate) fn lies_in(document: &Value) -> Lies
+    ensures { result ≡ spec.lies_in (view document.now) }
+{
+    if !is_tree(document) {
+        return Lies::Here;
+    }
+    match document.get("packages") {
+        None | Some(Value::Null) => Lies::AtPath,
+        Some(_) => Lies::AtKey,
+    }
+}
+
+/// The folder of an item.
+pub(crate) fn folder<'v>(
+    alloc: Global,
+    lies: Lies,
+    item: &Item<'v>,
+) -> Result<Option<&'v str>, SourceError>
+    ensures ok { IfOk result (λ f.
+        spec.folder lies (item_row item.now) ≡ Ok (option_copied f)) }
+    ensures err { IfErr result (Says (λ f. spec.folder lies (item_row item.now) ≡ Err f)) }
+{
+    match lies {
+        Lies::Here => Ok(Some(".")),
+        Lies::AtKey if item.is_own => Ok(Some(".")),
+        Lies::AtKey => Ok(Some(item.key)),
+        Lies::AtPath => text_if_any(alloc, item, "/path", item.value.get("path")),
+    }
 }
 
 /// The packages of what npm writes: of the entries of a lock file, of a tree, or of a package.json.

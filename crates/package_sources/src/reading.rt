@@ -10,22 +10,23 @@ ghost use Rattle.package_sources.specs.Readings as spec;
 
 use crate::cyclonedx::cyclonedx;
 use crate::form::Pointers;
-use crate::npm::{is_list, name_of, npm_license};
+use crate::npm::{Lies, folder, is_list, name_of, npm_license};
 use crate::several::{Entry, choice_of};
 use crate::spdx::spdx;
 use package_items::{
-    Item, License, Package, SourceError, check_object, license_at, list_in, said, text_if_any,
-    text_of,
+    Item, License, Package, SourceError, check_object, copy_of, file_in, folder_in, in_list,
+    license_at, list_in, said, text_if_any, text_of,
 };
 use serde_json::Value;
-use std::alloc::Global;
+use std::alloc::{AllocError, Global};
 
 /// How an item is read.
 #[derive(Clone, Copy)]
 pub(crate) enum Reading<'p> {
     /// By pointers.
     Pointed(Pointers<'p>),
-    Npm,
+    /// What npm writes, where its packages lie so.
+    Npm(Lies),
     Composer,
     Pip,
     CycloneDx,
@@ -70,15 +71,18 @@ fn pointed(alloc: Global, pointers: &Pointers<'_>, item: &Item<'_>) -> Result<Pa
     Ok(said(alloc, item, name, version, license)?)
 }
 
-fn npm(alloc: Global, item: &Item<'_>) -> Result<Package, SourceError>
-    ensures ok { IfOk result (λ p. spec.npm (item_row item.now) ≡ Ok (row_of p)) }
-    ensures err { IfErr result (Says (λ f. spec.npm (item_row item.now) ≡ Err f)) }
+fn npm(alloc: Global, lies: Lies, item: &Item<'_>) -> Result<Package, SourceError>
+    ensures ok { IfOk result (λ p. spec.npm lies (item_row item.now) ≡ Ok (row_of p)) }
+    ensures err { IfErr result (Says (λ f. spec.npm lies (item_row item.now) ≡ Err f)) }
 {
     check_object(alloc, item)?;
     let name = name_of(alloc, item)?;
     let version = text_if_any(alloc, item, "/version", item.value.get("version"))?;
     let license = npm_license(alloc, item)?;
-    Ok(said(alloc, item, name.as_str(), version, license)?)
+    let folder = folder(alloc, lies, item)?;
+    let mut package = said(alloc, item, name.as_str(), version, license)?;
+    package.folder = copy_of(alloc, folder)?;
+    Ok(package)
 }
 
 // A text, or a list of texts, of which each is a choice.
@@ -129,6 +133,33 @@ fn pip_license(alloc: Global, item: &Item<'_>) -> Result<License, SourceError>
     license_at(alloc, item, "/License", found)
 }
 
+// The path of the file with the text of the license.
+fn pip_file<'v>(alloc: Global, item: &Item<'v>) -> Result<Option<&'v str>, SourceError>
+    ensures ok { IfOk result (λ t.
+        spec.pip_file (item_row item.now) ≡ Ok (option_copied t)) }
+    ensures err { IfErr result (Says (λ f. spec.pip_file (item_row item.now) ≡ Err f)) }
+{
+    let found = item.value.get("LicenseFile");
+    if is_unknown(found) {
+        return Ok(None);
+    }
+    text_if_any(alloc, item, "/LicenseFile", found)
+}
+
+// The package, in the folder of the file at that path.
+fn with_text(alloc: Global, known: Package, path: Option<&str>) -> Result<Package, AllocError>
+    ensures { IfOk result (λ p. row_of p
+        ≡ spec.with_text (option_copied path.entry) (row_of known)) }
+{
+    let Some(path) = path else {
+        return Ok(known);
+    };
+    let mut placed = known;
+    placed.folder = copy_of(alloc, Some(folder_in(path)))?;
+    placed.license_files = in_list(alloc, Some(file_in(path)))?;
+    Ok(placed)
+}
+
 fn pip(alloc: Global, item: &Item<'_>) -> Result<Package, SourceError>
     ensures ok { IfOk result (λ p. spec.pip (item_row item.now) ≡ Ok (row_of p)) }
     ensures err { IfErr result (Says (λ f. spec.pip (item_row item.now) ≡ Err f)) }
@@ -137,7 +168,9 @@ fn pip(alloc: Global, item: &Item<'_>) -> Result<Package, SourceError>
     let name = text_of(alloc, item, "/Name", item.value.get("Name"))?;
     let version = text_if_any(alloc, item, "/Version", item.value.get("Version"))?;
     let license = pip_license(alloc, item)?;
-    Ok(said(alloc, item, name, version, license)?)
+    let path = pip_file(alloc, item)?;
+    let package = said(alloc, item, name, version, license)?;
+    Ok(with_text(alloc, package, path)?)
 }
 
 // The package that an item is.
@@ -149,7 +182,7 @@ fn package_of(alloc: Global, reading: &Reading<'_>, item: &Item<'_>) -> Result<P
 {
     match reading {
         Reading::Pointed(pointers) => pointed(alloc, pointers, item),
-        Reading::Npm => npm(alloc, item),
+        Reading::Npm(lies) => npm(alloc, *lies, item),
         Reading::Composer => composer(alloc, item),
         Reading::Pip => pip(alloc, item),
         Reading::CycloneDx => cyclonedx(alloc, item),

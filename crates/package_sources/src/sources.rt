@@ -8,7 +8,7 @@ ghost use Rattle.package_sources.specs.Sources as spec;
 use crate::cargo::cargo_packages;
 use crate::cyclonedx::cyclonedx_items;
 use crate::form::{Form, Pointers};
-use crate::npm::npm_items;
+use crate::npm::{lies_in, npm_items};
 use crate::pointer::checked;
 use crate::reading::{Reading, packages_of};
 use crate::spdx::spdx_items;
@@ -70,7 +70,7 @@ fn npm(alloc: Global, folder: &str, document: &Value) -> Result<Vec<Package>, So
     ensures err { IfErr result (Says (λ f. spec.npm folder.now (view document.now) ≡ Err f)) }
 {
     let items = npm_items(alloc, folder, document)?;
-    packages_of(alloc, &Reading::Npm, items.as_slice())
+    packages_of(alloc, &Reading::Npm(lies_in(document)), items.as_slice())
 }
 
 // The items of what Composer writes: those of a lock file, or a composer.json, which is one.

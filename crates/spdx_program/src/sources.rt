@@ -71,7 +71,7 @@ fn files_of<R: System>(
     let Some(names) = several.keep(names_in(rt, name.as_str(), folder.as_str()))? else {
         return Ok(files);
     };
-    let listed = listed(alloc, &names, &asked.listed.license_file)?;
+    let listed = listed(alloc, &names, asked.listed.license_files.first())?;
     for file in &owed_of(alloc, asked.offered, asked.choice, &listed)? {
         let inside = if request.follow {
             sources
@@ -172,7 +172,7 @@ fn read_names<R: System>(rt: &R, folder: &str) -> io::Result<Vec<String>> {
 fn listed<'t>(
     alloc: Global,
     names: &'t [String],
-    declared: &'t Option<String>,
+    declared: Option<&'t String>,
 ) -> Result<Vec<File<'t>>, AllocError> {
     let mut files = Vec::new(alloc);
     if let Some(path) = declared {
@@ -192,7 +192,7 @@ fn listed<'t>(
     Ok(files)
 }
 
-fn is_same(declared: &Option<String>, name: &String) -> bool {
+fn is_same(declared: Option<&String>, name: &String) -> bool {
     match declared {
         Some(path) => path.as_str() == name.as_str(),
         None => false,

@@ -203,11 +203,21 @@ fn put_package(alloc: Global, shown: &mut String, package: &Package) -> Result<(
     put_rest(alloc, shown, package)
 }
 
-fn put_rest(alloc: Global, shown: &mut String, package: &Package) -> Result<(), AllocError> {
-    if let Some(file) = &package.license_file {
+// Appends each file that the license is said to stand in, and the folder of the package.
+fn put_place(shown: &mut String, package: &Package) -> Result<(), AllocError> {
+    for file in &package.license_files {
         shown.push_str(" in ")?;
         shown.push_str(file.as_str())?;
     }
+    if let Some(folder) = &package.folder {
+        shown.push_str(" below ")?;
+        shown.push_str(folder.as_str())?;
+    }
+    Ok(())
+}
+
+fn put_rest(alloc: Global, shown: &mut String, package: &Package) -> Result<(), AllocError> {
+    put_place(shown, package)?;
     if package.evidence != 0 {
         let count = package.evidence;
         shown.push_str(format!(in alloc; " evidence {count}")?.as_str())?;

@@ -1,5 +1,5 @@
 use Rattle.std.proofs.Common.{arith}
-use Rattle.package_files.proofs.Slashes.{rsplit_once_at}
+use Rattle.package_items.proofs.Slashes.{rsplit_once_at}
 use Rattle.package_files.proofs.reading.parts.Goals as goal
 
 pub returns : goal.returns

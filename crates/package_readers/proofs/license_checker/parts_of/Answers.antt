@@ -1,5 +1,5 @@
 use Rattle.std.proofs.Common.{arith, rules}
-use Rattle.package_readers.proofs.Signs.{rsplit_once_at}
+use Rattle.package_items.proofs.Slashes.{rsplit_once_at}
 use Rattle.package_readers.proofs.license_checker.parts_of.Goals as goal
 
 pub returns-in-Some : goal.returns-in-Some

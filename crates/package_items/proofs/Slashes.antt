@@ -1,10 +1,12 @@
--- Where `rsplit_once` cuts at an ASCII character.
-use Rattle.std.proofs.Common.{◌≡◌, ℕ, zero, suc, ◌+◌, ◌-◌, ◌≤◌, ◌<◌, List, length, get_or, take, drop, Option, Some, None, option_map, MatchOption, refl, sym, ap, ◌∙◌, ⊎_elim, arith, Bor, eq-eqb, ne_eqb, length-drop, get_or-drop}
-use Rattle.std.specs.Str.Pattern.{RFindsChar}
+-- Where `rsplit_once` cuts at an ASCII character, and what `strip_prefix` leaves.
+use Rattle.std.proofs.Common.{◌≡◌, ℕ, zero, suc, ◌+◌, ◌-◌, ◌≤◌, ◌<◌, List, length, get_or, take, drop, Option, Some, None, option_map, MatchOption, refl, sym, subst, ap, ◌∙◌, true, false, ⊎_elim, arith, Bor, IsCharBoundary, eq-eqb, ne_eqb, length-drop, get_or-drop}
+use Rattle.std.specs.Option.{option_copied}
+use Rattle.std.specs.Str.Pattern.{RFindsChar, FindsTextPrefix, StripsPrefix}
 use Rattle.std.specs.Path.{rfind_below, rsplit_once}
-use Rattle.std.proofs.lemmas.Str.Pattern.{NoCharPasses-char}
+use Rattle.std.proofs.lemmas.Str.Pattern.{NoCharPasses-char, starts_text}
 use Rattle.std.proofs.lemmas.Bool.{cases_eq, cond-true, cond-false}
 use Rattle.std.proofs.lemmas.Str.{len_utf8_ascii}
+use Rattle.package_items.specs.Paths.{strip}
 
 none_below : (c : ℕ) (text : List ℕ) (n : ℕ) → ((i : ℕ) → i < n → get_or text i 0 ≡ c → ⊥) → rfind_below c text n ≡ None
 none_below c text zero h = refl
@@ -35,3 +37,11 @@ rsplit_once_at c text (Some x) h low =
     let found = last_below c text i (length text) (omega (arith, h.7)) (h.2.1.byte low) later in
     let second = h.4 ∙ ap (λ n. drop n text) next in
     (λ t. Some (h.3 t, second t)) ∙ sym (ap (option_map (λ k. (take k text, drop (k + 1) text))) found)
+
+-- takes the clause of `strip_prefix` at a text
+pub strips : (n s : List ℕ) (r : Option (Bor (List ℕ))) → MatchOption r (FindsTextPrefix n s None) (λ x. StripsPrefix (FindsTextPrefix n) s x.now) → option_copied r ≡ strip n s
+strips n s None h = let e = starts_text false n s h in rw (← e) refl
+strips n s (Some x) (k, f, e, l) =
+    let t = starts_text true n s (k, f, subst (IsCharBoundary s) (sym f.0) f.2) in
+    let same : x.now ≡ drop (length n) s = e ∙ ap (λ i. drop i s) f.0 in
+    rw (← t) (ap (λ (y : List ℕ). Some y) same)
