@@ -7,7 +7,8 @@ use Rattle.std.specs.Path.{rsplit_once}
 abbrev pub later : Option (List ℕ × List ℕ) → Option (List ℕ × List ℕ) → Option (List ℕ × List ℕ)
 later None other = other
 later (Some cut) None = Some cut
-later (Some cut) (Some other) = if nat_lt (length cut.0) (length other.0) then Some other else Some cut
+later (Some cut) (Some other) =
+    if nat_lt (length cut.0) (length other.0) then Some other else Some cut
 
 -- both parts of a path, round its last `/` or `\`
 abbrev pub cut : List ℕ → Option (List ℕ × List ℕ)

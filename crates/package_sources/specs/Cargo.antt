@@ -45,7 +45,8 @@ cargo members i =
     on_ok (cargo_license i) (λ license.
     on_ok (text_if_any (i.at ++ codes "/license_file") (get (codes "license_file") i.holds))
     (λ file. on_ok (folder i) (λ f.
-    Ok (owned (is_own members i) (placed f (option_to_list file) (said i name version license)))))))))
+    Ok (owned (is_own members i)
+    (placed f (option_to_list file) (said i name version license)))))))))
 
 -- the packages that items are: each is one, in their order
 abbrev pub cargo_packages : List ItemRow → List ItemRow → Result (List PackageRow) Fault
