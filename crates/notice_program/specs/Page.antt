@@ -1,15 +1,16 @@
 -- The page of packages with their texts, and what isn't on it.
-use Rattle.std.specs.Prelude.{◌≡◌, ◌↔◌, ℕ, ◌<◌, Bool, List, ◌++◌, All, Any, Contains, ⊤, length, map, string_bytes}
+use Rattle.std.specs.Prelude.{◌≡◌, ◌↔◌, ℕ, ◌<◌, Bool, true, false, List, ◌++◌, All, Any, Contains, ⊤, length, map, string_bytes}
 use Rattle.std.specs.List.{AllZip}
 use Rattle.std.specs.List.Sorted.{IsStrictlySortedBy}
 use Rattle.std.specs.Str.{IsUtf8}
 use Rattle.license_notice.specs.declared.packages.Package as noted_as
 use Rattle.license_notice.specs.Notices.{names_of}
 use Rattle.license_notice.specs.Once.{AreOnce}
+use Rattle.license_notice.specs.Places.{AreByPackage}
 use Rattle.license_notice.specs.Rows.{Band, Line, Row, all_rows, row_cmp, text_cmp}
 use Rattle.license_notice.specs.Wanted.{chosen_rows}
 use Rattle.notice_forms.specs.declared.pages.Form.{Form}
-use Rattle.notice_forms.specs.declared.pages.Form.TheVariants.{Html}
+use Rattle.notice_forms.specs.declared.pages.Form.TheVariants.{Text, Markdown, Html, Json}
 use Rattle.notice_forms.specs.Pages.{page_in}
 use Rattle.notice_forms.specs.Told.{Named, Told}
 use Rattle.shared_texts.specs.Shared.{EachStands, NothingElse, gathered}
@@ -66,8 +67,9 @@ abbrev pub IsTextsOf : Bool → List Package → List Lacked → List GeneralTex
 IsTextsOf marked packages lacks general texts =
     AreTexts marked packages lacks general (own_in texts) (others_in texts)
 
-abbrev pub told_of : List Band → List Named → Told
-told_of bands texts = record { title = TITLE.now; bands = bands; texts = texts }
+abbrev pub told_of : List Band → List Line → List Named → Told
+told_of bands packages texts =
+    record { title = TITLE.now; bands = bands; packages = packages; texts = texts }
 
 -- ---- how many
 
@@ -94,20 +96,29 @@ AreTotals packages texts missing totals =
 pub record IsNotice (look : Look) (packages : List Package) (general : List GeneralText)
     (notice : NoticeText) : Type 0 where
   pub bands : List Band
+  pub turned : List Line
   pub own : List Named
   pub others : List Named
   pub grouped : AreGroups packages bands
+  pub by_package : AreByPackage bands turned
   pub texts_are : AreTexts look.marks_general packages (lacks_in packages) general own others
-  pub bytes_are : notice.bytes.items ≡ page_in look.form (told_of bands (own ++ others))
+  pub bytes_are : notice.bytes.items ≡ page_in look.form (told_of bands turned (own ++ others))
   pub missing_are : map seen_lack notice.missing.items ≡ missing general (lacks_in packages)
   pub totals_are : AreTotalsOf packages own others (missing general (lacks_in packages))
       notice.totals
 
--- memory was refused, or the form is HTML and a text of that name is no UTF-8
+-- whether pages of the form are UTF-8
+abbrev pub is_utf8 : Form → Bool
+is_utf8 Text = false
+is_utf8 Markdown = false
+is_utf8 Html = true
+is_utf8 Json = true
+
+-- memory was refused, or pages of the form are UTF-8 and a text of that name isn't
 abbrev pub IsPageFault : Form → List Named → NoticeFault → Type 0
 IsPageFault form texts Memory = ⊤
 IsPageFault form texts (NotUtf8 name) =
-    (form ≡ Html)
+    (is_utf8 form ≡ true)
     × Any (λ (t : Named). (t.name ≡ string_bytes name) × (¬ (IsUtf8 t.bytes))) texts
 
 -- the same of a page of these packages

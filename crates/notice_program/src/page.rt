@@ -26,7 +26,7 @@ use crate::lacks::{GeneralText, Lack, all_lacks, missing_of, release_of};
 use crate::owns::all_owns;
 use crate::packages::Package;
 use crate::texts::{PageText, general_texts, own_texts, put_views, releases_in, used_of};
-use license_notice::{Group, Package as Noted, Release, each_once, notice_of};
+use license_notice::{Group, Package as Noted, Release, each_once, notice_of, packages_in};
 use notice_forms::{Form, LicenseText, Page, PageError, put_page};
 use shared_texts::shared_texts;
 use std::alloc::{AllocError, Global};
@@ -48,7 +48,7 @@ pub struct Look {
 pub enum NoticeFault {
     /// Memory was refused.
     Memory,
-    /// The text of this name is no UTF-8, which a page of HTML is.
+    /// The text of this name is no UTF-8, which pages of HTML and of JSON are.
     NotUtf8(String),
 }
 
@@ -94,11 +94,12 @@ struct PageTexts<'t> {
 /// The page of these packages, each below the requirements of its choice, with the texts that they have of their own, and
 /// the general ones that some of them lack. Of their files exactly those are there that are owed: texts that are the same
 /// but for white space stand once, with all packages that have them. The texts of packages come first, in the order of their
-/// first files, and then the general ones, in their order.
+/// first files, and then the general ones, in their order. Pages of HTML and of JSON besides have the packages, each once and
+/// in their order, with their requirements.
 ///
 /// # Errors
 ///
-/// Memory was refused, or the form is HTML and a text of the page is no UTF-8.
+/// Memory was refused, or the form is HTML or JSON and a text of the page is no UTF-8.
 pub fn notice_text<'t>(
     alloc: Global,
     look: Look,
@@ -111,7 +112,8 @@ pub fn notice_text<'t>(
     let lacks = all_lacks(alloc, packages)?;
     let texts = page_texts(alloc, look.marks_general, packages, &lacks, general)?;
     let groups = groups_of(alloc, packages)?;
-    let bytes = page_bytes(alloc, look.form, &groups, &texts)?;
+    let turned = packages_in(alloc, &groups)?;
+    let bytes = page_bytes(alloc, look.form, &groups, &turned, &texts)?;
     let missing = missing_of(alloc, &lacks, general)?;
     let totals = totals_of(alloc, packages, &texts, &missing)?;
     Ok(NoticeText {
@@ -169,16 +171,18 @@ fn page_bytes<'s>(
     alloc: Global,
     form: Form,
     groups: &[Group<'s>],
+    packages: &[Release<'s>],
     texts: &'s PageTexts<'s>,
 ) -> Result<Vec<u8>, NoticeFault>
     ensures ok { IfOk result (λ v. v.items ≡ page_in form (told_of (bands_of groups.now)
-        (texts_in texts.now))) }
+        (map line_of packages.now) (texts_in texts.now))) }
     ensures err { IfErr result (IsPageFault form (texts_in texts.now)) }
 {
     let views = views_of(alloc, texts)?;
     let shown = Page {
         title: TITLE,
         groups,
+        packages,
         texts: &views,
     };
     let mut bytes = Vec::new(alloc);
