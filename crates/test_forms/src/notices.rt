@@ -1,10 +1,11 @@
 // A page in each form: names that would be markup or that would be obeyed, names that are wide or long, a package twice with
-// two choices, and texts with fences, ends of lines of Windows and a blank line at the front.
+// two choices, and texts with fences, ends of lines of Windows and a blank line at the front. In JSON two texts have packages
+// below them, one of which stands under no requirement. The last page of HTML has no texts.
 
 mod texts;
 
 use crate::notices::texts::text_of;
-use license_notice::{Package, Requirement, notice_of};
+use license_notice::{Package, Release, Requirement, notice_of, packages_in};
 use notice_forms::{Form, LicenseText, Page, put_page};
 use std::alloc::{AllocError, Global};
 
@@ -120,9 +121,54 @@ fn put_all(alloc: Global, page: &mut Vec<u8>, wants: &[String]) -> Result<(), Al
         },
     ];
     for form in [Form::Text, Form::Markdown, Form::Html] {
-        put_shown(alloc, page, form, &packages)?;
+        put_shown(alloc, page, form, &packages, &[])?;
     }
-    Ok(())
+    put_shown(alloc, page, Form::Json, &packages, &HOLDERS)?;
+    put_without_texts(alloc, page, &packages)
+}
+
+// Whose texts of ISC and of MIT those are in the document of JSON.
+const HOLDERS: [Release<'static>; 3] = [
+    Release {
+        name: "elsewhere",
+        version: "",
+    },
+    Release {
+        name: "left-pad",
+        version: "",
+    },
+    Release {
+        name: "ring",
+        version: "0.17.14",
+    },
+];
+
+// The packages below a text.
+fn holders_of<'h>(name: &str, holders: &'h [Release<'static>]) -> &'h [Release<'static>] {
+    match (name, holders) {
+        ("ISC", _) => holders,
+        ("MIT", [_, _, last @ ..]) => last,
+        _ => &[],
+    }
+}
+
+fn put_without_texts(
+    alloc: Global,
+    page: &mut Vec<u8>,
+    packages: &[Package<'_, '_>],
+) -> Result<(), AllocError> {
+    let notice = notice_of(alloc, packages)?;
+    let turned = packages_in(alloc, notice.groups.as_slice())?;
+    let shown = Page {
+        title: "Without texts",
+        groups: notice.groups.as_slice(),
+        packages: turned.as_slice(),
+        texts: &[],
+    };
+    match put_page(alloc, page, Form::Html, &shown) {
+        Ok(()) => Ok(()),
+        Err(_) => Err(AllocError),
+    }
 }
 
 fn put_shown(
@@ -130,19 +176,22 @@ fn put_shown(
     page: &mut Vec<u8>,
     form: Form,
     packages: &[Package<'_, '_>],
+    holders: &[Release<'static>],
 ) -> Result<(), AllocError> {
     let notice = notice_of(alloc, packages)?;
+    let turned = packages_in(alloc, notice.groups.as_slice())?;
     let mut texts = Vec::new(alloc);
     for name in notice.texts.as_slice() {
         texts.push(LicenseText {
             name,
-            packages: &[],
+            packages: holders_of(name, holders),
             bytes: text_of(name).unwrap_or("").as_bytes(),
         })?;
     }
     let shown = Page {
         title: "Third-party licences",
         groups: notice.groups.as_slice(),
+        packages: turned.as_slice(),
         texts: texts.as_slice(),
     };
     match put_page(alloc, page, form, &shown) {
