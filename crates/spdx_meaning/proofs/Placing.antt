@@ -1,11 +1,10 @@
 -- The place of a requirement is that of the first that ties with it.
-use Rattle.std.proofs.Common.{◌≡◌, ℕ, zero, suc, ◌+◌, ◌≤◌, Bool, cond, List, [], ◌∷◌, refl, sym, ◌∙◌, ap, arith}
+use Rattle.std.proofs.Common.{◌≡◌, ℕ, zero, suc, ◌+◌, ◌≤◌, Bool, cond, List, [], ◌∷◌, refl, ◌∙◌, ap, arith}
 use Rattle.std.specs.Ordering.{is_eq}
 use Rattle.std.specs.declared.cmp.Ordering.{Ordering}
 use Rattle.std.specs.declared.cmp.Ordering.TheVariants.{Less, Equal, Greater}
 use Rattle.spdx_requirement.specs.Items.{Requirement}
 use Rattle.spdx_requirement.specs.Orders.{requirement_cmp}
-use Rattle.spdx_requirement.specs.Equality.{same_requirement}
 use Rattle.spdx_meaning.specs.Places.{place_in}
 use Rattle.spdx_meaning.proofs.Order.{requirements_total, same_is_tied}
 use Rattle.spdx_meaning.proofs.Numbered.{IsFirstTie}
