@@ -6,7 +6,7 @@ use crate::trouble::Trouble;
 use crate::within::{bytes_within, of_text};
 use foreign_text::{Sink, text_for};
 use notice_program::Lack;
-use spdx_words::NoticeRequest;
+use spdx_words::{NoticeRequest, OwnTexts};
 use std::alloc::{AllocError, Global};
 use std::io::ErrorKind;
 use std::path::Path;
@@ -66,7 +66,7 @@ fn text<R: System>(
     match bytes_within(rt, inside, path.as_str()) {
         Ok(bytes) => Ok(Some(unless_empty(alloc, name, path.as_str(), bytes)?)),
         Err(Trouble::Unreadable(_, error))
-            if request.sources.is_some() && error.kind() == ErrorKind::NotFound => { Ok(None) }
+            if request.own != OwnTexts::Left && error.kind() == ErrorKind::NotFound => { Ok(None) }
         Err(trouble) => Err(of_text(alloc, name, trouble)?),
     }
 }

@@ -22,6 +22,7 @@ mod diff;
 mod fix;
 mod gate;
 mod general;
+mod homes;
 mod left;
 mod list;
 mod make;

@@ -3,9 +3,10 @@
 use crate::chosen::{Choice, Chosen, choose};
 use crate::console::Console;
 use crate::general::{HeldText, general_texts};
+use crate::homes::check_folder;
 use crate::list;
 use crate::packages::{AllListed, Listed, Wanted, read_all};
-use crate::sources::{ReadFile, check_folder, own_files};
+use crate::sources::{ReadFile, own_files};
 use crate::system::System;
 use crate::trouble::Trouble;
 use license_notice::Requirement;
@@ -17,7 +18,7 @@ use notice_program::{
 };
 use owed_files::File;
 use package_sources::Package;
-use spdx_words::{NoticeRequest, PageForm};
+use spdx_words::{NoticeRequest, OwnTexts, PageForm};
 use std::alloc::{AllocError, Global};
 use std::io::Write;
 
@@ -41,7 +42,7 @@ pub(crate) fn notice<R: System, O: Write + Drop, F: Write + Drop>(
     }
     let packages = all_of(rt.alloc(), &files)?;
     let chosen = choose(rt, &catalogue, request, &packages)?;
-    let read = read_files(rt, request, &packages, &chosen)?;
+    let read = read_files(rt, request, &files, &chosen)?;
     let held = held_texts(rt, request, &packages, &chosen, &read)?;
     let text = noticed(rt.alloc(), request, &packages, &chosen, &read, &held)?;
     put(rt.alloc(), request, console, &text)
@@ -81,15 +82,15 @@ fn requirements<'t>(
 fn read_files<'t, R: System>(
     rt: &R,
     request: &NoticeRequest<'_>,
-    packages: &[&'t Package],
+    listed: &'t [Listed],
     chosen: &'t Chosen,
 ) -> Result<Vec<Vec<ReadFile>>, Trouble> {
-    if let Some(sources) = request.sources {
+    if let OwnTexts::Below(sources) = request.own {
         check_folder(rt, sources)?;
     }
     let choices = requirements(rt.alloc(), &chosen.choices)?;
     let offered = requirements(rt.alloc(), &chosen.offered)?;
-    own_files(rt, request, packages, &choices, &offered)
+    own_files(rt, request, listed, &choices, &offered)
 }
 
 // The general texts of what the packages lack, where they have a folder.
@@ -128,7 +129,7 @@ fn noticed<'t>(
     let general = general(alloc, held)?;
     let look = Look {
         form: form_of(request.form),
-        marks_general: request.sources.is_some(),
+        marks_general: request.own != OwnTexts::Left,
     };
     match notice_text(alloc, look, &noted, &general) {
         Ok(text) => Ok(text),
@@ -143,7 +144,7 @@ fn put<O: Write + Drop, F: Write + Drop>(
     console: &mut Console<O, F>,
     text: &NoticeText<'_>,
 ) -> Result<u8, Trouble> {
-    if request.sources.is_none() {
+    if request.own == OwnTexts::Left {
         write_all(&mut console.output, &text.bytes)?;
         return Ok(0);
     }
@@ -179,7 +180,7 @@ fn trouble_of(alloc: Global, fault: NoticeFault) -> Result<Trouble, AllocError> 
     match fault {
         NoticeFault::Memory => Ok(Trouble::Memory),
         NoticeFault::NotUtf8(name) => {
-            let why = String::from_str(alloc, "is no UTF-8, which a page of HTML is")?;
+            let why = String::from_str(alloc, "is no UTF-8, which pages of HTML and of JSON are")?;
             Ok(Trouble::Text(name, why))
         }
     }
@@ -248,5 +249,6 @@ fn form_of(form: PageForm) -> Form {
         PageForm::Text => Form::Text,
         PageForm::Markdown => Form::Markdown,
         PageForm::Html => Form::Html,
+        PageForm::Json => Form::Json,
     }
 }

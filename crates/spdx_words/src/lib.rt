@@ -16,8 +16,8 @@ pub mod request;
 mod words;
 
 pub use crate::packages_request::{
-    Accepted, ChangesForm, ChangesRequest, GateForm, GateRequest, NoticeRequest, PageForm, Source,
-    SourceForm,
+    Accepted, ChangesForm, ChangesRequest, GateForm, GateRequest, NoticeRequest, OwnTexts,
+    PageForm, Source, SourceForm,
 };
 pub use crate::request::{
     CheckRequest, CompareRequest, DiffRequest, FixRequest, Form, MakeRequest, Request, ShowRequest,

@@ -13,6 +13,7 @@ memory failed.";
 const NOTICE_EXAMPLE: &str = "Examples:
   spdx notice --accept MIT,Apache-2.0 --texts texts --format html --from cargo metadata.json > notice.html
   spdx notice --accept MIT,Apache-2.0 --sources vendor --strict --from cargo metadata.json > notice.txt
+  cargo metadata --format-version 1 | spdx notice --policy policy.toml --installed --from cargo > notice.txt
 
 Status: 0 the page is written, 1 some package has no choice that is accepted, or with --strict no text, 2 wrong words,
 list, policy, file or license text, 3 a write or memory failed. No page is written but with 0.";
@@ -89,7 +90,7 @@ pub(crate) fn notice<'a>(alloc: Global) -> Result<Command<'a>, AllocError> {
     let form = Arg::new(alloc, "format")
         .long("format")
         .value_name("FORM")
-        .value_parser(["text", "markdown", "html"].as_slice())
+        .value_parser(["text", "markdown", "html", "json"].as_slice())
         .default_value("text")
         .help("How the page is written");
     let notice = Command::new(alloc, "notice")
@@ -105,7 +106,12 @@ pub(crate) fn notice<'a>(alloc: Global) -> Result<Command<'a>, AllocError> {
         ))?
         .arg(flag(alloc, "without-texts", "Leaves the texts out").conflicts_with("texts")?)?
         .arg(own_texts_folder(alloc)?)?
-        .arg(strict(alloc)?)?
+        .arg(installed(alloc)?)?
+        .arg(flag(
+            alloc,
+            "strict",
+            "With --sources and --installed: writes no page where a package has no text",
+        ))?
         .arg(flag(
             alloc,
             "follow",
@@ -143,13 +149,15 @@ fn own_texts_folder<'a>(alloc: Global) -> Result<Arg<'a>, AllocError> {
     .conflicts_with("without-texts")
 }
 
-fn strict<'a>(alloc: Global) -> Result<Arg<'a>, AllocError> {
+// That packages have texts of their own where they are installed.
+fn installed<'a>(alloc: Global) -> Result<Arg<'a>, AllocError> {
     flag(
         alloc,
-        "strict",
-        "With --sources: writes no page where a package has no text",
+        "installed",
+        "Takes each package's own texts from where the list says that it is installed",
     )
-    .requires_arg("sources")
+    .conflicts_with("without-texts")?
+    .conflicts_with("sources")
 }
 
 /// The command `diff`.

@@ -63,6 +63,18 @@ pub enum PageForm {
     Text,
     Markdown,
     Html,
+    Json,
+}
+
+/// Whether packages have texts of their own on a page, and where they lie.
+#[derive(Clone, Copy, PartialEq, Eq, Debug)]
+pub enum OwnTexts<'w> {
+    /// They have none.
+    Left,
+    /// Below this folder, each package in one with its name and version.
+    Below(&'w str),
+    /// Where the file that lists the package says that it is.
+    Installed,
 }
 
 /// Which packages are judged, by which policy, and how it is told.
@@ -125,11 +137,10 @@ pub struct NoticeRequest<'w> {
     pub source: Source<'w>,
     /// The folder with the general texts, if one is named.
     pub texts: Option<&'w str>,
-    /// The folder in which packages lie with texts of their own, if one is named.
-    pub sources: Option<&'w str>,
+    pub own: OwnTexts<'w>,
     /// Whether no page is written where a package has no text.
     pub is_strict: bool,
-    /// Whether links are followed that lead out of the folder of the texts, or of a package within that of the sources.
+    /// Whether links are followed that lead out of the folder of the texts, or of a package within the one below which all lie.
     pub follow: bool,
     /// Whether what a terminal would obey in the texts is written by its number.
     pub plain: bool,

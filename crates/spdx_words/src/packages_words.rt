@@ -1,8 +1,8 @@
 // Words to requests of the commands over packages.
 
 use crate::packages_request::{
-    Accepted, ChangesForm, ChangesRequest, GateForm, GateRequest, NoticeRequest, PageForm, Source,
-    SourceForm,
+    Accepted, ChangesForm, ChangesRequest, GateForm, GateRequest, NoticeRequest, OwnTexts,
+    PageForm, Source, SourceForm,
 };
 use crate::request::Request;
 use crate::words::{no_file, refused, texts};
@@ -39,10 +39,15 @@ pub(crate) fn notice_request<'w>(
     matches: &ArgMatches<'w>,
 ) -> Result<Request<'w>, Error> {
     let texts_folder = matches.get_str("texts");
-    let sources = matches.get_str("sources");
-    if texts_folder.is_none() && sources.is_none() && !matches.get_flag("without-texts") {
+    let own = own_texts(matches);
+    let has_own = own != OwnTexts::Left;
+    if texts_folder.is_none() && !has_own && !matches.get_flag("without-texts") {
         let why =
             "the texts are missing: say --texts DIR, or --without-texts for a page without them";
+        return Err(refused(alloc, ErrorKind::MissingRequiredArgument, why));
+    }
+    if matches.get_flag("strict") && !has_own {
+        let why = "--strict goes with --sources and --installed";
         return Err(refused(alloc, ErrorKind::MissingRequiredArgument, why));
     }
     Ok(Request::Notice(NoticeRequest {
@@ -50,7 +55,7 @@ pub(crate) fn notice_request<'w>(
         accepted: accepted(alloc, matches)?,
         source: source(alloc, matches)?,
         texts: texts_folder,
-        sources,
+        own,
         is_strict: matches.get_flag("strict"),
         follow: matches.get_flag("follow"),
         plain: matches.get_flag("plain"),
@@ -59,6 +64,14 @@ pub(crate) fn notice_request<'w>(
         form: page_form(matches.get_str("format")),
         paths: texts(alloc, matches, "PATH")?,
     }))
+}
+
+fn own_texts<'w>(matches: &ArgMatches<'w>) -> OwnTexts<'w> {
+    match matches.get_str("sources") {
+        Some(folder) => OwnTexts::Below(folder),
+        None if matches.get_flag("installed") => OwnTexts::Installed,
+        None => OwnTexts::Left,
+    }
 }
 
 /// What the words behind `diff` ask for. Both files are required, so there is one.
@@ -165,6 +178,7 @@ fn page_form(name: Option<&str>) -> PageForm {
     match name {
         Some("markdown") => PageForm::Markdown,
         Some("html") => PageForm::Html,
+        Some("json") => PageForm::Json,
         _ => PageForm::Text,
     }
 }
