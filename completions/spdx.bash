@@ -23,7 +23,7 @@ _spdx() {
         'notice --policy') return ;;
         'notice --texts') return ;;
         'notice --sources') return ;;
-        'notice --format') words='text markdown html' ;;
+        'notice --format') words='text markdown html json' ;;
         'notice --from') words='auto lines tsv csv verdicts cargo npm composer pip cyclonedx spdx spdx-3 license-checker pnpm metadata' ;;
         'notice --each') return ;;
         'notice --name') return ;;
@@ -50,7 +50,7 @@ _spdx() {
             check) words='--format --strict --lax --headers --manifests --as --texts --untagged --list --quiet --no-summary --help' ;;
             fix) words='--write --break-links --headers --manifests --as --list --help' ;;
             gate) words='--policy --format --baseline --explain --quiet --allow-empty --no-unused --exclude-own --from --header --each --name --package-version --license --list --help' ;;
-            notice) words='--accept --policy --texts --without-texts --sources --strict --follow --plain --lax --one-for-all --format --exclude-own --from --header --each --name --package-version --license --list --help' ;;
+            notice) words='--accept --policy --texts --without-texts --sources --installed --strict --follow --plain --lax --one-for-all --format --exclude-own --from --header --each --name --package-version --license --list --help' ;;
             diff) words='--format --policy --allow-empty --no-summary --exclude-own --from --header --each --name --package-version --license --list --help' ;;
             compare) words='--lax --list --help' ;;
             simplify) words='--lax --list --help' ;;

@@ -2,8 +2,8 @@
 //! shortest text of what one means.
 //!
 //! ```rust
-//! // crates/spdx_program/src/compare.rt
-//! match compare_texts(alloc, &catalogue, mode, one.as_str(), other.as_str()) {
+//! // crates/meaning_program/src/compared.rt
+//! let comparison = compare_sets(alloc, one, &first.sets, other, &second.sets)?;
 //! ```
 //!
 //! It stands on the parser, `spdx_meaning` and `spdx_meaning_text`.

@@ -108,14 +108,19 @@ fn is_there<R: System>(rt: &R, name: &str, folder: &str) -> Result<bool, Trouble
 }
 
 /// The files that the package declares, from its folder. Of Python's packages they are in its folder `licenses`, as some
-/// tools have it in `license_files`, or of older ones in the folder itself.
+/// tools have it in `license_files`, or of older ones in the folder itself. What `pip-licenses` says is of where the package is
+/// installed: in another folder it may not be there.
 pub(crate) fn declared_in<R: System>(
     rt: &R,
+    request: &NoticeRequest<'_>,
     home: &Home,
     package: &Package,
-    is_python: bool,
+    file: &Listed,
 ) -> Result<Vec<String>, AllocError> {
     let alloc = rt.alloc();
+    let is_python = is_of(request.source, file, SourceForm::Metadata, Form::Metadata);
+    let may_lack = request.own != OwnTexts::Installed
+        && is_of(request.source, file, SourceForm::Pip, Form::Pip);
     let mut declared = Vec::new(alloc);
     for path in &package.license_files {
         let path = path.as_str();
@@ -124,10 +129,11 @@ pub(crate) fn declared_in<R: System>(
         } else {
             None
         };
-        declared.push(match found {
-            Some(found) => found,
-            None => String::from_str(alloc, path)?,
-        })?;
+        if let Some(found) = found {
+            declared.push(found)?;
+        } else if !may_lack || is_file_in(rt, home, path)? {
+            declared.push(String::from_str(alloc, path)?)?;
+        }
     }
     Ok(declared)
 }
@@ -143,10 +149,13 @@ fn in_python<R: System>(rt: &R, home: &Home, path: &str) -> Result<Option<String
     Ok(None)
 }
 
-/// Whether the file is one of Python's METADATA.
-pub(crate) fn is_python(source: Source<'_>, file: &Listed) -> bool {
-    matches!(source, Source::Named(SourceForm::Metadata))
-        || matches!(file.guessed, Some(Form::Metadata))
+// Whether the file was read in this form.
+fn is_of(source: Source<'_>, file: &Listed, named: SourceForm, guessed: Form) -> bool {
+    match (source, file.guessed) {
+        (Source::Named(form), _) => form == named,
+        (_, Some(form)) => form == guessed,
+        (_, None) => false,
+    }
 }
 
 fn is_file_in<R: System>(rt: &R, home: &Home, path: &str) -> Result<bool, AllocError> {

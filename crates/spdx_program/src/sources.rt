@@ -1,7 +1,7 @@
 // The texts that packages have of their own, in the folders that they lie in.
 
 use crate::general::shown;
-use crate::homes::{Home, declared_in, home_of, is_python, leads_out, no_path};
+use crate::homes::{Home, declared_in, home_of, leads_out, no_path};
 use crate::several::Several;
 use crate::system::System;
 use crate::trouble::Trouble;
@@ -13,8 +13,7 @@ use package_files::Listed;
 use package_sources::Package;
 use spdx_words::NoticeRequest;
 use std::alloc::{AllocError, Global};
-use std::fs;
-use std::io;
+use std::{fs, io};
 
 /// A file of a package, as it was read.
 #[derive(Drop)]
@@ -84,8 +83,7 @@ fn files_of<R: System>(
     let Some(names) = several.keep(names_in(rt, &home))? else {
         return Ok(files);
     };
-    let is_python = is_python(request.source, placed.file);
-    let declared = declared_in(rt, &home, placed.package, is_python)?;
+    let declared = declared_in(rt, request, &home, placed.package, placed.file)?;
     let listed = listed(alloc, &names, &declared)?;
     for file in &owed_of(alloc, used.offered, used.choice, &listed)? {
         if let Some(bytes) = several.keep(read(rt, &home, file.path))? {

@@ -6,6 +6,7 @@ use gate_program::{GateTrouble, PolicyTrouble};
 use line_engine::device::Failed;
 use line_engine::lines::RunFault;
 use list_program::ListTrouble;
+use meaning_program::{MeaningTrouble, Unsaid};
 use package_files::FileFault;
 use package_sources::SourceFault;
 use spdx::ReadFault;
@@ -148,6 +149,16 @@ impl From<GateTrouble> for Trouble {
             GateTrouble::List(trouble) => Trouble::from(trouble),
             GateTrouble::Policy(trouble) => Trouble::from(trouble),
             GateTrouble::Memory => Trouble::Memory,
+        }
+    }
+}
+
+impl From<MeaningTrouble> for Trouble {
+    fn from(trouble: MeaningTrouble) -> Trouble {
+        match trouble {
+            MeaningTrouble::List(trouble) => Trouble::from(trouble),
+            MeaningTrouble::Unsaid(Unsaid { text, why }) => Trouble::Unmeant(text, why),
+            MeaningTrouble::Memory => Trouble::Memory,
         }
     }
 }

@@ -1,0 +1,4 @@
+pub mod Reading
+pub mod Troubles
+pub mod Sayings
+pub mod Compared

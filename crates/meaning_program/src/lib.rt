@@ -1,0 +1,18 @@
+//! The commands `spdx compare` and `spdx simplify` over a shelf of files: how what two expressions ask compares, and what
+//! each line of a file means.
+//!
+//! ```rust
+//! // crates/spdx_program/src/compare.rt
+//! let told = meaning_program::compare(rt.alloc(), &SystemShelf::new(rt), inside(), asked)?;
+//! ```
+//!
+//! It stands on `list_program`, `spdx_compare`, `spdx_canonical` and `spdx_normal`.
+#![tactic(auto)]
+
+pub mod compared;
+mod reading;
+mod sayings;
+pub mod trouble;
+
+pub use crate::compared::{Asked, Compared, compare};
+pub use crate::trouble::{MeaningTrouble, Unsaid};
