@@ -1,5 +1,5 @@
 -- What a text says, and why it isn't told.
-use Rattle.std.specs.Prelude.{◌≡◌, ℕ, List, Err, Ok, map}
+use Rattle.std.specs.Prelude.{◌≡◌, ℕ, List, Err, Ok, IsOk, map}
 use Rattle.spdx_requirement.specs.Rows.{Rows}
 use Rattle.spdx_lexer.specs.declared.token.ParseMode.{ParseMode}
 use Rattle.spdx_lexer.specs.Reading.{reading}
@@ -30,6 +30,21 @@ IsUnmeant c m text (Unread error) = IsRefused c m text error
 IsUnmeant c m text (TooMany many) =
     (t : Tree) × Says c m text t × ((made_in t ≡ Err many.0) ⊎ (made_by_rank t ≡ Err many.0))
 
--- what the text means, as its meaning text
-abbrev pub IsMeaningOf : Rows → ParseMode → List ℕ → List ℕ → Type 0
-IsMeaningOf c m text meaning = (t : Tree) × Says c m text t × IsMeaningText t meaning
+-- the text is no expression, for this fault
+abbrev pub IsUnread : Rows → ParseMode → List ℕ → Unmeant → Type 0
+IsUnread c m text (Unread error) = IsRefused c m text error
+IsUnread c m text (TooMany many) = ⊥
+
+-- what the text means, as its meaning text; not too many sets are made of its tree
+pub record IsMeaningOf (c : Rows) (m : ParseMode) (text meaning : List ℕ) : Type 0 where
+  pub tree : Tree
+  pub says : Says c m text tree
+  pub few : IsOk (made_by_rank tree)
+  pub means : IsMeaningText tree meaning
+
+-- the text has no meaning text: it is no expression, for this fault; or too many sets are made of
+-- its tree, so many
+abbrev pub IsMeaningless : Rows → ParseMode → List ℕ → Unmeant → Type 0
+IsMeaningless c m text (Unread error) = IsRefused c m text error
+IsMeaningless c m text (TooMany many) =
+    (t : Tree) × Says c m text t × (made_by_rank t ≡ Err many.0)

@@ -2,7 +2,7 @@
 
 ghost use Rattle.std.specs.Prelude.{IfOk, IfErr, string_bytes};
 ghost use Rattle.spdx_requirement.specs.Failures.{IfRefused};
-ghost use Rattle.spdx_compare.specs.Reading.{IsMeaningOf, IsUnmeant};
+ghost use Rattle.spdx_compare.specs.Reading.{IsMeaningOf, IsMeaningless};
 
 use crate::reading::{Unmeant, nodes_of};
 use spdx_catalogue::{Catalogue, Failure};
@@ -24,7 +24,7 @@ pub fn meaning_of<'t>(
 ) -> Result<String, Failure<Unmeant<'t>>>
     ensures ok { IfOk result (λ meaning.
         IsMeaningOf catalogue.now mode text.now (string_bytes meaning)) }
-    ensures err { IfErr result (IfRefused (IsUnmeant catalogue.now mode text.now)) }
+    ensures err { IfErr result (IfRefused (IsMeaningless catalogue.now mode text.now)) }
 {
     let nodes = nodes_of(alloc, catalogue, mode, text)?;
     match meaning_text(alloc, nodes.as_slice()) {

@@ -4,7 +4,7 @@ ghost use Rattle.std.specs.Prelude.{IfOk, IfErr, map};
 ghost use Rattle.spdx_requirement.specs.Failures.{IfRefused};
 ghost use Rattle.spdx_parser.specs.Tree.{node_of};
 ghost use Rattle.spdx_evaluation.specs.Postfix.{IsPostfix};
-ghost use Rattle.spdx_compare.specs.Reading.{IsRead, IsUnmeant};
+ghost use Rattle.spdx_compare.specs.Reading.{IsRead, IsUnmeant, IsUnread};
 
 use spdx_catalogue::{Catalogue, Failure};
 use spdx_lexer::{ParseError, ParseMode};
@@ -36,6 +36,7 @@ pub fn nodes_of<'c, 't>(
     ensures read { IfOk result (λ nodes. IsRead catalogue.now mode text.now nodes.items) }
     ensures tree { IfOk result (λ nodes. IsPostfix (map node_of nodes.items)) }
     ensures err { IfErr result (IfRefused (IsUnmeant catalogue.now mode text.now)) }
+    ensures unread { IfErr result (IfRefused (IsUnread catalogue.now mode text.now)) }
 {
     match parse_nodes(alloc, catalogue, text, mode) {
         Ok(nodes) => Ok(nodes),
