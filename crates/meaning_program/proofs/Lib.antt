@@ -1,1 +1,4 @@
 pub mod Telling
+pub mod Pieces
+pub mod Lining
+pub mod Lines

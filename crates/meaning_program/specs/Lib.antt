@@ -2,3 +2,5 @@ pub mod Reading
 pub mod Troubles
 pub mod Sayings
 pub mod Compared
+pub mod Simplified
+pub mod LineLaws

@@ -12,7 +12,9 @@
 pub mod compared;
 mod reading;
 mod sayings;
+pub mod simplified;
 pub mod trouble;
 
 pub use crate::compared::{Asked, Compared, compare};
+pub use crate::simplified::{Simplified, UnmeantLine, simplify_lines};
 pub use crate::trouble::{MeaningTrouble, Unsaid};

@@ -56,7 +56,7 @@ pub(crate) fn told_as(alloc: Global, text: &str, why: &Unmeant<'_>) -> Result<Un
 }
 
 #[tactic(auto, unfolding(crate::specs::Troubles::why_text))]
-fn why_of(alloc: Global, why: &Unmeant<'_>) -> Result<String, AllocError>
+pub(crate) fn why_of(alloc: Global, why: &Unmeant<'_>) -> Result<String, AllocError>
     ensures { IfOk result (λ text. string_bytes text ≡ why_text why.now) }
 {
     match why {
