@@ -4,3 +4,4 @@ pub mod Sayings
 pub mod Compared
 pub mod Simplified
 pub mod LineLaws
+pub mod Files
