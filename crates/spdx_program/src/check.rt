@@ -2,9 +2,8 @@
 
 use crate::console::Console;
 use crate::left::tell_left;
-use crate::list;
+use crate::list::{self, mode_of};
 use crate::manifest::Manifest;
-use crate::meant::mode_of;
 use crate::owed::{Owing, put_owed, put_untagged};
 use crate::sums::{Sums, summary_of};
 use crate::system::{

@@ -1,7 +1,7 @@
 // What each package is used under.
 
 use crate::allowed::allowed;
-use crate::meant::mode_of;
+use crate::list::mode_of;
 use crate::policy::policy;
 use crate::several::Several;
 use crate::system::System;

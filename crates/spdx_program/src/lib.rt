@@ -27,7 +27,6 @@ mod left;
 mod list;
 mod make;
 mod manifest;
-mod meant;
 mod notice;
 mod owed;
 mod packages;

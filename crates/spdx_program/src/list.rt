@@ -1,10 +1,10 @@
-// The list that expressions are read by.
+// The list that expressions are read by, and how.
 
 use crate::system::System;
 use crate::trouble::Trouble;
 use list_program::{Inside, list_at, named_list};
 use shelves::SystemShelf;
-use spdx::{Catalogue, Failure};
+use spdx::{Catalogue, Failure, ParseMode};
 pub(crate) use spdx_known::HEIRS;
 use spdx_known::{EXTRAS, LIST, VERSION};
 use spdx_list::Extras;
@@ -32,6 +32,15 @@ pub(crate) fn catalogue<R: System>(rt: &R, path: Option<&str>) -> Result<Catalog
 /// The list at the path.
 pub(crate) fn catalogue_at<R: System>(rt: &R, path: &str) -> Result<Catalogue, Trouble> {
     Ok(list_at(rt.alloc(), &SystemShelf::new(rt), EXTRAS.as_bytes(), path)?)
+}
+
+/// How expressions are read.
+pub(crate) fn mode_of(is_lax: bool) -> ParseMode {
+    if is_lax {
+        ParseMode::LAX
+    } else {
+        ParseMode::STRICT
+    }
 }
 
 /// What to write in place of deprecated names, without the other extras, which few commands ask for.
