@@ -2,10 +2,10 @@
 
 use crate::console::Console;
 use crate::list;
-use crate::show::heir;
 use crate::system::System;
 use crate::trouble::Trouble;
 use line_engine::lines::write_all;
+use list_told::heir;
 use spdx::{Catalogue, Exception, License, LicenseId};
 use spdx_list::{Extras, RowChange, differences};
 use spdx_words::DiffRequest;

@@ -1,5 +1,6 @@
 //! The rows of what is read over a shelf of values: which list, which packages, what the gate
-//! says of them, what changed between two lists of them, how two expressions compare, and what each line means.
+//! says of them, what changed between two lists of them, how two expressions compare, what each line means, and
+//! what a list says of names.
 //!
 //! Each part has its rows in a file that lies where the program runs, NAME.rows, and is told behind a line `== PART`: those
 //! that don't hold, then how many do. The head of each module has the form of its rows.
@@ -11,6 +12,7 @@ mod gates;
 mod lists;
 mod packages;
 mod shelf;
+mod shows;
 mod simplifies;
 
 use std::io::Write;
@@ -37,13 +39,17 @@ fn start(rt: &HostRuntime) -> io::Result<u8> {
     shown.push_str("== simplifies\n")?;
     let rows = fs::read_to_string(rt, "simplifies.rows")?;
     let are_simplifies_good = simplifies::try_rows(rt.alloc(), &mut shown, rows.as_str())?;
+    shown.push_str("== shows\n")?;
+    let rows = fs::read_to_string(rt, "shows.rows")?;
+    let are_shows_good = shows::try_rows(rt.alloc(), &mut shown, rows.as_str())?;
     io::writer(rt).write_all(shown.as_bytes())?;
     let are_good = are_lists_good
         && are_packages_good
         && are_gates_good
         && are_diffs_good
         && are_compares_good
-        && are_simplifies_good;
+        && are_simplifies_good
+        && are_shows_good;
     Ok(u8::from(!are_good))
 }
 

@@ -1,0 +1,6 @@
+pub mod Heirs
+pub mod Flags
+pub mod Texts
+pub mod Told
+pub mod Unlisted
+pub mod Shown

@@ -1,0 +1,66 @@
+-- What `list show` writes.
+use Rattle.std.specs.Prelude.{◌≡◌, ◌↔◌, ◌⊎◌, ℕ, List, [], ◌∷◌, Ok, All, filter, map}
+use Rattle.std.specs.Option.{option_copied}
+use Rattle.shelves.specs.Shelf.{Shelved}
+use Rattle.spdx_requirement.specs.Rows.{Rows}
+use Rattle.spdx_list.specs.Diff.{nows}
+use Rattle.spdx_list.specs.Files.{ExtraRows, extras_in}
+use Rattle.list_program.specs.declared.trouble.ListTrouble.{ListTrouble}
+use Rattle.list_program.specs.declared.trouble.ListTrouble.TheVariants as trouble
+use Rattle.list_program.specs.Named.{InsideBytes, IsNamedList}
+use Rattle.list_program.specs.Troubles.{AreNoExtras, IsNoNamedList}
+use Rattle.list_told.specs.declared.shown.Asked.{Asked}
+use Rattle.list_told.specs.declared.shown.Shown.{Shown}
+use Rattle.list_told.specs.declared.unlisted.Unlisted.{Unlisted}
+use Rattle.list_told.specs.Texts.{AreTexts}
+use Rattle.list_told.specs.Told.{IsTextOf, names_text}
+use Rattle.list_told.specs.Unlisted.{IsListed, is_unlisted, unlisted_by, unlisted_row}
+
+-- of each name its row, and of each that the list hasn't what is told
+pub record AreShown (c : Rows) (x : ExtraRows) (names : List (List ℕ)) (shown : Shown) : Type 0 where
+  pub rows_are : AreTexts (IsTextOf c x) names shown.text.items
+  pub unlisted_are :
+      map unlisted_row shown.unlisted.items ≡ map (unlisted_by c) (filter (is_unlisted c) names)
+
+-- without names, all of them
+pub record AreAllShown (c : Rows) (shown : Shown) : Type 0 where
+  pub text_is : shown.text.items ≡ names_text c
+  pub unlisted_are : shown.unlisted.items ≡ []
+
+abbrev pub IsShownBy : Rows → List ℕ → List (List ℕ) → Shown → Type 0
+IsShownBy c heirs [] shown = AreAllShown c shown
+IsShownBy c heirs (name ∷ names) shown =
+    (x : ExtraRows) × (extras_in heirs ≡ Ok x) × AreShown c x (name ∷ names) shown
+
+-- by the list that is named, or else is inside
+pub record IsShown (s : Shelved) (inside : InsideBytes) (heirs : List ℕ) (a : Asked)
+    (shown : Shown) : Type 0 where
+  pub catalogue : Rows
+  pub list_is : IsNamedList s inside (option_copied a.list) catalogue
+  pub shown_is : IsShownBy catalogue heirs (nows a.names.now) shown
+
+-- why nothing is told by a list: the heirs, for which nobody asks without names, aren't readable
+abbrev pub AreNoHeirs : List ℕ → List (List ℕ) → ListTrouble → Type 0
+AreNoHeirs heirs [] t = t ≡ trouble.Memory
+AreNoHeirs heirs (name ∷ names) t = AreNoExtras heirs t
+
+-- why nothing is told
+abbrev pub IsNotShown : Shelved → InsideBytes → List ℕ → Asked → ListTrouble → Type 0
+IsNotShown s inside heirs a t =
+    IsNoNamedList s inside (option_copied a.list) t
+    ⊎ ((c : Rows) × IsNamedList s inside (option_copied a.list) c
+    × AreNoHeirs heirs (nows a.names.now) t)
+
+abbrev pub status_by : List Unlisted → ℕ
+status_by [] = 0
+status_by (u ∷ us) = 2
+
+abbrev pub status_of : Shown → ℕ
+status_of shown = status_by shown.unlisted.items
+
+-- the status is 0 exactly if the list that is read has each of the names
+pub record TellsListed (s : Shelved) (inside : InsideBytes) (a : Asked) (shown : Shown) :
+    Type 0 where
+  pub catalogue : Rows
+  pub list_is : IsNamedList s inside (option_copied a.list) catalogue
+  pub listed : (status_of shown ≡ 0) ↔ All (IsListed catalogue) (nows a.names.now)

@@ -1,0 +1,54 @@
+-- What a list says of names.
+use Rattle.std.specs.Prelude.{◌≡◌, ℕ, List, [], ◌++◌, Option, None, Some, codes, flat_map, map}
+use Rattle.spdx_requirement.specs.Rows.{ExceptionRow, LicenseRow, Rows, exception_name, license_name}
+use Rattle.spdx_requirement.specs.Flags.{is_deprecated}
+use Rattle.spdx_catalogue.specs.LookUps.{listed_caseless, listed_exception_caseless}
+use Rattle.spdx_list.specs.Files.{ExtraRows}
+use Rattle.list_told.specs.Flags.{exception_flags, flags_line, license_flags}
+use Rattle.list_told.specs.Heirs.{IsHeirIf}
+
+-- ---- without names
+
+abbrev pub name_line : List ℕ → List ℕ
+name_line name = name ++ codes "\n"
+
+-- the version, and each name a line
+unfoldable pub names_text : Rows → List ℕ
+names_text c =
+    codes "SPDX license list " ++ (c.version ++ (codes "\n" ++
+    (flat_map name_line (map license_name c.licenses) ++
+    flat_map name_line (map exception_name c.exceptions))))
+
+-- ---- of a name
+
+abbrev pub heir_line : Option (List ℕ) → List ℕ
+heir_line None = []
+heir_line (Some heir) = codes "  write: " ++ (heir ++ codes "\n")
+
+unfoldable pub license_text : LicenseRow → Option (List ℕ) → List ℕ
+license_text r heir =
+    r.name ++ (codes "\n  name: " ++ (r.full_name ++ (codes "\n" ++
+    (flags_line (license_flags r) ++ heir_line heir))))
+
+unfoldable pub exception_line : List ℕ
+exception_line = codes "\n  an exception, written behind WITH\n"
+
+unfoldable pub exception_text : ExceptionRow → List ℕ
+exception_text r = r.name ++ (exception_line ++ flags_line (exception_flags r))
+
+-- where the licence is deprecated, what to write in place of its name
+pub record IsLicenseText (c : Rows) (x : ExtraRows) (r : LicenseRow) (text : List ℕ) : Type 0 where
+  pub heir : Option (List ℕ)
+  pub heir_is : IsHeirIf (is_deprecated r.flags) c x r.name heir
+  pub text_is : text ≡ license_text r heir
+
+-- the row of the licence, else of the exception; nothing where the list has neither
+abbrev pub IsTextBy : Rows → ExtraRows → Option LicenseRow → Option ExceptionRow → List ℕ → Type 0
+IsTextBy c x (Some r) e text = IsLicenseText c x r text
+IsTextBy c x None (Some e) text = text ≡ exception_text e
+IsTextBy c x None None text = text ≡ []
+
+-- the name stands in the list in some case
+abbrev pub IsTextOf : Rows → ExtraRows → List ℕ → List ℕ → Type 0
+IsTextOf c x name text =
+    IsTextBy c x (listed_caseless c.licenses name) (listed_exception_caseless c.exceptions name) text

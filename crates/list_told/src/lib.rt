@@ -1,0 +1,21 @@
+//! The command `spdx list show` over a shelf of files: what a list says of names.
+//!
+//! ```rust
+//! // crates/spdx_program/src/show.rt
+//! let shown = list_told::show(alloc, &shelf, inside(), HEIRS.as_bytes(), asked)?;
+//! ```
+//!
+//! It stands on `list_program`, `spdx_list`, `spdx_fix` and `spdx_hints`.
+#![tactic(auto)]
+
+mod extras;
+mod flags;
+pub mod heirs;
+mod names;
+mod rows;
+pub mod shown;
+pub mod unlisted;
+
+pub use crate::heirs::heir;
+pub use crate::shown::{Asked, Shown, show};
+pub use crate::unlisted::Unlisted;

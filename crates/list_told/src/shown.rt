@@ -1,0 +1,125 @@
+//! What a list says of names, as it is told.
+
+ghost use Rattle.std.specs.Prelude.{◌≡◌, IfErr, IfOk};
+ghost use Rattle.spdx_list.specs.Diff.{nows};
+ghost use Rattle.spdx_list.specs.Shown.{shown_extras};
+ghost use Rattle.list_program.specs.Named.{inside_of};
+ghost use Rattle.list_told.specs.Shown as spec;
+ghost use Rattle.list_told.specs.Shown.{
+  AreAllShown,
+  AreNoHeirs,
+  AreShown,
+  IsNotShown,
+  IsShown,
+  IsShownBy,
+  TellsListed,
+  status_of,
+};
+
+use crate::extras::extras_in;
+use crate::names::names_text;
+use crate::rows::rows_text;
+use crate::unlisted::{Unlisted, unlisted_among};
+use list_program::{Inside, ListTrouble, named_list};
+use shelves::Shelf;
+use spdx_catalogue::Catalogue;
+use spdx_list::Extras;
+use std::alloc::{AllocError, Global};
+
+/// What is asked.
+#[derive(Clone, Copy)]
+pub struct Asked<'a> {
+    /// The path of the list, where one is named.
+    pub list: Option<&'a str>,
+    /// The names; where there are none, all of the list are told.
+    pub names: &'a [&'a str],
+}
+
+/// What is told.
+#[derive(Drop)]
+pub struct Shown {
+    /// What the list says of the names that it has.
+    pub text: Vec<u8>,
+    /// The other names, in their order.
+    pub unlisted: Vec<Unlisted>,
+}
+
+impl Shown {
+    /// The status: 0 exactly if the list has each of the names, else 2.
+    pub fn status(&self) -> u8
+        ensures { result ≡ status_of self.now }
+    {
+        if self.unlisted.is_empty() { 0 } else { 2 }
+    }
+}
+
+/// Tells what the list that is named says of the names, in whatever case its own are written; without names, its version
+/// and all of its names. What to write in place of deprecated names is said by `heirs`, where they can't be mended.
+///
+/// # Errors
+///
+/// The list isn't had; there are names, and the heirs are no extras; or memory was refused.
+pub fn show<S: Shelf>(
+    alloc: Global,
+    shelf: &S,
+    inside: Inside<'_>,
+    heirs: &[u8],
+    asked: Asked<'_>,
+) -> Result<Shown, ListTrouble>
+    ensures ok { IfOk result (IsShown (S.told shelf.now)
+        (inside_of inside.entry.list.now inside.entry.extras.now) heirs.now asked.entry) }
+    ensures err { IfErr result (IsNotShown (S.told shelf.now)
+        (inside_of inside.entry.list.now inside.entry.extras.now) heirs.now asked.entry) }
+    ensures listed { IfOk result (TellsListed (S.told shelf.now)
+        (inside_of inside.entry.list.now inside.entry.extras.now) asked.entry) }
+{
+    let catalogue = named_list(alloc, shelf, inside, asked.list)?;
+    let shown = shown_by(alloc, &catalogue, heirs, asked.names)?;
+    Ok(shown)
+}
+
+// The same by this list.
+fn shown_by(
+    alloc: Global,
+    catalogue: &Catalogue,
+    heirs: &[u8],
+    names: &[&str],
+) -> Result<Shown, ListTrouble>
+    ensures ok { IfOk result (IsShownBy catalogue.now heirs.now (nows names.now)) }
+    ensures err { IfErr result (AreNoHeirs heirs.now (nows names.now)) }
+{
+    match names {
+        [] => {
+            let shown = all_shown(alloc, catalogue)?;
+            Ok(shown)
+        }
+        [_, ..] => {
+            let extras = extras_in(alloc, heirs)?;
+            let shown = each_shown(alloc, catalogue, &extras, names)?;
+            Ok(shown)
+        }
+    }
+}
+
+fn all_shown(alloc: Global, catalogue: &Catalogue) -> Result<Shown, AllocError>
+    ensures { IfOk result (AreAllShown catalogue.now) }
+{
+    Ok(Shown {
+        text: names_text(alloc, catalogue)?,
+        unlisted: Vec::new(alloc),
+    })
+}
+
+fn each_shown(
+    alloc: Global,
+    catalogue: &Catalogue,
+    extras: &Extras,
+    names: &[&str],
+) -> Result<Shown, AllocError>
+    ensures { IfOk result (AreShown catalogue.now (shown_extras extras.now) (nows names.now)) }
+{
+    Ok(Shown {
+        text: rows_text(alloc, catalogue, extras, names)?,
+        unlisted: unlisted_among(alloc, catalogue, names)?,
+    })
+}
