@@ -1,3 +1,4 @@
 pub mod Behind
 pub mod Succeeding
 pub mod Listing
+pub mod Lines

@@ -4,3 +4,5 @@ pub mod Texts
 pub mod Told
 pub mod Unlisted
 pub mod Shown
+pub mod Changes
+pub mod Diffs

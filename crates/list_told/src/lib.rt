@@ -1,4 +1,5 @@
-//! The command `spdx list show` over a shelf of files: what a list says of names.
+//! The commands `spdx list show` and `spdx list diff` over a shelf of files: what a list says of names, and by what it
+//! differs from an older one.
 //!
 //! ```rust
 //! // crates/spdx_program/src/show.rt
@@ -8,14 +9,18 @@
 //! It stands on `list_program`, `spdx_list`, `spdx_fix` and `spdx_hints`.
 #![tactic(auto)]
 
+mod changes;
+pub mod differing;
 mod extras;
 mod flags;
 pub mod heirs;
 mod names;
+mod parts;
 mod rows;
 pub mod shown;
 pub mod unlisted;
 
+pub use crate::differing::{Lists, diff};
 pub use crate::heirs::heir;
 pub use crate::shown::{Asked, Shown, show};
 pub use crate::unlisted::Unlisted;

@@ -2,7 +2,7 @@
 
 use crate::system::System;
 use crate::trouble::Trouble;
-use list_program::{Inside, list_at, named_list};
+use list_program::{Inside, named_list};
 use shelves::SystemShelf;
 use spdx::{Catalogue, Failure, ParseMode};
 pub(crate) use spdx_known::HEIRS;
@@ -27,11 +27,6 @@ pub(crate) fn inside() -> Inside<'static> {
 /// names so; else the one inside the program. Where `SPDX_LIST` is there and can't be read, that is a trouble.
 pub(crate) fn catalogue<R: System>(rt: &R, path: Option<&str>) -> Result<Catalogue, Trouble> {
     Ok(named_list(rt.alloc(), &SystemShelf::new(rt), inside(), path)?)
-}
-
-/// The list at the path.
-pub(crate) fn catalogue_at<R: System>(rt: &R, path: &str) -> Result<Catalogue, Trouble> {
-    Ok(list_at(rt.alloc(), &SystemShelf::new(rt), EXTRAS.as_bytes(), path)?)
 }
 
 /// How expressions are read.

@@ -1,6 +1,6 @@
 //! The rows of what is read over a shelf of values: which list, which packages, what the gate
-//! says of them, what changed between two lists of them, how two expressions compare, what each line means, and
-//! what a list says of names.
+//! says of them, what changed between two lists of them, how two expressions compare, what each line means, what a
+//! list says of names, and by what two lists differ.
 //!
 //! Each part has its rows in a file that lies where the program runs, NAME.rows, and is told behind a line `== PART`: those
 //! that don't hold, then how many do. The head of each module has the form of its rows.
@@ -9,6 +9,7 @@
 mod compares;
 mod diffs;
 mod gates;
+mod list_diffs;
 mod lists;
 mod packages;
 mod shelf;
@@ -42,6 +43,9 @@ fn start(rt: &HostRuntime) -> io::Result<u8> {
     shown.push_str("== shows\n")?;
     let rows = fs::read_to_string(rt, "shows.rows")?;
     let are_shows_good = shows::try_rows(rt.alloc(), &mut shown, rows.as_str())?;
+    shown.push_str("== list diffs\n")?;
+    let rows = fs::read_to_string(rt, "list_diffs.rows")?;
+    let are_list_diffs_good = list_diffs::try_rows(rt.alloc(), &mut shown, rows.as_str())?;
     io::writer(rt).write_all(shown.as_bytes())?;
     let are_good = are_lists_good
         && are_packages_good
@@ -49,7 +53,8 @@ fn start(rt: &HostRuntime) -> io::Result<u8> {
         && are_diffs_good
         && are_compares_good
         && are_simplifies_good
-        && are_shows_good;
+        && are_shows_good
+        && are_list_diffs_good;
     Ok(u8::from(!are_good))
 }
 

@@ -1,8 +1,9 @@
 // What a list says of names, over a shelf of values.
 //
-// The first rows are the shelf's files, as `shelf` reads them. A row `show LIST | NAME | .. => WANTED`, where `-` is the list inside,
-// has the status and what is told, with ` / ` between lines, and behind it each name that isn't listed with what is told of it, in
-// brackets; or why nothing is told. In a row `unread LIST | ..` what is to stand in the place of deprecated names isn't readable.
+// The first rows are the shelf's files, as `shelf` reads them. A row `show LIST | NAME | .. => WANTED`, where `-` is the list
+// inside, has the status and what is told, with ` / ` between lines, and behind it each name that isn't listed with what is told
+// of it, in brackets; or why nothing is told. In a row `unread LIST | ..` what is to stand in the place of deprecated names isn't
+// readable.
 
 use crate::shelf::{HEIRS, inside, lines_of, shelf_of};
 use list_program::ListTrouble;
