@@ -25,11 +25,14 @@ rows_shown a =
 abbrev pub IsIndexed : {A : Type 0} → (A → Option (List ℕ)) → List A → Option Index → Type 0
 IsIndexed keyed rows index = IfSome index (λ (i : Index). IsIndexOf keyed rows i.codes.items)
 
+-- an index of licences by their names
+abbrev pub IsLicenseIndex : List License → Option Index → Type 0
+IsLicenseIndex rows index = IsIndexed (λ (r : License). Some (string_bytes r.name)) rows index
+
 -- no row of a catalogue breaks a rule, and its indices are of its rows
 pub record IsWellFormed (a : Inside) : Type 0 where
   pub rules : IsTrue (is_well_formed (rows_shown a))
-  pub licenses : IsIndexed (λ (r : License). Some (string_bytes r.name)) a.licenses.items
-      a.license_index
+  pub licenses : IsLicenseIndex a.licenses.items a.license_index
   pub exceptions : IsIndexed (λ (r : Exception). Some (string_bytes r.name)) a.exceptions.items
       a.exception_index
   pub prefixes : IsIndexed (λ (r : ImpreciseName). whole_front (string_bytes r.prefix))

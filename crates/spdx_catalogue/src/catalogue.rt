@@ -71,11 +71,17 @@ impl Catalogue {
               imprecise = map imprecise_of imprecise.items;
             }) }
     {
-        match first_fault(version.as_str(), &licenses, &exceptions, &imprecise) {
+        let alloc = *licenses.allocator();
+        let license_index = index_of(alloc, &licenses);
+        match first_fault(
+            version.as_str(),
+            &licenses,
+            &license_index,
+            &exceptions,
+            &imprecise,
+        ) {
             Some(fault) => Err(fault),
             None => {
-                let alloc = *licenses.allocator();
-                let license_index = index_of(alloc, &licenses);
                 let exception_index = index_of(alloc, &exceptions);
                 let prefix_index = index_of(alloc, &imprecise);
                 Ok(Catalogue {

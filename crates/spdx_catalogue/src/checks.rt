@@ -2,14 +2,15 @@
 
 ghost use Rattle.std.specs.Prelude.{◌≡◌, ◌+◌, ◌<◌, ◌≤◌, option_map, is_some, length, map, slice_get};
 ghost use Rattle.spdx_catalogue.specs.LookUps.{listed};
-ghost use Rattle.spdx_catalogue.specs.Ascent.{Ascends};
+ghost use Rattle.spdx_catalogue.specs.CatalogueModel.{IsLicenseIndex};
 ghost use Rattle.std.specs.Option.{option_copied};
-ghost use Rattle.spdx_requirement.specs.Rows.{row_of, exception_of, imprecise_of, license_name};
+ghost use Rattle.spdx_requirement.specs.Rows.{row_of, exception_of, imprecise_of};
 ghost use Rattle.spdx_catalogue.specs.RowRules.{imprecise_row_rules, first_fault};
 ghost use Rattle.spdx_catalogue.specs.RowChecks.{first_broken, rules_at, imprecise_rules, all_below, before};
 
 use crate::error::CatalogueError;
-use crate::halving::{named, row_at};
+use crate::halving::row_at;
+use crate::index::{Index, license_named};
 use crate::row::Row;
 use spdx_requirement::row::{Exception, ImpreciseName, License};
 
@@ -44,26 +45,27 @@ fn rows_fault<R: Row>(rows: &[R]) -> Option<CatalogueError>
     None
 }
 
-fn is_listed(rows: &[License], name: &str) -> bool
-    requires { Ascends license_name (map row_of rows.now) }
+fn is_listed(rows: &[License], index: &Option<Index>, name: &str) -> bool
+    requires { IsLicenseIndex rows.now index.now }
     ensures { result ≡ is_some (listed (map row_of rows.now) name.now) }
 {
-    named(rows, name.as_bytes()).is_some()
+    license_named(rows, index, name.as_bytes()).is_some()
 }
 
 fn imprecise_row_fault(
     licenses: &[License],
+    index: &Option<Index>,
     name: &ImpreciseName,
     row: usize,
 ) -> Option<CatalogueError>
-    requires { Ascends license_name (map row_of licenses.now) }
+    requires { IsLicenseIndex licenses.now index.now }
     ensures { result ≡ first_broken
         (imprecise_row_rules (map row_of licenses.now) row (imprecise_of name.now)) }
 {
     if name.prefix.as_str().is_empty() {
         return Some(CatalogueError::EmptyPrefix(row));
     }
-    if !is_listed(licenses, name.name.as_str()) {
+    if !is_listed(licenses, index, name.name.as_str()) {
         return Some(CatalogueError::UnlistedTarget(row));
     }
     None
@@ -71,24 +73,29 @@ fn imprecise_row_fault(
 
 fn imprecise_fault(
     licenses: &[License],
+    index: &Option<Index>,
     rows: &[ImpreciseName],
     row: usize,
 ) -> Option<CatalogueError>
-    requires { Ascends license_name (map row_of licenses.now) }
+    requires { IsLicenseIndex licenses.now index.now }
     ensures { result ≡ first_broken
         (imprecise_rules (map row_of licenses.now) (map imprecise_of rows.now) row) }
 {
-    imprecise_row_fault(licenses, rows.get(row)?, row)
+    imprecise_row_fault(licenses, index, rows.get(row)?, row)
 }
 
-fn imprecises_fault(licenses: &[License], rows: &[ImpreciseName]) -> Option<CatalogueError>
-    requires { Ascends license_name (map row_of licenses.now) }
+fn imprecises_fault(
+    licenses: &[License],
+    index: &Option<Index>,
+    rows: &[ImpreciseName],
+) -> Option<CatalogueError>
+    requires { IsLicenseIndex licenses.now index.now }
     ensures { result ≡ first_broken
         (all_below (imprecise_rules (map row_of licenses.now) (map imprecise_of rows.now))
         (length rows.now)) }
 {
     for row in 0..rows.len() {
-        match imprecise_fault(licenses, rows, row) {
+        match imprecise_fault(licenses, index, rows, row) {
             Some(fault) => return Some(fault),
             None => {}
         }
@@ -96,13 +103,15 @@ fn imprecises_fault(licenses: &[License], rows: &[ImpreciseName]) -> Option<Cata
     None
 }
 
-/// The rule that is broken first: by list, then row, then rule.
+/// The rule that is broken first: by list, then row, then rule. The index is of the licences.
 pub(crate) fn first_fault(
     version: &str,
     licenses: &[License],
+    index: &Option<Index>,
     exceptions: &[Exception],
     imprecise: &[ImpreciseName],
 ) -> Option<CatalogueError>
+    requires { IsLicenseIndex licenses.now index.now }
     ensures { result
         ≡ first_fault (record {
           version = version.now;
@@ -115,7 +124,7 @@ pub(crate) fn first_fault(
         Some(fault) => Some(fault),
         None => match rows_fault(exceptions) {
             Some(fault) => Some(fault),
-            None => imprecises_fault(licenses, imprecise),
+            None => imprecises_fault(licenses, index, imprecise),
         },
     }
 }

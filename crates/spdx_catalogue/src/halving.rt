@@ -1,4 +1,4 @@
-// Rows by name: those whose names ascend are searched by halving.
+// Rows by name: those whose names ascend are searched by halving, where no name is at hand whose key an index has.
 
 ghost use Rattle.std.specs.Prelude.{◌≡◌, ◌++◌, ◌<◌, option_map, slice_get, map, find, bytes_eq};
 ghost use Rattle.std.specs.Option.{option_copied};
@@ -11,18 +11,6 @@ pub(crate) fn row_at<R: Row>(rows: &[R], at: usize) -> Option<&R>
     ensures { option_map R.shown (option_copied result) ≡ slice_get (map R.shown rows.now) at }
 {
     rows.get(at)
-}
-
-/// The row of that name.
-pub(crate) fn named<'c, R: Row>(rows: &'c [R], name: &[u8]) -> Option<&'c R>
-    requires { Ascends R.name_of (map R.shown rows.now) }
-    ensures { option_map R.shown (option_copied result)
-        ≡ find (λ r. bytes_eq (R.name_of r) name.now) (map R.shown rows.now) }
-{
-    match rows.binary_search_by(|row| row.name().as_bytes().cmp(name)) {
-        Ok(place) => row_at(rows, place),
-        Err(_) => None,
-    }
 }
 
 /// The row whose name is the front and the ending.

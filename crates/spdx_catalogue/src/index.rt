@@ -1,12 +1,13 @@
 // Rows by a key of their names: only those with the key of what is looked for are compared with it.
 
-ghost use Rattle.std.specs.Prelude.{◌≡◌, ℕ, slice_index, ◌<◌, ◌≤◌, ◌^◌, List, Option, Some, true, IfSome, find, length, string_bytes};
+ghost use Rattle.std.specs.Prelude.{◌≡◌, ℕ, slice_index, ◌<◌, ◌≤◌, ◌^◌, List, Option, Some, true, IfSome, find, length, map, option_map, string_bytes};
 ghost use Rattle.std.specs.Option.{option_copied};
 ghost use Rattle.std.specs.List.Sorted.{IsNonDecreasing};
 ghost use Rattle.std.specs.Bool.{OnTrue};
 ghost use Rattle.spdx_catalogue.specs.Index as spec;
-ghost use Rattle.spdx_catalogue.specs.CatalogueModel.{IsIndexed};
-ghost use Rattle.spdx_requirement.specs.Rows.{imprecise_of};
+ghost use Rattle.spdx_catalogue.specs.CatalogueModel.{IsIndexed, IsLicenseIndex};
+ghost use Rattle.spdx_catalogue.specs.LookUps.{listed};
+ghost use Rattle.spdx_requirement.specs.Rows.{imprecise_of, row_of};
 
 use crate::names::begins_caseless;
 use spdx_requirement::row::{Exception, ImpreciseName, License};
@@ -128,14 +129,16 @@ fn bucket(key: u32, buckets: usize) -> usize {
     (u64::from(key).wrapping_mul(buckets as u64) / SPAN) as usize
 }
 
-// Of each bucket where its codes begin.
+// Of each bucket where its codes begin, or those of the next bucket that has some.
 fn starts_of(alloc: Global, codes: &[u64]) -> Option<Vec<u32>> {
     let mut starts = Vec::with_capacity(alloc, codes.len()).ok()?;
-    for place in 0..codes.len() {
-        let start = codes.partition_point(|code| {
-            bucket((*code / SPAN) as u32, codes.len()) < place
-        });
-        starts.push(u32::try_from(start).ok()?).ok()?;
+    for (place, code) in codes.iter().enumerate() {
+        let own = bucket((*code / SPAN) as u32, codes.len());
+        if starts.len() <= own {
+            starts
+                .resize(own.saturating_add(1), u32::try_from(place).ok()?)
+                .ok()?;
+        }
     }
     Some(starts)
 }
@@ -233,6 +236,18 @@ fn first_indexed<'c, R: Keyed>(rows: &'c [R], index: &Index, sought: Sought<'_>)
         }
     }
     None
+}
+
+/// The licence of that name, of which nothing is taken off.
+pub(crate) fn license_named<'c>(
+    rows: &'c [License],
+    index: &Option<Index>,
+    name: &[u8],
+) -> Option<&'c License>
+    requires { IsLicenseIndex rows.now index.now }
+    ensures { option_map row_of (option_copied result) ≡ listed (map row_of rows.now) name.now }
+{
+    first(rows, index, Sought::Named(name))
 }
 
 /// The first row that fits. Where there is no index, a walk over the rows. It is inlined, so that

@@ -9,7 +9,7 @@ ghost use Rattle.spdx_catalogue.specs.LookUps.{listed, listed_exception, listed_
 
 use crate::catalogue::Catalogue;
 use crate::halving::joined;
-use crate::index::{Sought, first};
+use crate::index::{Sought, first, license_named};
 use crate::names::without_plus;
 use spdx_requirement::endings::{ending, has_suffix};
 use spdx_requirement::id::{ExceptionId, LicenseId};
@@ -19,7 +19,7 @@ impl Catalogue {
     fn license_named(&self, name: &[u8]) -> Option<&License>
         ensures { option_map row_of (option_copied result) ≡ listed self.now.licenses name.now }
     {
-        first(&self.licenses, &self.license_index, Sought::Named(name))
+        license_named(&self.licenses, &self.license_index, name)
     }
 
     fn license_joined(&self, front: &[u8], ending: &[u8]) -> Option<&License>

@@ -8,11 +8,6 @@ use Rattle.spdx_catalogue.proofs.Mapped.{length_map}
 use Rattle.spdx_catalogue.proofs.Ascending.{licenses_ascend}
 use Rattle.spdx_catalogue.proofs.checks.first_fault.Goals as goal
 
-pub imprecises_fault-requires : goal.imprecises_fault-requires
-imprecises_fault-requires c =
-    let ls = map row_of c.args.licenses.now in
-    licenses_ascend ls (rw (length_map row_of c.args.licenses.now) (sym c.in-None.ensures))
-
 pub returns-in-Some : goal.returns-in-Some
 returns-in-Some c =
     let ls = map row_of c.args.licenses.now in
