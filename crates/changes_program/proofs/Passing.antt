@@ -17,12 +17,12 @@ use Rattle.package_files.specs.Listed.{IsListedAt}
 use Rattle.package_files.proofs.Each.{whole}
 use Rattle.spdx_policy.specs.Rules.{Rules}
 use Rattle.spdx_gate.specs.Verdicts.{passes}
-use Rattle.license_changes.specs.declared.change.LicenseChange.{LicenseChange}
-use Rattle.license_changes.specs.declared.change.LicenseChange.TheVariants as change
-use Rattle.license_changes.specs.Changing.{IsLicenseChange}
+use Rattle.package_changes.specs.declared.change.LicenseChange.{LicenseChange}
+use Rattle.package_changes.specs.declared.change.LicenseChange.TheVariants as change
+use Rattle.package_changes.specs.Changing.{IsLicenseChange}
 use Rattle.package_changes.specs.Rows.{ChangeRow, Row, came, stayed, went}
-use Rattle.change_forms.specs.declared.forms.Form.{Form}
-use Rattle.change_forms.specs.declared.tellings.Telling.{Telling}
+use Rattle.package_changes.specs.declared.forms.Form.{Form}
+use Rattle.package_changes.specs.declared.tellings.Telling.{Telling}
 use Rattle.gate_program.specs.Policy.{IsPolicyAt}
 use Rattle.gate_program.specs.Run.{IsAllowed}
 use Rattle.changes_program.specs.declared.run.Request.{Request}

@@ -16,7 +16,7 @@ use Rattle.spdx_gate.specs.Verdicts.{passes}
 use Rattle.gate_program.specs.Files.{moved_package}
 use Rattle.gate_program.proofs.Asking.{drop_end}
 use Rattle.package_changes.specs.Rows.{Row}
-use Rattle.change_forms.specs.declared.tellings.Telling.{Telling}
+use Rattle.package_changes.specs.declared.tellings.Telling.{Telling}
 use Rattle.changes_program.specs.declared.said.Said.{Said}
 use Rattle.changes_program.specs.Said.{SaidRow, said_row}
 use Rattle.changes_program.specs.Tellings.{AreTold, IsJudgedBy, IsMarkOf, judged_if, judged_of, moved_telling, row_at, telling_as, telling_of, tellings_from}

@@ -18,11 +18,11 @@ use Rattle.gate_program.specs.Policy.{IsNoPolicyAt, IsPolicyAt}
 use Rattle.gate_program.specs.Run.{IsAllowed}
 use Rattle.package_changes.specs.Rows.{ChangeRow, Row, came, stayed, went}
 use Rattle.package_changes.specs.Pairing.{changes}
-use Rattle.change_forms.specs.declared.forms.Form.{Form}
-use Rattle.change_forms.specs.declared.tellings.How.{How}
-use Rattle.change_forms.specs.declared.tellings.How.TheVariants as how
-use Rattle.change_forms.specs.declared.tellings.Telling.{Telling}
-use Rattle.change_forms.specs.Forms.{changes_text}
+use Rattle.package_changes.specs.declared.forms.Form.{Form}
+use Rattle.package_changes.specs.declared.tellings.How.{How}
+use Rattle.package_changes.specs.declared.tellings.How.TheVariants as how
+use Rattle.package_changes.specs.declared.tellings.Telling.{Telling}
+use Rattle.package_changes.specs.Forms.{changes_text}
 use Rattle.changes_program.specs.declared.run.Request.{Request}
 use Rattle.changes_program.specs.declared.run.Run.{Run}
 use Rattle.changes_program.specs.declared.run.Told.{Told}

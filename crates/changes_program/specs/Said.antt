@@ -3,18 +3,18 @@ use Rattle.std.specs.Prelude.{◌≡◌, ℕ, List, [], ◌∷◌, ◌++◌, Opt
 use Rattle.spdx_requirement.specs.Rows.{Rows}
 use Rattle.spdx_meaning.specs.declared.relation.Relation.{Relation}
 use Rattle.spdx_meaning.specs.declared.relation.Relation.TheVariants as relation
-use Rattle.spdx_compare.specs.declared.comparison.Comparison.{Comparison}
-use Rattle.license_changes.specs.declared.change.LicenseChange.{LicenseChange}
-use Rattle.license_changes.specs.declared.change.LicenseChange.TheVariants as change
-use Rattle.license_changes.specs.declared.reading.Untold.{Untold}
-use Rattle.license_changes.specs.declared.reading.Untold.TheVariants as untold
-use Rattle.license_changes.specs.Changing.{IsLicenseChange}
+use Rattle.spdx_meaning.specs.declared.comparison.Comparison.{Comparison}
+use Rattle.package_changes.specs.declared.change.LicenseChange.{LicenseChange}
+use Rattle.package_changes.specs.declared.change.LicenseChange.TheVariants as change
+use Rattle.package_changes.specs.declared.change.reading.Untold.{Untold}
+use Rattle.package_changes.specs.declared.change.reading.Untold.TheVariants as untold
+use Rattle.package_changes.specs.Changing.{IsLicenseChange}
 use Rattle.package_changes.specs.declared.package.Package.{Package}
 use Rattle.package_changes.specs.Rows.{ChangeRow, Row, came, row_of, stayed, went}
-use Rattle.change_forms.specs.declared.tellings.How.{How}
-use Rattle.change_forms.specs.declared.tellings.How.TheVariants as how
-use Rattle.change_forms.specs.declared.tellings.Reason.{Reason}
-use Rattle.change_forms.specs.declared.tellings.Reason.TheVariants as reason
+use Rattle.package_changes.specs.declared.tellings.How.{How}
+use Rattle.package_changes.specs.declared.tellings.How.TheVariants as how
+use Rattle.package_changes.specs.declared.tellings.Reason.{Reason}
+use Rattle.package_changes.specs.declared.tellings.Reason.TheVariants as reason
 use Rattle.changes_program.specs.declared.said.Said.{Said}
 
 -- how a package changed; what was enough before and isn't now, and the other way round; and why that

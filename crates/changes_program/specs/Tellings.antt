@@ -13,8 +13,8 @@ use Rattle.gate_told.specs.Borrowed.{borrowed}
 use Rattle.gate_told.specs.Moved.{moved_text}
 use Rattle.gate_program.specs.Files.{moved_package}
 use Rattle.package_changes.specs.Rows.{Row}
-use Rattle.change_forms.specs.declared.tellings.Release.{Release}
-use Rattle.change_forms.specs.declared.tellings.Telling.{Telling}
+use Rattle.package_changes.specs.declared.tellings.Release.{Release}
+use Rattle.package_changes.specs.declared.tellings.Telling.{Telling}
 use Rattle.changes_program.specs.Said.{SaidRow}
 
 -- ---- what a policy says

@@ -19,10 +19,9 @@ ghost use Rattle.changes_program.specs.Run.{
 use crate::packages::packages_of;
 use crate::said::said_of;
 use crate::tellings::told_of;
-use change_forms::{Form, How, Telling, put_changes};
 use gate_program::{GateTrouble, PolicyTrouble, policy_at};
 use list_program::{Inside, named_list};
-use package_changes::changes_between;
+use package_changes::{Form, How, Telling, changes_between, put_changes};
 use package_files::{AllListed, FileFault, Listed, Wanted, all_listed_at};
 use package_sources::Package;
 use shelves::Shelf;

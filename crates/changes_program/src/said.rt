@@ -5,12 +5,9 @@ ghost use Rattle.package_changes.specs.Rows.{change_row, row_of};
 ghost use Rattle.changes_program.specs.Said as spec;
 ghost use Rattle.changes_program.specs.Said.{AreSaid, IsOneMore, IsSaidChange, said_row};
 
-use change_forms::{How, Reason};
-use license_changes::{LicenseChange, Untold, license_change};
-use package_changes::{Change, Package};
+use package_changes::{Change, How, LicenseChange, Package, Reason, Untold, license_change};
 use spdx_catalogue::Catalogue;
-use spdx_compare::Comparison;
-use spdx_meaning::Relation;
+use spdx_meaning::{Comparison, Relation};
 use std::alloc::{AllocError, Global};
 
 /// What is said of a change.

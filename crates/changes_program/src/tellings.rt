@@ -14,8 +14,7 @@ ghost use Rattle.changes_program.specs.Tellings.{
 };
 
 use crate::said::Said;
-use change_forms::{Release, Telling};
-use package_changes::Package;
+use package_changes::{Package, Release, Telling};
 use spdx_catalogue::Catalogue;
 use spdx_gate::{Package as Judged, Report, Row, judge};
 use spdx_policy::Policy;

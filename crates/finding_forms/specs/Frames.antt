@@ -5,7 +5,7 @@ use Rattle.foreign_text.specs.declared.sinks.Sink.TheVariants.{Line}
 use Rattle.finding_forms.specs.declared.forms.Style.{Style}
 use Rattle.finding_forms.specs.declared.forms.Form.{Form}
 use Rattle.finding_forms.specs.declared.forms.Form.TheVariants.{Human, Short, Json, Github, Sarif}
-use Rattle.finding_forms.specs.declared.frames.Frame.{Frame}
+use Rattle.finding_forms.specs.declared.text.frames.Frame.{Frame}
 use Rattle.foreign_text.specs.Written.{text_for}
 use Rattle.finding_forms.specs.Finding.{Told}
 use Rattle.finding_forms.specs.Message.{message_text}

@@ -4,11 +4,11 @@ ghost use Rattle.std.specs.Prelude.{◌≡◌, ◌++◌, OnOk, OnErr};
 ghost use Rattle.finding_forms.specs.Finding.{told};
 ghost use Rattle.finding_forms.specs.Forms.{beginning, finding_text, ending};
 
-use crate::carets::put_human;
 use crate::findings::Finding;
 use crate::json_form::put_json;
-use crate::line_forms::{put_github, put_short};
 use crate::sarif_form::{put_sarif_beginning, put_sarif_ending, put_sarif_result};
+use crate::text::carets::put_human;
+use crate::text::line_forms::{put_github, put_short};
 use std::alloc::{AllocError, Global};
 
 /// Whether a terminal is told to colour what is written.

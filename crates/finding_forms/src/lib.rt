@@ -2,26 +2,22 @@
 //! and as a log of SARIF.
 #![tactic(auto)]
 
-mod carets;
-mod excerpt;
 mod findings;
 mod forms;
-mod frames;
 mod json_form;
-mod line_forms;
 mod messages;
-mod paint;
 mod rules;
 mod sarif_form;
+mod text;
 mod total_line;
 
-pub use carets::put_human;
-pub use excerpt::{put_carets_under, put_excerpt_line};
 pub use findings::{Finding, Help, Place, Sight};
 pub use forms::{Form, Style, put_beginning, put_ending, put_finding};
-pub use frames::{Frame, frame_of};
 pub use json_form::put_json;
-pub use line_forms::{put_github, put_short};
-pub use paint::{begin_paint, end_paint, put_painted};
 pub use sarif_form::{put_sarif_beginning, put_sarif_ending, put_sarif_result};
+pub use text::carets::put_human;
+pub use text::excerpt::{put_carets_under, put_excerpt_line};
+pub use text::frames::{Frame, frame_of};
+pub use text::line_forms::{put_github, put_short};
+pub use text::paint::{begin_paint, end_paint, put_painted};
 pub use total_line::put_totals;

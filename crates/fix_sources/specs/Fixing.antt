@@ -5,7 +5,7 @@ use Rattle.std.specs.List.{AllZip}
 use Rattle.std.specs.Str.{IsUtf8}
 use Rattle.spdx_requirement.specs.Rows.{Rows}
 use Rattle.spdx_lexer.specs.Modes.{strict}
-use Rattle.spdx_fix.specs.Fix.{Reads, IsFix}
+use Rattle.spdx_canonical.specs.Fix.{Reads, IsFix}
 use Rattle.fix_sources.specs.declared.Span.{Span}
 use Rattle.fix_sources.specs.Mending.{Marked, marked, Mends}
 use Rattle.fix_sources.specs.declared.FixedText.{FixedText}

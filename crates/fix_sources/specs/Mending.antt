@@ -3,7 +3,7 @@ use Rattle.std.specs.Prelude.{◌≡◌, ℕ, ◌+◌, ◌≤◌, List, [], ◌�
 use Rattle.std.specs.List.{flat_map}
 use Rattle.std.specs.Str.{IsUtf8}
 use Rattle.spdx_requirement.specs.Rows.{Rows}
-use Rattle.spdx_fix.specs.Fix.{IsFix, HasNoFix}
+use Rattle.spdx_canonical.specs.Fix.{IsFix, HasNoFix}
 use Rattle.fix_sources.specs.declared.Span.{Span}
 
 -- a text, and where expressions stand in it

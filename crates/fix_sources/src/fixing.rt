@@ -2,7 +2,7 @@
 
 ghost use Rattle.std.specs.Prelude.{◌≡◌, IfOk, true, false, All, Any, length};
 ghost use Rattle.spdx_lexer.specs.Modes.{strict};
-ghost use Rattle.spdx_fix.specs.Fix.{Reads};
+ghost use Rattle.spdx_canonical.specs.Fix.{Reads};
 ghost use Rattle.fix_sources.specs.Mending.{AreInOrder, marked};
 ghost use Rattle.fix_sources.specs.Spans.{line_spans, tag_spans};
 ghost use Rattle.fix_sources.specs.Fixing.{FixLaws, IsFixed, IsRead, IsRefused, text_at, texts_in};
@@ -89,7 +89,7 @@ fn fix_at(
     Ok(FixedText { bytes, is_left })
 }
 
-/// The text, with the expression of each line that has a fix (`spdx_fix::fix`) replaced by it, and no other byte changed. The
+/// The text, with the expression of each line that has a fix (`spdx_canonical::fix`) replaced by it, and no other byte changed. The
 /// expression of a line is the line without its newline and a carriage return before that (`spdx_check::expression_of`); a
 /// line of nothing but ASCII white space has none. What strict reading accepts stays, and so does what has no fix or is no
 /// UTF-8. Fixed again, with its expressions where they stand then, the text stays.

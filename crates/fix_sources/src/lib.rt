@@ -6,7 +6,7 @@
 //! let tagged = fix_tags(alloc, job.catalogue, path, text)?;
 //! ```
 //!
-//! It stands on `spdx_fix`, and on `spdx_check`, `check_sources` and `license_tags`, which say where the expressions are.
+//! It stands on `spdx_canonical`, and on `spdx_check`, `check_sources` and `license_tags`, which say where the expressions are.
 #![tactic(auto)]
 
 mod fixing;

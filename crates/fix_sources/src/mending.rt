@@ -4,8 +4,8 @@ ghost use Rattle.std.specs.Prelude.{◌≡◌, ◌+◌, ◌≤◌, ◌<◌, ◌^
 ghost use Rattle.fix_sources.specs.Mending.{marked, IsFixOfBytes, AreInOrder, Mends, IsSettled};
 
 use crate::{Mended, Span};
+use spdx_canonical::fix;
 use spdx_catalogue::Catalogue;
-use spdx_fix::fix;
 use std::alloc::{AllocError, Global};
 
 // The fix of bytes, which are no text perhaps.
@@ -51,7 +51,7 @@ fn put(mended: &mut Mended, text: &[u8], fix: Option<String>) -> Result<(), Allo
     Ok(())
 }
 
-/// The text with each expression that has a fix (`spdx_fix::fix`) replaced by it, and nothing else changed: `spans` says
+/// The text with each expression that has a fix (`spdx_canonical::fix`) replaced by it, and nothing else changed: `spans` says
 /// where its expressions stand. An expression whose bytes are no UTF-8 has no fix. `None` where the spans aren't in order,
 /// apart from one another and within the bytes; two may touch. Mended again, with the new spans, the text stays as it is.
 ///

@@ -6,3 +6,5 @@ pub mod Messages
 pub mod Safe
 pub mod Laws
 pub mod Headers
+pub mod PageLaws
+pub mod PageHeads

@@ -1,8 +1,8 @@
 -- The head of the page loads nothing, runs nothing and hides nothing.
 use Rattle.std.proofs.Common.{ℕ, List, [], ◌∷◌, ◌++◌, codes, refl}
-use Rattle.html_text.specs.Text.{page_text}
-use Rattle.html_text.specs.Style.{is_plain_style}
-use Rattle.html_text.specs.Head.{BeginsPlainly, policy}
+use Rattle.foreign_text.specs.PageText.{page_text}
+use Rattle.foreign_text.specs.PageStyle.{is_plain_style}
+use Rattle.foreign_text.specs.PageHead.{BeginsPlainly, policy}
 use Rattle.gate_forms.specs.declared.reports.Report.{Report}
 use Rattle.gate_forms.specs.declared.reports.Totals.{Totals}
 use Rattle.gate_forms.specs.Top.{page_style, page_top}

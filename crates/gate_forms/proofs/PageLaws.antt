@@ -1,8 +1,8 @@
 -- What texts of others add to the page is no markup.
 use Rattle.std.proofs.Common.{◌≡◌, ◌≢◌, ℕ, List, [], ◌∷◌, ◌++◌, Bool, true, false, cond, codes, decimal, flat_map, refl, sym, ap, ◌∙◌, append_assoc, arith}
 use Rattle.std.proofs.lemmas.Bool.Decides.{nat_tests}
-use Rattle.html_text.specs.Text.{HasNoMarkup, is_mark, page_text}
-use Rattle.html_text.proofs.Laws.{no_markup}
+use Rattle.foreign_text.specs.PageText.{HasNoMarkup, is_mark, page_text}
+use Rattle.foreign_text.proofs.PageLaws.{no_markup}
 use Rattle.foreign_text.specs.declared.sinks.Sink.TheVariants.{Line}
 use Rattle.gate_forms.specs.declared.reports.Node.{Node}
 use Rattle.gate_forms.specs.declared.reports.Verdict.{Verdict}

@@ -4,7 +4,7 @@ use Rattle.std.specs.Prelude.{bytes_eq, filter, not, if◌then◌else◌}
 use Rattle.std.specs.List.{list_any}
 use Rattle.finding_forms.specs.declared.forms.Style.{Style}
 use Rattle.gate_forms.specs.declared.reports.Report.{Report}
-use Rattle.gate_forms.specs.declared.refusals.Told.{Told}
+use Rattle.gate_forms.specs.declared.text.refusals.Told.{Told}
 use Rattle.gate_forms.specs.Report.{is_refused}
 use Rattle.gate_forms.specs.Human.{refused_lines}
 use Rattle.gate_forms.specs.Refusals.{told_text, is_same, also_line, refusal_text, refusals_from}

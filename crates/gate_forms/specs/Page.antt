@@ -1,7 +1,7 @@
 -- Verdicts as a page of HTML. How a text of others is put is a parameter, so that it can be said
 -- what such texts add.
 use Rattle.std.specs.Prelude.{ℕ, min, List, [], ◌∷◌, ◌++◌, Bool, nat_le, if◌then◌else◌, codes, decimal, flat_map}
-use Rattle.html_text.specs.Text.{is_mark}
+use Rattle.foreign_text.specs.PageText.{is_mark}
 use Rattle.foreign_text.specs.declared.sinks.Sink.TheVariants.{Line}
 use Rattle.gate_forms.specs.declared.reports.Baseline.{Baseline}
 use Rattle.gate_forms.specs.declared.reports.Baseline.TheVariants.{Absent, New, Known}

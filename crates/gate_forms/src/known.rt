@@ -3,8 +3,8 @@
 ghost use Rattle.std.specs.Prelude.{◌≡◌, ◌++◌, OnOk, OnErr, IfOk, filter, string_bytes};
 ghost use Rattle.gate_forms.specs.Known.{is_known, is_known_state, known_line, known_text, known_words};
 
-use crate::refusals::put_packages;
 use crate::reports::{Baseline, Report};
+use crate::text::refusals::put_packages;
 use crate::totals::put_counted;
 use foreign_text::{Sink, put_text};
 use std::alloc::{AllocError, Global};

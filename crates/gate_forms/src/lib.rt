@@ -2,32 +2,26 @@
 //! log of SARIF, and as a page of HTML. It knows nothing of licences.
 #![tactic(auto)]
 
-mod carets;
-mod human;
 mod json_form;
 mod known;
-mod lines;
 mod messages;
 mod page;
-mod pieces;
-mod refusals;
 mod reports;
 mod sarif_form;
 mod summary;
-mod top;
+mod text;
 mod totals;
-mod tree;
 
-pub use human::put_human;
 pub use json_form::put_json;
 pub use known::put_known;
-pub use lines::{put_github, put_short};
 pub use page::put_page;
-pub use refusals::put_refusals;
 pub use reports::{
     Advice, Baseline, Leaf, Mark, Need, Node, Part, Report, Summary, Totals, Verdict, Why,
 };
 pub use sarif_form::{put_sarif_beginning, put_sarif_ending, put_sarif_result};
 pub use summary::put_summary;
+pub use text::human::put_human;
+pub use text::lines::{put_github, put_short};
+pub use text::refusals::put_refusals;
+pub use text::tree::put_explained;
 pub use totals::{put_totals, put_unused};
-pub use tree::put_explained;

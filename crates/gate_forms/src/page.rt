@@ -1,15 +1,18 @@
 // The page of HTML.
 
 ghost use Rattle.std.specs.Prelude.{◌≡◌, ◌++◌, OnOk, OnErr, IfOk, flat_map};
-ghost use Rattle.html_text.specs.Head.{BeginsPlainly};
-ghost use Rattle.html_text.specs.Text.{page_text};
+ghost use Rattle.foreign_text.specs.PageHead.{BeginsPlainly};
+ghost use Rattle.foreign_text.specs.PageText.{page_text};
 ghost use Rattle.gate_forms.specs.Page.{allowed_part, allowed_section, expression_part, head_part, in_allowed, in_refused, in_unstated, item_sign, left_out, marks, news_part, page_with, refused_part, refused_section, title_part, tree_part, unstated_part, unstated_section, why_part};
 
-use crate::pieces::{
+pub(crate) mod pieces;
+pub(crate) mod top;
+
+use crate::page::pieces::{
     advice_words, package_words, put_decimal, put_element, put_node_item, verdict_words,
 };
+use crate::page::top::put_top;
 use crate::reports::{Baseline, Node, Report, Totals, Verdict, Why};
-use crate::top::put_top;
 use crate::totals::totals_words;
 use std::alloc::{AllocError, Global};
 

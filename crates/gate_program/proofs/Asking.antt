@@ -9,8 +9,8 @@ use Rattle.package_items.specs.declared.package.Package.{Package}
 use Rattle.spdx_gate.specs.declared.report.Report.{Report}
 use Rattle.spdx_gate.specs.declared.report.Row.{Row}
 use Rattle.gate_program.specs.declared.before.Asked.{Asked}
-use Rattle.gate_baseline.specs.declared.Refusal.{Refusal}
-use Rattle.gate_baseline.specs.Known.{is_known}
+use Rattle.gate_program.specs.declared.known.Refusal.{Refusal}
+use Rattle.gate_program.specs.Known.{is_known}
 use Rattle.package_files.specs.declared.listed.Listed.{Listed}
 use Rattle.gate_program.specs.Asked.{asked_at, asked_from, asked_of, lent, moved_asked, packages_in, refusal_in}
 use Rattle.gate_program.specs.Before.{AreKnown}

@@ -2,3 +2,4 @@ pub mod Zips
 pub mod Asking
 pub mod Law
 pub mod Runs
+pub mod Laws

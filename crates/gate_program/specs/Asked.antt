@@ -10,7 +10,7 @@ use Rattle.spdx_gate.specs.declared.judgement.Judgement.{Judgement}
 use Rattle.spdx_gate.specs.declared.report.Report.{Report}
 use Rattle.spdx_gate.specs.declared.report.Row.{Row}
 use Rattle.spdx_gate.specs.Verdicts.{passes}
-use Rattle.gate_baseline.specs.declared.Refusal.{Refusal}
+use Rattle.gate_program.specs.declared.known.Refusal.{Refusal}
 use Rattle.gate_told.specs.Borrowed.{borrowed}
 use Rattle.gate_told.specs.Moved.{moved_text}
 use Rattle.gate_program.specs.declared.before.Asked.{Asked}

@@ -3,7 +3,7 @@ use Rattle.std.specs.Prelude.{◌≡◌, Bool, List, map, filter}
 use Rattle.spdx_requirement.specs.Rows.{Rows}
 use Rattle.spdx_policy.specs.Rules.{Rules}
 use Rattle.spdx_gate.specs.declared.report.Report.{Report}
-use Rattle.gate_baseline.specs.Known.{is_known}
+use Rattle.gate_program.specs.Known.{is_known}
 use Rattle.gate_program.specs.declared.before.Asked.{Asked}
 use Rattle.gate_program.specs.declared.before.Before.{Before}
 use Rattle.package_files.specs.declared.listed.Listed.{Listed}

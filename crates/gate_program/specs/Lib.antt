@@ -7,3 +7,5 @@ pub mod Gated
 pub mod Texts
 pub mod Policy
 pub mod Run
+pub mod Known
+pub mod Sets

@@ -17,7 +17,7 @@ ghost use Rattle.gate_program.specs.Before.{AreKnown, IsBefore};
 ghost use Rattle.std.specs.Option.{option_copied};
 
 use crate::judging::judged;
-use gate_baseline::{Refusal, known_among};
+use crate::known::{Refusal, known_among};
 use package_files::Listed;
 use package_sources::{Package, Spot};
 use spdx_catalogue::Catalogue;

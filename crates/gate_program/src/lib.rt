@@ -8,12 +8,13 @@
 //! let run = gate_program::gate(alloc, &shelf, inside(), HEIRS.as_bytes(), asked)?;
 //! ```
 //!
-//! It stands on `list_program`, `package_files`, `gate_told`, `gate_baseline` and `spdx_gate`.
+//! It stands on `list_program`, `package_files`, `gate_told` and `spdx_gate`.
 #![tactic(auto)]
 
 pub mod before;
 pub mod gated;
 pub mod judging;
+pub mod known;
 mod named;
 pub mod policy;
 pub mod run;
@@ -23,6 +24,7 @@ pub mod told;
 pub use crate::before::{Before, name_of};
 pub use crate::gated::Gated;
 pub use crate::judging::view;
+pub use crate::known::{Refusal, known_among};
 pub use crate::policy::{PolicyTrouble, policy_at};
 pub use crate::run::{End, GateTrouble, Request, Run, gate};
 pub use crate::told::{GateText, Look, gate_text};

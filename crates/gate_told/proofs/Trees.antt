@@ -11,8 +11,8 @@ use Rattle.spdx_parser.specs.declared.node.Operator.TheVariants.{And, Or}
 use Rattle.spdx_parser.specs.Tree as tree
 use Rattle.spdx_parser.specs.Tree.{Tree, leaves, node_of, postfix}
 use Rattle.spdx_evaluation.specs.Truth.{joined}
-use Rattle.gate_told.specs.declared.reading.Waiting.{Waiting}
-use Rattle.gate_told.specs.declared.reading.Waiting.TheVariants.{Both, Left}
+use Rattle.gate_told.specs.declared.tree.reading.Waiting.{Waiting}
+use Rattle.gate_told.specs.declared.tree.reading.Waiting.TheVariants.{Both, Left}
 use Rattle.gate_told.specs.Shown.{AreOf, is_first_accepted, is_tree_accepted, leaf_node, operator_node, operator_part, shown_parts}
 use Rattle.gate_told.specs.Reading.{State, state, start, ended, read_node, read_back}
 

@@ -6,9 +6,9 @@ use Rattle.gate_forms.specs.declared.reports.Part.{Part}
 use Rattle.gate_forms.specs.declared.reports.Part.TheVariants as part
 use Rattle.spdx_parser.specs.Tree as tree
 use Rattle.spdx_evaluation.specs.Truth.{joined}
-use Rattle.gate_told.specs.declared.reading.Reading.{Reading}
-use Rattle.gate_told.specs.declared.reading.Waiting.{Waiting}
-use Rattle.gate_told.specs.declared.reading.Waiting.TheVariants.{Both, Left}
+use Rattle.gate_told.specs.declared.tree.reading.Reading.{Reading}
+use Rattle.gate_told.specs.declared.tree.reading.Waiting.{Waiting}
+use Rattle.gate_told.specs.declared.tree.reading.Waiting.TheVariants.{Both, Left}
 use Rattle.gate_told.specs.Shown.{is_leaf_accepted, operator_part}
 
 -- the leaves that weren't read, the last one first; the operators that wait, the innermost first;

@@ -5,7 +5,7 @@ use Rattle.spdx_requirement.specs.Rows.{Rows}
 use Rattle.spdx_lexer.specs.declared.error.Reason.{Reason}
 use Rattle.spdx_lexer.specs.declared.error.Reason.TheVariants.{UnknownLicense, UnknownException, UnknownTerm}
 use Rattle.spdx_lexer.specs.Faults.{fault_of, fault_text}
-use Rattle.spdx_fix.specs.Fix.{IsFixOf}
+use Rattle.spdx_canonical.specs.Fix.{IsFixOf}
 use Rattle.spdx_gate.specs.declared.judgement.Fault.{Fault}
 use Rattle.spdx_hints.specs.Hints.{hints_of}
 use Rattle.spdx_hints.specs.Phrase.{phrase_of}

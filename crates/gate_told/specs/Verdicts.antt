@@ -2,7 +2,7 @@
 use Rattle.std.specs.Prelude.{◌≡◌, ℕ, ◌+◌, List, ◌∷◌, [], ◌++◌, Bool, true, false, not, nat_le, bytes_eq, filter, flat_map, map, Some, if◌then◌else◌}
 use Rattle.std.specs.List.{list_any}
 use Rattle.json.specs.Json.{document}
-use Rattle.html_text.specs.Text.{page_text}
+use Rattle.foreign_text.specs.PageText.{page_text}
 use Rattle.finding_forms.specs.declared.forms.Style.{Style}
 use Rattle.finding_forms.specs.SarifLog.{log_of, log_text}
 use Rattle.gate_forms.specs.declared.reports.Report.{Report}

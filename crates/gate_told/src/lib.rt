@@ -17,7 +17,6 @@ mod entries;
 mod forms;
 mod needs;
 mod packages;
-mod reading;
 mod shown;
 mod totals;
 mod tree;

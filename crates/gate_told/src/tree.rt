@@ -5,7 +5,9 @@ ghost use Rattle.spdx_parser.specs.Tree.{Tree, node_of};
 ghost use Rattle.gate_told.specs.Shown.{AreOf, is_first_accepted, is_tree_accepted, shown_parts};
 ghost use Rattle.gate_told.specs.Reading.{read_back, start};
 
-use crate::reading::Reading;
+pub(crate) mod reading;
+
+use crate::tree::reading::Reading;
 use gate_forms::{Leaf, Node};
 use spdx_parser::node::ExprNode;
 use std::alloc::{AllocError, Global};

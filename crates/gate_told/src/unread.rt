@@ -16,8 +16,8 @@ ghost use Rattle.gate_told.specs.Unread.{
   unlisted_words,
 };
 
+use spdx_canonical::fix;
 use spdx_catalogue::Catalogue;
-use spdx_fix::fix;
 use spdx_gate::Fault;
 use spdx_hints::{hints, phrase};
 use spdx_lexer::error::Reason;

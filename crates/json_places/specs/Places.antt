@@ -1,37 +1,13 @@
 -- Where a text of a document stands.
 use Rattle.std.specs.Prelude.{◌≡◌, ◌≢◌, ℕ, ◌+◌, ◌≤◌, List, [], ◌∷◌, ◌++◌, Option, Some, length, drop, codes, slice_range, slice_get, IsSomeAnd, IfSome}
-use Rattle.std.specs.Fmt.{decimal}
 use Rattle.text_places.specs.declared.Span.{Span}
+use Rattle.text_places.specs.Marks.{mark_text, marked}
+use Rattle.text_places.specs.Order.{AreInOrder}
 use Rattle.serde_json.specs.Data.{Data, string}
 use Rattle.serde_json.specs.Read.{read}
 use Rattle.json_places.specs.declared.path.Step.{Step}
 use Rattle.json_places.specs.declared.path.Path.{Path}
 use Rattle.json_places.specs.Paths.{text_at}
-
--- the spans lie between these offsets, in order and apart from one another
-abbrev pub AreInOrder : ℕ → List Span → ℕ → Type 0
-AreInOrder low [] high = low ≤ high
-AreInOrder low (span ∷ spans) high =
-    (low ≤ span.start) × (span.start ≤ span.end) × AreInOrder span.end spans high
-
--- the text that marks a literal by its number, as `#7`
-abbrev pub mark_text : ℕ → List ℕ
-mark_text number = codes "#" ++ decimal number
-
--- the literal of that text
-abbrev pub mark : ℕ → List ℕ
-mark number = codes "\"" ++ (mark_text number ++ codes "\"")
-
--- the text from an offset on, with marks in place of the spans, the first of which has this number
-abbrev pub marked_from : ℕ → ℕ → List ℕ → List Span → List ℕ
-marked_from number offset text [] = drop offset text
-marked_from number offset text (span ∷ spans) =
-    slice_range text offset span.start ++
-    (mark number ++ marked_from (number + 1) span.end text spans)
-
--- the text with each span replaced by the mark of its own number
-abbrev pub marked : List ℕ → List Span → List ℕ
-marked text spans = marked_from 0 0 text spans
 
 -- once each of these spans is replaced by its mark, the document has at the path the mark of this
 -- one, which it had not before

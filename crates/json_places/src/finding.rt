@@ -4,14 +4,16 @@ ghost use Rattle.std.specs.Prelude.{◌≡◌, ◌≢◌, ◌≤◌, Some, true,
 ghost use Rattle.serde_json.specs.Data.{string};
 ghost use Rattle.serde_json.specs.Read.{read};
 ghost use Rattle.serde_json.specs.View.{view};
-ghost use Rattle.json_places.specs.Places.{AreInOrder, marked, Stands, ArePlaces};
+ghost use Rattle.json_places.specs.Places.{Stands, ArePlaces};
+ghost use Rattle.text_places.specs.Marks.{marked};
+ghost use Rattle.text_places.specs.Order.{AreInOrder};
 
 use crate::literals::literals;
-use crate::marks::{marked, number_of};
 use crate::path::{Path, text_at};
 use serde_json::Value;
 use std::alloc::{AllocError, Global};
 use text_places::Span;
+use text_places::marks::{marked, number_of};
 
 fn is_same_text(one: &str, other: &str) -> bool
     ensures { result ≡ false → one.now ≢ other.now }

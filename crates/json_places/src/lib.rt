@@ -13,7 +13,6 @@
 mod changes;
 mod finding;
 mod literals;
-mod marks;
 mod mended;
 mod path;
 mod same;

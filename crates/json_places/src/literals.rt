@@ -1,7 +1,7 @@
 // The literals of a JSON text that are values and no keys, found by a scan.
 
 ghost use Rattle.std.specs.Prelude.{◌≡◌, ◌+◌, ◌<◌, ◌≤◌, IfOk, length};
-ghost use Rattle.json_places.specs.Places.{AreInOrder};
+ghost use Rattle.text_places.specs.Order.{AreInOrder};
 
 use std::alloc::{AllocError, Global};
 use text_places::Span;

@@ -6,7 +6,7 @@
 //!
 //! ```rust
 //! // crates/spdx_lines/src/lines.rt
-//! let mut each = EachLine::new(alloc, cat, mode, accepted);
+//! let mut each = EachLine::new(alloc, catalogue, mode, accepted);
 //! engine::run(alloc, &mut each, input, output)
 //! ```
 //!

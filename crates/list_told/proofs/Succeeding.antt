@@ -5,7 +5,7 @@ use Rattle.std.specs.Option.{IfSome}
 use Rattle.std.specs.declared.alloc.Global.{Global}
 use Rattle.spdx_requirement.specs.Rows.{Rows}
 use Rattle.spdx_lexer.specs.Modes.{strict}
-use Rattle.spdx_fix.specs.Fix.{IsFixOf, Reads}
+use Rattle.spdx_canonical.specs.Fix.{IsFixOf, Reads}
 use Rattle.spdx_list.specs.Files.{ExtraRows}
 use Rattle.list_told.specs.Heirs.{IsHeirOf, Succeeds, fix_or_said}
 

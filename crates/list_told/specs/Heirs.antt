@@ -2,7 +2,7 @@
 use Rattle.std.specs.Prelude.{◌≡◌, ◌≢◌, ◌⊎◌, ℕ, Bool, true, false, List, Option, None, Some, bytes_eq, find, option_map}
 use Rattle.spdx_requirement.specs.Rows.{Rows}
 use Rattle.spdx_lexer.specs.Modes.{strict}
-use Rattle.spdx_fix.specs.Fix.{HasNoFix, IsFixOf, Reads}
+use Rattle.spdx_canonical.specs.Fix.{HasNoFix, IsFixOf, Reads}
 use Rattle.spdx_list.specs.Files.{ExtraRows, InsteadRow}
 
 -- what the extras say, by the first row of just that name

@@ -5,8 +5,8 @@ ghost use Rattle.std.specs.Option.{IfSome};
 ghost use Rattle.spdx_list.specs.Shown.{shown_extras};
 ghost use Rattle.list_told.specs.Heirs.{IsHeirIf, IsHeirOf, Succeeds};
 
+use spdx_canonical::fix;
 use spdx_catalogue::Catalogue;
-use spdx_fix::fix;
 use spdx_list::Extras;
 use std::alloc::{AllocError, Global};
 

@@ -2,11 +2,11 @@
 //! differs from an older one.
 //!
 //! ```rust
-//! // crates/spdx_program/src/show.rt
+//! // crates/spdx_program/src/list/show.rt
 //! let shown = list_told::show(alloc, &shelf, inside(), HEIRS.as_bytes(), asked)?;
 //! ```
 //!
-//! It stands on `list_program`, `spdx_list`, `spdx_fix` and `spdx_hints`.
+//! It stands on `list_program`, `spdx_list`, `spdx_canonical` and `spdx_hints`.
 #![tactic(auto)]
 
 mod changes;

@@ -13,7 +13,7 @@ use Rattle.spdx_lexer.specs.Groups.{Found}
 use Rattle.spdx_lexer.specs.Reading.{go_on, behind, items, reading, said, Spells}
 use Rattle.spdx_parser.specs.Tree.{Tree}
 use Rattle.spdx_parser.specs.Grammar.{LicenseIs, LeafIs, PrimaryIs, AndIs, Derives, plain, marked, later, named, unknown, alone, joined, leaf, group, one_primary, and_more, one_and, or_more}
-use Rattle.spdx_fix.specs.Fix.{Reads, IsFix}
+use Rattle.spdx_canonical.specs.Fix.{Reads, IsFix}
 use Rattle.manifests.specs.declared.form.Form.{Form}
 use Rattle.manifests.specs.Sites.{reads_slash}
 use Rattle.std.specs.Str.{IsUtf8}

@@ -6,7 +6,7 @@ use Rattle.std.specs.Str.{IsUtf8}
 use Rattle.spdx_requirement.specs.Rows.{Rows}
 use Rattle.spdx_lexer.specs.declared.token.ParseMode.{ParseMode}
 use Rattle.spdx_lexer.specs.Modes.{strict}
-use Rattle.spdx_fix.specs.Fix.{Reads, IsFix, HasNoFix}
+use Rattle.spdx_canonical.specs.Fix.{Reads, IsFix, HasNoFix}
 use Rattle.manifests.specs.declared.form.Form.{Form}
 use Rattle.manifests.specs.declared.site.ManifestError.{ManifestError}
 use Rattle.manifests.specs.declared.site.Site.{Site}

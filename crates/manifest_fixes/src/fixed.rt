@@ -73,7 +73,7 @@ fn settled(alloc: Global, form: Form, mending: Mending) -> Result<FixedManifest,
     }
 }
 
-/// The manifest, with each declared expression that a reader of its form refuses replaced by its fix (`spdx_fix::fix`), and no
+/// The manifest, with each declared expression that a reader of its form refuses replaced by its fix (`spdx_canonical::fix`), and no
 /// other byte changed. Such a reader reads strictly, but takes `/` for OR in a `Cargo.toml`. What it accepts stays. So does an
 /// expression that has no fix or is no UTF-8, and one whose fix can't be written in its place (`manifests::with_expression`).
 ///
@@ -82,7 +82,7 @@ fn settled(alloc: Global, form: Form, mending: Mending) -> Result<FixedManifest,
 ///
 /// `bytes` is `None` where nothing is replaced, and `is_left` says whether an expression that is declared then is refused.
 ///
-/// The cost is that of `manifests::sites` over the bytes, and again over those that come of it; of `spdx_fix::fix` for each
+/// The cost is that of `manifests::sites` over the bytes, and again over those that come of it; of `spdx_canonical::fix` for each
 /// expression; and of `manifests::with_expression` for each fix, which reads all bytes: many fixes cost as many passes.
 ///
 /// # Errors

@@ -5,7 +5,7 @@
 //! } = match fix_manifest(alloc, job.catalogue, form, behind) {
 //! ```
 //!
-//! It stands on `manifests` and `spdx_fix`.
+//! It stands on `manifests` and `spdx_canonical`.
 #![tactic(auto)]
 
 mod fixed;

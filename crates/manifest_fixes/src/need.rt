@@ -2,13 +2,13 @@
 
 ghost use Rattle.std.specs.Prelude.{◌≡◌, IfOk, true, false, string_bytes};
 ghost use Rattle.spdx_lexer.specs.Modes.{strict};
-ghost use Rattle.spdx_fix.specs.Fix.{Reads};
+ghost use Rattle.spdx_canonical.specs.Fix.{Reads};
 ghost use Rattle.manifest_fixes.specs.Fixing.{mode_of, IsRead};
 ghost use Rattle.manifest_fixes.specs.Needs.{IsNeed};
 
 use manifests::{Form, reads_slash};
+use spdx_canonical::fix;
 use spdx_catalogue::Catalogue;
-use spdx_fix::fix;
 use spdx_lexer::{Failure, ParseMode};
 use spdx_parser::parse_nodes;
 use std::alloc::{AllocError, Global};

@@ -12,11 +12,11 @@ use Rattle.spdx_lexer.specs.Reading.{said}
 use Rattle.spdx_lexer.proofs.Said.{said_words}
 use Rattle.spdx_parser.specs.Tree.{Tree}
 use Rattle.spdx_parser.specs.Grammar.{Derives}
-use Rattle.spdx_normal.specs.Law.{IsStrict}
-use Rattle.spdx_meaning_text.specs.MeaningText.{IsMeaningText, made_by_rank}
-use Rattle.spdx_compare.specs.Reading.{IsMeaningless, Says}
-use Rattle.spdx_compare.specs.declared.reading.Unmeant.{Unmeant}
-use Rattle.spdx_compare.specs.declared.reading.Unmeant.TheVariants.{Unread, TooMany}
+use Rattle.spdx_canonical.specs.NormalLaw.{IsStrict}
+use Rattle.spdx_meaning.specs.MeaningText.{IsMeaningText, made_by_rank}
+use Rattle.spdx_meaning.specs.Reading.{IsMeaningless, Says}
+use Rattle.spdx_meaning.specs.declared.reading.Unmeant.{Unmeant}
+use Rattle.spdx_meaning.specs.declared.reading.Unmeant.TheVariants.{Unread, TooMany}
 use Rattle.line_engine.specs.Lines.{lines_of}
 use Rattle.std.proofs.lemmas.List.Elements.{All-from_recursion, recursion_from_All}
 use Rattle.meaning_program.specs.Reading.{mode_by, read_as}

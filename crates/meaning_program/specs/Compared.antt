@@ -5,15 +5,15 @@ use Rattle.shelves.specs.Shelf.{Shelved}
 use Rattle.spdx_requirement.specs.Rows.{Rows}
 use Rattle.spdx_parser.specs.Tree.{Tree, node_of}
 use Rattle.spdx_evaluation.specs.Postfix.{IsPostfix, tree_in}
-use Rattle.least_sets.specs.Sets.{sets_in}
+use Rattle.selections.specs.Sets.{sets_in}
 use Rattle.spdx_meaning.specs.Minimal.{AreMinimalSets}
 use Rattle.spdx_meaning.specs.Meaning.{IsEquivalent}
 use Rattle.spdx_meaning.specs.declared.relation.Relation.{Relation}
 use Rattle.spdx_meaning.specs.declared.relation.Relation.TheVariants.{Same, More, Less, Neither}
-use Rattle.spdx_compare.specs.declared.comparison.Comparison.{Comparison}
-use Rattle.spdx_compare.specs.Comparing.{IsComparisonOf}
-use Rattle.spdx_compare.specs.Reading.{IsUnmeant, Says}
-use Rattle.spdx_compare.specs.declared.reading.Unmeant.{Unmeant}
+use Rattle.spdx_meaning.specs.declared.comparison.Comparison.{Comparison}
+use Rattle.spdx_meaning.specs.Comparing.{IsComparisonOf}
+use Rattle.spdx_meaning.specs.Reading.{IsUnmeant, Says}
+use Rattle.spdx_meaning.specs.declared.reading.Unmeant.{Unmeant}
 use Rattle.list_program.specs.Named.{InsideBytes, IsNamedList}
 use Rattle.list_program.specs.Troubles.{IsNoNamedList}
 use Rattle.meaning_program.specs.declared.compared.Asked.{Asked}

@@ -4,10 +4,10 @@ use Rattle.std.specs.Str.{is_utf8}
 use Rattle.line_engine.specs.Lines.{lines_of}
 use Rattle.spdx_requirement.specs.Rows.{Rows}
 use Rattle.spdx_parser.specs.Tree.{Tree}
-use Rattle.spdx_normal.specs.Law.{IsStrict, ReadsAs}
+use Rattle.spdx_canonical.specs.NormalLaw.{IsStrict, ReadsAs}
 use Rattle.spdx_meaning.specs.Meaning.{IsEquivalent}
-use Rattle.spdx_meaning_text.specs.MeaningText.{made_by_rank}
-use Rattle.spdx_compare.specs.Reading.{Says}
+use Rattle.spdx_meaning.specs.MeaningText.{made_by_rank}
+use Rattle.spdx_meaning.specs.Reading.{Says}
 use Rattle.meaning_program.specs.Reading.{mode_by, read_as}
 use Rattle.meaning_program.specs.Simplified.{trimmed}
 use Rattle.meaning_program.specs.declared.simplified.Simplified.{Simplified}

@@ -1,9 +1,9 @@
 -- What is said of how two expressions compare.
 use Rattle.std.specs.Prelude.{ℕ, Bool, true, false, List, [], ◌∷◌, ◌++◌, Option, None, Some, bytes_eq, codes, flat_map, if◌then◌else◌}
 use Rattle.spdx_parser.specs.Tree.{Tree}
-use Rattle.spdx_normal.specs.Normal.{normal_text}
-use Rattle.spdx_compare.specs.Comparing.{told_names}
-use Rattle.spdx_compare.specs.declared.comparison.Comparison.{Comparison}
+use Rattle.spdx_canonical.specs.Normal.{normal_text}
+use Rattle.spdx_meaning.specs.Comparing.{told_names}
+use Rattle.spdx_meaning.specs.declared.comparison.Comparison.{Comparison}
 use Rattle.spdx_meaning.specs.declared.relation.Relation.{Relation}
 use Rattle.spdx_meaning.specs.declared.relation.Relation.TheVariants.{Same, More, Less, Neither}
 

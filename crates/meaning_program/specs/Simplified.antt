@@ -6,8 +6,8 @@ use Rattle.std.specs.Str.{is_utf8}
 use Rattle.line_engine.specs.Lines.{lines_of}
 use Rattle.spdx_requirement.specs.Rows.{Rows}
 use Rattle.spdx_lexer.specs.declared.token.ParseMode.{ParseMode}
-use Rattle.spdx_compare.specs.Reading.{IsMeaningOf, IsMeaningless}
-use Rattle.spdx_compare.specs.declared.reading.Unmeant as compare
+use Rattle.spdx_meaning.specs.Reading.{IsMeaningOf, IsMeaningless}
+use Rattle.spdx_meaning.specs.declared.reading.Unmeant as compare
 use Rattle.meaning_program.specs.Reading.{mode_by, read_as}
 use Rattle.meaning_program.specs.Troubles.{why_text}
 use Rattle.meaning_program.specs.declared.simplified.Simplified.{Simplified}

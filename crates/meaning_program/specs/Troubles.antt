@@ -3,9 +3,9 @@ use Rattle.std.specs.Prelude.{◌≡◌, ℕ, Bool, List, ◌++◌, codes, decim
 use Rattle.spdx_requirement.specs.Rows.{Rows}
 use Rattle.spdx_lexer.specs.Faults.{fault_of, fault_text}
 use Rattle.spdx_meaning.specs.Faults.{too_many_text}
-use Rattle.spdx_compare.specs.declared.reading.Unmeant.{Unmeant}
-use Rattle.spdx_compare.specs.declared.reading.Unmeant.TheVariants.{Unread, TooMany}
-use Rattle.spdx_compare.specs.Reading.{IsUnmeant}
+use Rattle.spdx_meaning.specs.declared.reading.Unmeant.{Unmeant}
+use Rattle.spdx_meaning.specs.declared.reading.Unmeant.TheVariants.{Unread, TooMany}
+use Rattle.spdx_meaning.specs.Reading.{IsUnmeant}
 use Rattle.meaning_program.specs.declared.trouble.Unsaid.{Unsaid}
 use Rattle.meaning_program.specs.Reading.{mode_by, read_as}
 

@@ -20,10 +20,9 @@ use crate::sayings::told_text;
 use crate::trouble::{MeaningTrouble, told_as};
 use list_program::{Inside, named_list};
 use shelves::Shelf;
+use spdx_canonical::normal_text;
 use spdx_catalogue::{Catalogue, Failure};
-use spdx_compare::{Unmeant, compare_sets, nodes_of};
-use spdx_meaning::{Relation, minimal_sets};
-use spdx_normal::normal_text;
+use spdx_meaning::{Relation, Unmeant, compare_sets, minimal_sets, nodes_of};
 use spdx_parser::node::{ExprNode, NodeList};
 use std::alloc::{AllocError, Global};
 

@@ -6,7 +6,7 @@
 //! let told = meaning_program::compare(rt.alloc(), &SystemShelf::new(rt), inside(), asked)?;
 //! ```
 //!
-//! It stands on `list_program`, `spdx_compare`, `spdx_canonical` and `spdx_normal`.
+//! It stands on `list_program`, `spdx_meaning` and `spdx_canonical`.
 #![tactic(auto)]
 
 pub mod compared;

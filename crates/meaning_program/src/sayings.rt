@@ -1,11 +1,10 @@
 // What is said of how two expressions compare.
 
 ghost use Rattle.std.specs.Prelude.{◌≡◌, ◌++◌, IfOk, OnOk, codes, flat_map, map, string_bytes};
-ghost use Rattle.spdx_compare.specs.Comparing.{told_names};
+ghost use Rattle.spdx_meaning.specs.Comparing.{told_names};
 ghost use Rattle.meaning_program.specs.Sayings as spec;
 
-use spdx_compare::Comparison;
-use spdx_meaning::Relation;
+use spdx_meaning::{Comparison, Relation};
 use std::alloc::{AllocError, Global};
 
 // The relation, and the fewest with which each holds and the other one doesn't.

@@ -9,8 +9,8 @@ ghost use Rattle.meaning_program.specs.Simplified as spec;
 use crate::reading::{mode_by, read_as};
 use crate::trouble::why_of;
 use spdx_catalogue::{Catalogue, Failure};
-use spdx_compare::meaning_of;
-use spdx_meaning_text::laws::meaning_text_is_read;
+use spdx_meaning::meaning_of;
+use spdx_meaning::text::text_laws::meaning_text_is_read;
 use std::alloc::{AllocError, Global};
 
 /// A line that has no meaning text.

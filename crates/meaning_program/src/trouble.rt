@@ -4,7 +4,7 @@ ghost use Rattle.std.specs.Prelude.{◌≡◌, IfOk, string_bytes};
 ghost use Rattle.meaning_program.specs.Troubles.{IsToldAs, why_text};
 
 use list_program::ListTrouble;
-use spdx_compare::Unmeant;
+use spdx_meaning::Unmeant;
 use std::alloc::{AllocError, Global};
 
 /// A text of which it isn't told what it means, and why.

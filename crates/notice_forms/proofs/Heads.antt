@@ -1,9 +1,9 @@
 -- The head of the page of HTML loads nothing, runs nothing and hides nothing.
 use Rattle.std.proofs.Common.{ℕ, ◌-◌, List, [], ◌∷◌, ◌++◌, codes, refl, sym, ap, ◌∙◌, append_assoc, drop, take, length}
-use Rattle.html_text.specs.Text.{page_text}
-use Rattle.html_text.specs.Style.{is_plain_style}
-use Rattle.html_text.specs.Head.{BeginsPlainly, policy}
-use Rattle.html_text.proofs.Heads.{text_has_no_tag}
+use Rattle.foreign_text.specs.PageText.{page_text}
+use Rattle.foreign_text.specs.PageStyle.{is_plain_style}
+use Rattle.foreign_text.specs.PageHead.{BeginsPlainly, policy}
+use Rattle.foreign_text.proofs.PageHeads.{text_has_no_tag}
 use Rattle.notice_forms.specs.declared.style.TheConstants.{HTML_HEAD, HTML_STYLE}
 use Rattle.notice_forms.specs.Told.{Told}
 use Rattle.notice_forms.specs.Html.{html_page}

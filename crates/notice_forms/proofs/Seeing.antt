@@ -3,8 +3,8 @@ use Rattle.std.proofs.Common.{◌≡◌, ◌≢◌, ℕ, zero, suc, ◌+◌, ◌
 use Rattle.std.proofs.lemmas.Bool.Decides.{nat_tests}
 use Rattle.std.specs.Prelude.{not}
 use Rattle.std.specs.Fmt.{decimal, digits, digits_onto, digit_glyph}
-use Rattle.html_text.specs.Text.{HasNoMarkup, is_mark, page_char, page_text, read_from, shown_char, shown_text}
-use Rattle.html_text.proofs.Laws.{IsPlain, ArePlain, no_markup, plain_no_markup, plain_read, char_read}
+use Rattle.foreign_text.specs.PageText.{HasNoMarkup, is_mark, page_char, page_text, read_from, shown_char, shown_text}
+use Rattle.foreign_text.proofs.PageLaws.{IsPlain, ArePlain, no_markup, plain_no_markup, plain_read, char_read}
 use Rattle.license_notice.specs.Places.{holds, bands_with}
 use Rattle.license_notice.specs.Rows.{Line, Band}
 use Rattle.notice_forms.specs.declared.style.TheConstants.{HTML_HEAD, HTML_STYLE}

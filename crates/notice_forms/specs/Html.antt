@@ -1,6 +1,6 @@
 -- The page as one file of HTML.
 use Rattle.std.specs.Prelude.{ℕ, List, [], ◌∷◌, ◌++◌, codes, flat_map}
-use Rattle.html_text.specs.Text.{page_text}
+use Rattle.foreign_text.specs.PageText.{page_text}
 use Rattle.license_notice.specs.Rows.{Band}
 use Rattle.notice_forms.specs.declared.style.TheConstants.{HTML_HEAD, HTML_STYLE}
 use Rattle.notice_forms.specs.Told.{Named, Told}

@@ -1,6 +1,6 @@
 -- What the page of HTML has of each package, requirement and text.
 use Rattle.std.specs.Prelude.{ℕ, List, [], ◌∷◌, ◌++◌, length, flat_map, codes, decimal, if◌then◌else◌}
-use Rattle.html_text.specs.Text.{page_text}
+use Rattle.foreign_text.specs.PageText.{page_text}
 use Rattle.license_notice.specs.Places.{holds}
 use Rattle.license_notice.specs.Rows.{Line, Band}
 use Rattle.notice_forms.specs.Numbered.{numbered}

@@ -1,6 +1,6 @@
 -- What a browser shows of the page of HTML: its bytes without their tags, with the entities read.
 use Rattle.std.specs.Prelude.{◌≡◌, ℕ, List, [], ◌∷◌, ◌++◌, Bool, true, false, not, ◌==◌, if◌then◌else◌, Option, Some, length, flat_map, codes}
-use Rattle.html_text.specs.Text.{page_text, read_text, shown_text}
+use Rattle.foreign_text.specs.PageText.{page_text, read_text, shown_text}
 use Rattle.license_notice.specs.Places.{bands_with}
 use Rattle.license_notice.specs.Rows.{Line, Band}
 use Rattle.notice_forms.specs.declared.style.TheConstants.{HTML_HEAD, HTML_STYLE}

@@ -8,7 +8,7 @@ ghost use Rattle.notice_forms.specs.Markup.{html_version, html_link, html_packag
 
 use crate::html::put_number;
 use crate::places::group_places;
-use html_text::put_text;
+use foreign_text::html::put_text;
 use license_notice::{Group, Place, Places, Release};
 use std::alloc::{AllocError, Global};
 

@@ -13,7 +13,7 @@ use crate::errors::PageError;
 use crate::lines::put_package_count;
 use crate::pages::{LicenseText, Page};
 use crate::style::{HTML_HEAD, HTML_STYLE};
-use html_text::put_text;
+use foreign_text::html::put_text;
 use license_notice::{Group, Release};
 use std::alloc::{AllocError, Global};
 

@@ -10,7 +10,7 @@ ghost use Rattle.notice_forms.specs.Markdown.{StaysFenced};
 ghost use Rattle.notice_forms.specs.Html.{html_page};
 ghost use Rattle.notice_forms.specs.Json.{json_text, told_json, NamesItsTexts};
 ghost use Rattle.notice_forms.specs.Seen.{IsShown};
-ghost use Rattle.html_text.specs.Head.{BeginsPlainly};
+ghost use Rattle.foreign_text.specs.PageHead.{BeginsPlainly};
 
 mod by_package;
 mod errors;

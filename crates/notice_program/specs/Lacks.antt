@@ -3,7 +3,7 @@ use Rattle.std.specs.Prelude.{ℕ, Bool, ◌&&◌, not, List, [], ◌∷◌, byt
 use Rattle.std.specs.List.{list_any}
 use Rattle.license_notice.specs.Notices.{line_of}
 use Rattle.license_notice.specs.Rows.{Line}
-use Rattle.owed_files.specs.Owed.{is_license_text, is_owed, seen}
+use Rattle.notice_texts.specs.Owed.{is_license_text, is_owed, seen}
 use Rattle.notice_program.specs.declared.lacks.GeneralText.{GeneralText}
 use Rattle.notice_program.specs.declared.lacks.Lack.{Lack}
 use Rattle.notice_program.specs.declared.packages.OwnFile.{OwnFile}

@@ -1,8 +1,8 @@
 -- Which files of packages are owed under their choices.
 use Rattle.std.specs.Prelude.{ℕ, Bool, List, map, filter, flat_map}
 use Rattle.license_notice.specs.Wanted.{texts_of}
-use Rattle.owed_files.specs.Owed.{is_owed, seen}
-use Rattle.shared_texts.specs.Shared.{Own}
+use Rattle.notice_texts.specs.Owed.{is_owed, seen}
+use Rattle.notice_texts.specs.Shared.{Own}
 use Rattle.notice_program.specs.declared.packages.OwnFile.{OwnFile}
 use Rattle.notice_program.specs.declared.packages.Package.{Package}
 

@@ -13,7 +13,7 @@ use Rattle.notice_forms.specs.declared.pages.Form.{Form}
 use Rattle.notice_forms.specs.declared.pages.Form.TheVariants.{Text, Markdown, Html, Json}
 use Rattle.notice_forms.specs.Pages.{page_in}
 use Rattle.notice_forms.specs.Told.{Named, Told}
-use Rattle.shared_texts.specs.Shared.{EachStands, NothingElse, gathered}
+use Rattle.notice_texts.specs.Shared.{EachStands, NothingElse, gathered}
 use Rattle.notice_program.specs.declared.lacks.GeneralText.{GeneralText}
 use Rattle.notice_program.specs.declared.packages.Package.{Package}
 use Rattle.notice_program.specs.declared.page.TheConstants.{TITLE}

@@ -5,8 +5,8 @@ use Rattle.license_notice.specs.Notices.{line_of}
 use Rattle.license_notice.specs.Once.{AreOnce}
 use Rattle.license_notice.specs.Rows.{Line}
 use Rattle.notice_forms.specs.Told.{Named}
-use Rattle.shared_texts.specs.declared.texts.SharedText.{SharedText}
-use Rattle.shared_texts.specs.Shared.{Held, Shared, shared_of}
+use Rattle.notice_texts.specs.declared.texts.SharedText.{SharedText}
+use Rattle.notice_texts.specs.Shared.{Held, Shared, shared_of}
 use Rattle.notice_program.specs.declared.lacks.GeneralText.{GeneralText}
 use Rattle.notice_program.specs.declared.texts.PageText.{PageText}
 use Rattle.notice_program.specs.Lacks.{Lacked}

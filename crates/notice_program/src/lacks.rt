@@ -2,13 +2,13 @@
 
 ghost use Rattle.license_notice.specs.Notices.{line_of};
 ghost use Rattle.notice_program.specs.Lacks.{has_among, is_held, lack, lacks_in, lacks_of, may_be, seen_lack};
-ghost use Rattle.owed_files.specs.Owed.{seen};
+ghost use Rattle.notice_texts.specs.Owed.{seen};
 ghost use Rattle.std.specs.List.{list_any};
 ghost use Rattle.std.specs.Prelude.{◌≡◌, ◌++◌, IfOk, OnOk, filter, map, not};
 
 use crate::packages::{OwnFile, Package};
 use license_notice::{Release, text_names};
-use owed_files::{is_license_text, is_owed};
+use notice_texts::{is_license_text, is_owed};
 use std::alloc::{AllocError, Global};
 
 /// A text that a package wants, and no file of the package is.

@@ -2,15 +2,14 @@
 
 ghost use Rattle.license_notice.specs.Wanted.{texts_of};
 ghost use Rattle.notice_program.specs.Packages.{own_in, owns_in, owns_of};
-ghost use Rattle.owed_files.specs.Owed as spec;
-ghost use Rattle.owed_files.specs.Owed.{seen};
-ghost use Rattle.shared_texts.specs.Shared.{own};
+ghost use Rattle.notice_texts.specs.Owed as spec;
+ghost use Rattle.notice_texts.specs.Owed.{seen};
+ghost use Rattle.notice_texts.specs.Shared.{own};
 ghost use Rattle.std.specs.Prelude.{◌≡◌, ◌++◌, IfOk, OnOk, filter, flat_map, map};
 
 use crate::packages::{OwnFile, Package};
 use license_notice::{Requirement, text_names};
-use owed_files::{File, is_owed, owed_files};
-use shared_texts::{Holder, OwnText};
+use notice_texts::{File, Holder, OwnText, is_owed, owed_files};
 use std::alloc::{AllocError, Global};
 
 /// Which of these files of a package are owed, in their order, where its expression has the requirements that are offered,

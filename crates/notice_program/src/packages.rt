@@ -1,7 +1,7 @@
 // Packages with what they are taken under and what they have of their own.
 
 use license_notice::Requirement;
-use owed_files::File;
+use notice_texts::File;
 
 /// A file of a package, and what it holds.
 #[derive(Clone, Copy, Debug)]

@@ -28,7 +28,7 @@ use crate::packages::Package;
 use crate::texts::{PageText, general_texts, own_texts, put_views, releases_in, used_of};
 use license_notice::{Group, Package as Noted, Release, each_once, notice_of, packages_in};
 use notice_forms::{Form, LicenseText, Page, PageError, put_page};
-use shared_texts::shared_texts;
+use notice_texts::shared_texts;
 use std::alloc::{AllocError, Global};
 
 /// What stands at the top of the page.

@@ -16,7 +16,7 @@ ghost use Rattle.notice_program.specs.Texts.{
   lines_lacking,
   page_named,
 };
-ghost use Rattle.shared_texts.specs.Shared.{held, shared_of};
+ghost use Rattle.notice_texts.specs.Shared.{held, shared_of};
 ghost use Rattle.notice_program.specs.declared.lacks.Lack.{Lack};
 ghost use Rattle.std.specs.List.{AllZip, list_any};
 ghost use Rattle.std.specs.Prelude.{◌≡◌, ◌++◌, IfOk, OnOk, bytes_eq, filter, map, string_bytes};
@@ -24,7 +24,7 @@ ghost use Rattle.std.specs.Prelude.{◌≡◌, ◌++◌, IfOk, OnOk, bytes_eq, f
 use crate::lacks::{GeneralText, Lack};
 use license_notice::{Release, each_once};
 use notice_forms::LicenseText;
-use shared_texts::{Holder, SharedText};
+use notice_texts::{Holder, SharedText};
 use std::alloc::{AllocError, Global};
 
 /// A text of a page.

@@ -11,8 +11,8 @@ use Rattle.std.proofs.lemmas.Grind.{flat_map-append}
 use Rattle.std.proofs.lemmas.List.{append-nil, map-append}
 use Rattle.std.proofs.lemmas.List.Elements.{All-from_recursion}
 use Rattle.std.proofs.lemmas.List.Sorted.{IsPermutation-refl, IsPermutation-sym, IsPermutation-trans, IsPermutation-map, IsPermutation-append_right, IsPermutation-append_comm, Contains-permutation, All-permutation}
-use Rattle.package_changes.specs.declared.likeness.Likeness.{Likeness}
-use Rattle.package_changes.specs.declared.likeness.Likeness.TheVariants as likeness
+use Rattle.package_changes.specs.declared.changes.likeness.Likeness.{Likeness}
+use Rattle.package_changes.specs.declared.changes.likeness.Likeness.TheVariants as likeness
 use Rattle.package_changes.specs.Rows.{Row, ChangeRow, stayed, went, came}
 use Rattle.package_changes.specs.Order.{front_cmp, row_cmp, change_cmp, in_order}
 use Rattle.package_changes.specs.Pairing.{Paired, is_like, pair_all, paired_by, step, unpaired, paired, stayed_of, told, changes}

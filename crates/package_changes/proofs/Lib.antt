@@ -4,3 +4,6 @@ pub mod Merging
 pub mod Walking
 pub mod Matching
 pub mod Laws
+pub mod Inside
+pub mod Documents
+pub mod Turning

@@ -9,8 +9,8 @@ use Rattle.std.specs.declared.cmp.Ordering.{Ordering}
 use Rattle.std.specs.declared.cmp.Ordering.TheVariants.{Less, Equal, Greater}
 use Rattle.std.proofs.lemmas.Cmp.{then_total, on_total, nat_cmp_total}
 use Rattle.std.proofs.lemmas.Slice.Eq.{bytes_eq-Decides}
-use Rattle.package_changes.specs.declared.likeness.Likeness.{Likeness}
-use Rattle.package_changes.specs.declared.likeness.Likeness.TheVariants.{Same, Version, License, Name}
+use Rattle.package_changes.specs.declared.changes.likeness.Likeness.{Likeness}
+use Rattle.package_changes.specs.declared.changes.likeness.Likeness.TheVariants.{Same, Version, License, Name}
 use Rattle.package_changes.specs.Rows.{Row, ChangeRow, stayed, went, came}
 use Rattle.package_changes.specs.Order.{text_cmp, front_cmp, rest_cmp, row_cmp, change_cmp, old_end, new_end, kind_of}
 use Rattle.package_changes.specs.Steps.{Rises}

@@ -5,7 +5,7 @@ use Rattle.std.specs.Ordering.{is_eq, ordering_reverse}
 use Rattle.std.specs.declared.cmp.Ordering.{Ordering}
 use Rattle.std.specs.declared.cmp.Ordering.TheVariants.{Less, Equal, Greater}
 use Rattle.std.proofs.lemmas.List.{append-nil, drop_more, drop_all}
-use Rattle.package_changes.specs.declared.likeness.Likeness.{Likeness}
+use Rattle.package_changes.specs.declared.changes.likeness.Likeness.{Likeness}
 use Rattle.package_changes.specs.declared.package.Package.{Package}
 use Rattle.package_changes.specs.Rows.{Row, row_of}
 use Rattle.package_changes.specs.Order.{front_cmp}

@@ -3,3 +3,12 @@ pub mod Order
 pub mod Pairing
 pub mod Laws
 pub mod Steps
+pub mod Tellings
+pub mod Texts
+pub mod Lines
+pub mod Table
+pub mod Json
+pub mod Forms
+pub mod Reading
+pub mod Changing
+pub mod Found

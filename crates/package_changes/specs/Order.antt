@@ -4,8 +4,8 @@ use Rattle.std.specs.declared.cmp.Ordering.{Ordering}
 use Rattle.std.specs.declared.cmp.Ordering.TheVariants.{Equal}
 use Rattle.std.specs.Ordering.{nat_cmp, ordering_then, is_gt}
 use Rattle.std.specs.Cmp.Lexicographic.{slice_cmp}
-use Rattle.package_changes.specs.declared.likeness.Likeness.{Likeness}
-use Rattle.package_changes.specs.declared.likeness.Likeness.TheVariants.{Same, Version, License, Name}
+use Rattle.package_changes.specs.declared.changes.likeness.Likeness.{Likeness}
+use Rattle.package_changes.specs.declared.changes.likeness.Likeness.TheVariants.{Same, Version, License, Name}
 use Rattle.package_changes.specs.Rows.{Row, ChangeRow, stayed, went, came}
 
 -- the order of texts, byte by byte

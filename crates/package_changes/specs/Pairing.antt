@@ -1,8 +1,8 @@
 -- Which packages of two lists belong together.
 use Rattle.std.specs.Prelude.{Bool, List, [], ◌∷◌, ◌++◌, Option, None, Some, map, if◌then◌else◌}
 use Rattle.std.specs.Ordering.{is_eq}
-use Rattle.package_changes.specs.declared.likeness.Likeness.{Likeness}
-use Rattle.package_changes.specs.declared.likeness.Likeness.TheVariants.{Same, Version, License, Name}
+use Rattle.package_changes.specs.declared.changes.likeness.Likeness.{Likeness}
+use Rattle.package_changes.specs.declared.changes.likeness.Likeness.TheVariants.{Same, Version, License, Name}
 use Rattle.package_changes.specs.Rows.{Row, ChangeRow, stayed, went, came}
 use Rattle.package_changes.specs.Order.{front_cmp, row_cmp, change_cmp, in_order}
 

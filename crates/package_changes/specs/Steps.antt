@@ -3,8 +3,8 @@ use Rattle.std.specs.Prelude.{◌≡◌, false, List, [], ◌∷◌, ◌++◌, m
 use Rattle.std.specs.List.{AllByRecursion}
 use Rattle.std.specs.declared.cmp.Ordering.{Ordering}
 use Rattle.std.specs.Ordering.{is_gt}
-use Rattle.package_changes.specs.declared.pairing.Pair.{Pair}
-use Rattle.package_changes.specs.declared.pairing.Pairing.{Pairing}
+use Rattle.package_changes.specs.declared.changes.pairing.Pair.{Pair}
+use Rattle.package_changes.specs.declared.changes.pairing.Pairing.{Pairing}
 use Rattle.package_changes.specs.Rows.{Row, row_of}
 use Rattle.package_changes.specs.Pairing.{Paired}
 

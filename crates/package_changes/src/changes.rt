@@ -7,9 +7,12 @@ ghost use Rattle.package_changes.specs.Pairing.{changes, paired, unpaired, told,
 ghost use Rattle.package_changes.specs.Steps.{paired_of, pair_of};
 ghost use Rattle.package_changes.specs.Laws.{AreChanges};
 
-use crate::likeness::Likeness;
+pub(crate) mod likeness;
+pub(crate) mod pairing;
+
+use crate::changes::likeness::Likeness;
+use crate::changes::pairing::{Pair, Pairing};
 use crate::package::{Change, Package};
-use crate::pairing::{Pair, Pairing};
 use std::alloc::{AllocError, Global};
 use std::cmp::Ordering;
 

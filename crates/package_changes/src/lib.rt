@@ -1,19 +1,26 @@
-//! What changed between two lists of packages: which came, which went, and which stayed, each told once.
+//! What changed between two lists of packages: which came, which went, and which stayed, each told once; how the license of one
+//! changed, written otherwise or asking the same, more or less; and how it is all written: as lines, as one document of JSON, and as
+//! a table of Markdown.
 //!
-//! Of licences it knows their texts alone.
+//! Names, versions and licenses are texts of others here, and nothing obeys them.
 //!
 //! ```rust
 //! // crates/changes_program/src/run.rt
 //! let changes = changes_between(alloc, &before, &now)?;
 //! ```
 //!
-//! It stands on nothing but std.
+//! It stands on `spdx_meaning` and `spdx_canonical` for what licenses ask, on `foreign_text` and on the writer of JSON.
 #![tactic(auto)]
 
+mod change;
 mod changes;
-mod likeness;
+pub mod forms;
 mod package;
-mod pairing;
+mod tellings;
 
+pub use crate::change::reading::Untold;
+pub use crate::change::{LicenseChange, license_change};
 pub use crate::changes::changes_between;
+pub use crate::forms::{Form, put_changes};
 pub use crate::package::{Change, Package};
+pub use crate::tellings::{How, Reason, Release, Telling};

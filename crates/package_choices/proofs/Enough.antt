@@ -10,7 +10,7 @@ use Rattle.spdx_requirement.specs.Equality.{same_requirement}
 use Rattle.spdx_requirement.specs.EqualityLaws.{same_requirement_laws}
 use Rattle.spdx_licensee.specs.Satisfies.{satisfies}
 use Rattle.spdx_parser.specs.Tree.{Tree, leaves}
-use Rattle.sufficiency.specs.Selection.{IsWithin, everything}
+use Rattle.selections.specs.Selection.{IsWithin, everything}
 use Rattle.spdx_evaluation.specs.Truth.{holds}
 use Rattle.spdx_minimize.specs.Choice.{Choice, chosen, unmet, too_many, choice_among, choice_of, chosen_of, any_chosen, suffices_for, satisfies_some, first_ones, useful, selections, without_and_with, least_of}
 use Rattle.spdx_minimize.proofs.Chooses.{choice_by}

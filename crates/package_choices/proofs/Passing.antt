@@ -7,7 +7,7 @@ use Rattle.spdx_requirement.specs.Items.{Requirement}
 use Rattle.spdx_requirement.specs.Equality.{same_requirement}
 use Rattle.spdx_requirement.specs.EqualityLaws.{same_requirement_laws}
 use Rattle.spdx_parser.specs.Tree.{Tree, leaves}
-use Rattle.sufficiency.specs.Selection.{IsWithin, everything}
+use Rattle.selections.specs.Selection.{IsWithin, everything}
 use Rattle.spdx_evaluation.specs.Truth.{truth_of}
 use Rattle.spdx_minimize.specs.Choice.{first_ones, chosen_of, least_of, selections, without_and_with}
 use Rattle.spdx_minimize.specs.GrowthLaws.{truth_grows}

@@ -2,7 +2,7 @@
 use Rattle.std.proofs.Common.{◌≡◌, ℕ, zero, suc, ◌≤◌, ◌<◌, Bool, true, false, cond, List, length, map, nat_lt, refl, sym, ◌∙◌, ap, subst, arith}
 use Rattle.std.proofs.lemmas.Bool.Decides.{nat_tests}
 use Rattle.spdx_requirement.specs.Items.{Requirement}
-use Rattle.sufficiency.specs.Selection.{IsLeast, NoneSuffices, everything}
+use Rattle.selections.specs.Selection.{IsLeast, NoneSuffices, everything}
 use Rattle.spdx_minimize.specs.Choice.{least_of}
 use Rattle.spdx_minimize.proofs.Selections.{IsLeast-least_of, none_found}
 use Rattle.package_choices.specs.Choice.{Asked, own_in, suffices_for, choices_by, joint_among, together, unmet, too_many}

@@ -1,7 +1,7 @@
 -- What suffices for all stays sufficient where more is chosen.
 use Rattle.std.specs.Prelude.{◌≡◌, ℕ, Bool, true, false, ◌&&◌, List, [], ◌∷◌}
 use Rattle.std.proofs.Common.{refl}
-use Rattle.sufficiency.specs.Selection.{IsWithin}
+use Rattle.selections.specs.Selection.{IsWithin}
 use Rattle.spdx_minimize.specs.GrowthLaws.{truth_grows}
 use Rattle.spdx_why.specs.Missing.{answer_in}
 use Rattle.spdx_why.specs.GrowthLaws.{within_at}

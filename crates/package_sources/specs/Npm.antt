@@ -7,8 +7,8 @@ use Rattle.package_items.specs.Rows.{Fault, LicenseRow, ItemRow}
 use Rattle.package_items.specs.Members.{on_ok, text_of, text_if_any, license_at}
 use Rattle.package_items.specs.Items.{list_items, member_items, root_item}
 use Rattle.package_items.specs.Nested.{in_object, with_parts}
-use Rattle.package_sources.specs.declared.npm.Lies.{Lies}
-use Rattle.package_sources.specs.declared.npm.Lies.TheVariants as lies
+use Rattle.package_sources.specs.declared.formats.npm.Lies.{Lies}
+use Rattle.package_sources.specs.declared.formats.npm.Lies.TheVariants as lies
 use Rattle.package_sources.specs.declared.several.Entry.TheVariants as entry
 use Rattle.package_sources.specs.Several.{choice_of}
 use Rattle.package_sources.specs.Folders.{folder_name}

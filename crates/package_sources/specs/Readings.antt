@@ -13,7 +13,7 @@ use Rattle.package_items.specs.Items.{list_items, if_object, each}
 use Rattle.package_items.specs.Packages.{said_of, placed}
 use Rattle.package_items.specs.Paths.{folder_in, file_in}
 use Rattle.package_sources.specs.Several.{choice_of}
-use Rattle.package_sources.specs.declared.npm.Lies.{Lies}
+use Rattle.package_sources.specs.declared.formats.npm.Lies.{Lies}
 use Rattle.package_sources.specs.Npm.{is_list, name_of, npm_license, folder}
 use Rattle.package_sources.specs.CycloneDx.{cyclonedx}
 use Rattle.package_sources.specs.Spdx.{spdx}

@@ -4,17 +4,13 @@
 //! the words `OR` and `AND`.
 #![tactic(auto)]
 
-mod cargo;
-mod cyclonedx;
-mod folder;
 pub mod form;
+mod formats;
 pub mod guess;
-mod npm;
 mod pointer;
 mod reading;
 mod several;
 pub mod sources;
-mod spdx;
 mod texts;
 
 pub use crate::form::{Form, Pointers};

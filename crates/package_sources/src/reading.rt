@@ -8,11 +8,11 @@ ghost use Rattle.package_items.specs.Rows.{Says, item_row, license_of, row_of};
 ghost use Rattle.package_items.specs.Values.{seen};
 ghost use Rattle.package_sources.specs.Readings as spec;
 
-use crate::cyclonedx::cyclonedx;
 use crate::form::Pointers;
-use crate::npm::{Lies, folder, is_list, name_of, npm_license};
+use crate::formats::cyclonedx::cyclonedx;
+use crate::formats::npm::{Lies, folder, is_list, name_of, npm_license};
+use crate::formats::spdx::spdx;
 use crate::several::{Entry, choice_of};
-use crate::spdx::spdx;
 use package_items::{
     Item, License, Package, SourceError, check_object, copy_of, file_in, folder_in, in_list,
     license_at, list_in, said, text_if_any, text_of,

@@ -5,13 +5,13 @@ ghost use Rattle.serde_json.specs.View.{view};
 ghost use Rattle.package_items.specs.Rows.{Says, item_row, row_of};
 ghost use Rattle.package_sources.specs.Sources as spec;
 
-use crate::cargo::cargo_packages;
-use crate::cyclonedx::cyclonedx_items;
 use crate::form::{Form, Pointers};
-use crate::npm::{lies_in, npm_items};
+use crate::formats::cargo::cargo_packages;
+use crate::formats::cyclonedx::cyclonedx_items;
+use crate::formats::npm::{lies_in, npm_items};
+use crate::formats::spdx::spdx_items;
 use crate::pointer::checked;
 use crate::reading::{Reading, packages_of};
-use crate::spdx::spdx_items;
 use package_items::{
     Item, Package, SourceError, list_items, list_items_if_any, object_at, root_item, value_of,
 };

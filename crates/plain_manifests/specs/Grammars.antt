@@ -1,8 +1,8 @@
 -- How each form writes the field or element that declares a license.
 use Rattle.std.specs.Prelude.{◌≡◌, ℕ, Bool, true, false, List, [], codes, Option, Some, None}
-use Rattle.field_lines.specs.declared.Grammar.{Grammar}
-use Rattle.field_lines.specs.declared.Notation.{Notation}
-use Rattle.field_lines.specs.declared.Notation.TheVariants.{Line, Yaml, Shell, Quoted}
+use Rattle.text_places.specs.declared.field_lines.Grammar.{Grammar}
+use Rattle.text_places.specs.declared.field_lines.Notation.{Notation}
+use Rattle.text_places.specs.declared.field_lines.Notation.TheVariants.{Line, Yaml, Shell, Quoted}
 use Rattle.plain_manifests.specs.declared.form.PlainForm.{PlainForm}
 use Rattle.plain_manifests.specs.declared.form.PlainForm.TheVariants.{Metadata, SetupCfg, SetupPy, Cabal, Opam, Gem, Mix, Rock, Meson, Rpm, Alpine, Arch, Snap, Conda, Galaxy, Helm, Citation, Docker, Dep5, Appstream, Msbuild}
 

@@ -2,10 +2,10 @@
 use Rattle.std.specs.Prelude.{◌≡◌, ℕ, Bool, true, false, ◌&&◌, ◌||◌, not, nat_eq, nat_le, bytes_eq, List, [], ◌∷◌, ◌++◌, codes, Option, Some, None, map, filter, length, slice_range, if◌then◌else◌}
 use Rattle.std.specs.List.{starts_with, list_any}
 use Rattle.text_places.specs.declared.Span.{Span}
-use Rattle.field_lines.specs.declared.Grammar.{Grammar}
-use Rattle.field_lines.specs.Fields.{fields_of}
-use Rattle.element_texts.specs.declared.Element.{Element}
-use Rattle.element_texts.specs.Elements.{elements_of}
+use Rattle.text_places.specs.declared.field_lines.Grammar.{Grammar}
+use Rattle.text_places.specs.Fields.{fields_of}
+use Rattle.text_places.specs.declared.element_texts.Element.{Element}
+use Rattle.text_places.specs.Elements.{elements_of}
 use Rattle.plain_manifests.specs.declared.form.PlainForm.{PlainForm}
 use Rattle.plain_manifests.specs.declared.form.PlainForm.TheVariants.{Cabal, Appstream, Nuget, Msbuild, Ros}
 use Rattle.plain_manifests.specs.Grammars.{IsGrammarOf, name_of, other_name_of}

@@ -3,7 +3,7 @@
 use Rattle.std.specs.Prelude.{◌≡◌, ◌≢◌, ◌⊎◌, ℕ, Bool, not, List, ◌++◌, None, Some, map, filter, All, set, take, drop, slice_get}
 use Rattle.std.specs.List.{list_any}
 use Rattle.text_places.specs.declared.Span.{Span}
-use Rattle.field_lines.specs.Names.{is_one_of}
+use Rattle.text_places.specs.Names.{is_one_of}
 use Rattle.plain_manifests.specs.declared.form.PlainForm.{PlainForm}
 use Rattle.plain_manifests.specs.declared.sites.PlainSite.{PlainSite}
 use Rattle.plain_manifests.specs.Grammars.{marks_of}

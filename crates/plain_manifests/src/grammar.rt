@@ -6,7 +6,7 @@ ghost use Rattle.plain_manifests.specs.Grammars.{IsGrammarOf};
 ghost use Rattle.plain_manifests.specs.Grammars as spec;
 
 use crate::form::PlainForm;
-use field_lines::{Grammar, Notation};
+use text_places::{Grammar, Notation};
 
 /// The name of the field or element.
 #[tactic(auto, unfolding(crate::specs::Grammars::name_of))]

@@ -7,10 +7,8 @@ ghost use Rattle.plain_manifests.specs.Places as spec;
 
 use crate::form::PlainForm;
 use crate::grammar::{grammar_of, name_of, other_name_of};
-use element_texts::{Element, elements};
-use field_lines::fields;
 use std::alloc::{AllocError, Global};
-use text_places::Span;
+use text_places::{Element, Span, elements, fields};
 
 /// What stands at a place of the bytes.
 pub(crate) fn text_at<'b>(bytes: &'b [u8], span: Span) -> &'b [u8]

@@ -3,7 +3,7 @@
 ghost use Rattle.std.specs.Prelude.{◌≡◌, ◌≢◌, ◌<◌, [], ◌∷◌, ◌++◌, All, IfOk, OnOk, IfSome, IfNone, drop, filter, length, map, slice_get, take, true, false, Some};
 ghost use Rattle.plain_manifests.specs.Sites.{ArePlainSites, IsDeclared, MendsPlain, ReadsOther, ReadsSo, StaysPlain, is_expression, texts_at, wanted, with_text};
 ghost use Rattle.plain_manifests.specs.Places.{text_at};
-ghost use Rattle.field_lines.specs.Names.{is_one_of};
+ghost use Rattle.text_places.specs.Names.{is_one_of};
 ghost use Rattle.std.specs.List.{list_any};
 ghost use Rattle.plain_manifests.specs.declared.sites.PlainSite.{PlainSite};
 

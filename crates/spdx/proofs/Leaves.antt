@@ -9,9 +9,9 @@ use Rattle.spdx_lexer.specs.Modes.{strict}
 use Rattle.spdx_lexer.specs.Words.{Word, Fault, Item, Placed, words}
 use Rattle.spdx_lexer.specs.Reading.{said}
 use Rattle.spdx_parser.specs.Tree.{Tree, Leaf, Join}
-use Rattle.spdx_normal.specs.Law.{EachLeaf, IsStrict}
-use Rattle.spdx_normal.proofs.Leaves.{IsGood}
-use Rattle.spdx_normal.proofs.Laws.{good, good_reads}
+use Rattle.spdx_canonical.specs.NormalLaw.{EachLeaf, IsStrict}
+use Rattle.spdx_canonical.proofs.Leaves.{IsGood}
+use Rattle.spdx_canonical.proofs.NormalLaws.{good, good_reads}
 use Rattle.spdx.specs.Value.{Written}
 use Rattle.spdx.specs.Meaning.{IsReadFrom, ReadsBack}
 

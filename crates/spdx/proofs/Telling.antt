@@ -2,9 +2,9 @@
 use Rattle.std.proofs.Common.{◌≡◌, ℕ, List, sym, ◌∙◌, ap, ◌↔◌, IsTrue}
 use Rattle.spdx_requirement.specs.Rows.{Rows}
 use Rattle.spdx_parser.specs.Tree.{Tree}
-use Rattle.spdx_normal.specs.Normal.{normal_text}
-use Rattle.spdx_normal.specs.Law.{IsStrict}
-use Rattle.spdx_normal.proofs.Laws as Laws
+use Rattle.spdx_canonical.specs.Normal.{normal_text}
+use Rattle.spdx_canonical.specs.NormalLaw.{IsStrict}
+use Rattle.spdx_canonical.proofs.NormalLaws as Laws
 use Rattle.spdx.specs.Equality.{same_tree, tree_key}
 use Rattle.spdx.specs.EqualityLaws.{trees_decide, tree_told}
 

@@ -29,7 +29,7 @@ pub use Rattle.spdx_catalogue.specs.NameOrders
 pub use Rattle.spdx_catalogue.specs.Names
 pub use Rattle.spdx_catalogue.specs.Reading as CatalogueReading
 pub use Rattle.spdx_catalogue.specs.RowRules
-pub use Rattle.sufficiency.specs.Selection
+pub use Rattle.selections.specs.Selection
 pub use Rattle.spdx_lexer.specs.Code as LexerCode
 pub use Rattle.spdx_lexer.specs.Faults as LexerFaults
 pub use Rattle.spdx_lexer.specs.Layout
@@ -65,6 +65,6 @@ pub use Rattle.spdx_minimize.specs.MinimizeFaults
 pub use Rattle.spdx_canonical.specs.Canonical
 pub use Rattle.spdx_canonical.specs.Code as CanonicalCode
 pub use Rattle.spdx_canonical.specs.Law as CanonicalLaw
-pub use Rattle.spdx_fix.specs.Fix
-pub use Rattle.spdx_normal.specs.Law as NormalLaw
-pub use Rattle.spdx_normal.specs.Normal
+pub use Rattle.spdx_canonical.specs.Fix
+pub use Rattle.spdx_canonical.specs.NormalLaw as NormalLaw
+pub use Rattle.spdx_canonical.specs.Normal

@@ -11,7 +11,7 @@ use Rattle.spdx_parser.specs.Grammar.{IsTheTree}
 use Rattle.spdx_parser.specs.Last.{Due}
 use Rattle.spdx_parser.specs.Spans.{license_spans}
 use Rattle.spdx_parser.specs.Meaning.{IsOfRows}
-use Rattle.spdx_normal.specs.Law.{ReadsAs}
+use Rattle.spdx_canonical.specs.NormalLaw.{ReadsAs}
 use Rattle.spdx.specs.Value.{Written}
 
 -- The text reads without a fault, the grammar derives the expression's tree from its words, and no

@@ -11,7 +11,7 @@
 //! Ok(expression.evaluate(alloc, &mut policy)?)
 //! ```
 //!
-//! It stands on the layers `spdx_requirement` to `spdx_normal`, and hands on what users need of them: callers name
+//! It stands on the layers `spdx_requirement` to `spdx_meaning`, and hands on what users need of them: callers name
 //! `spdx` alone.
 #![tactic(auto)]
 
@@ -26,6 +26,7 @@ pub mod lexer {
 
 pub use crate::error::{CatalogueError, Error, Failure, MinimizeError, ParseError, ReadFault};
 pub use crate::expression::{Expression, ExpressionJudge, minimized_for_all};
+pub use selections::{Sufficiency, least_selection};
 pub use spdx_catalogue::{
     AdditionItem, AdditionRef, Catalogue, Exception, ExceptionId, ImpreciseName, License,
     LicenseId, LicenseItem, LicenseRef, LicenseReq, flags,
@@ -34,4 +35,3 @@ pub use spdx_lexer::token::ParseMode;
 pub use spdx_licensee::Licensee;
 pub use spdx_meaning::TooManySets;
 pub use spdx_minimize::AcceptedLicensees;
-pub use sufficiency::{Sufficiency, least_selection};

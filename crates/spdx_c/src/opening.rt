@@ -33,12 +33,12 @@ pub(crate) fn line_mode_of(number: u32) -> Option<LineMode>
 
 /// The list that these bytes are.
 pub(crate) fn read(alloc: Global, list: &[u8]) -> Result<Box<Catalogue, Global>, Report>
-    ensures ok { IfOk result (λ cat. catalogue_in list.now ≡ Ok cat.value) }
+    ensures ok { IfOk result (λ catalogue. catalogue_in list.now ≡ Ok catalogue.value) }
     ensures err { IfErr result (IsUnopened list.now) }
 {
     match Catalogue::from_json(alloc, list) {
-        Ok(cat) => match Box::new(alloc, cat) {
-            Ok(cat) => Ok(cat),
+        Ok(catalogue) => match Box::new(alloc, catalogue) {
+            Ok(catalogue) => Ok(catalogue),
             Err(_) => Err(plain(MEMORY)),
         },
         Err(Failure::Refused(_)) => Err(plain(LIST)),

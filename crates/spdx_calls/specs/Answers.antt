@@ -9,8 +9,8 @@ use Rattle.spdx_requirement.specs.Texts.{requirement_text}
 use Rattle.spdx_lexer.specs.declared.token.ParseMode.{ParseMode}
 use Rattle.spdx_parser.specs.Tree.{leaves}
 use Rattle.spdx_canonical.specs.Canonical.{canonical_of}
-use Rattle.spdx_fix.specs.Fix.{IsFix, HasNoFix}
-use Rattle.spdx_normal.specs.Normal.{normal_text}
+use Rattle.spdx_canonical.specs.Fix.{IsFix, HasNoFix}
+use Rattle.spdx_canonical.specs.Normal.{normal_text}
 use Rattle.spdx_evaluation.specs.Truth.{holds}
 use Rattle.spdx_minimize.specs.Choice.{choice_of, chosen}
 use Rattle.spdx.specs.Meaning.{IsReadFrom}

@@ -6,7 +6,7 @@ use Rattle.spdx_parser.specs.Tree.{Tree}
 use Rattle.spdx_meaning.specs.declared.relation.Relation.{Relation}
 use Rattle.spdx_meaning.specs.Made.{made_in}
 use Rattle.spdx_meaning.specs.Relations.{IsRelation}
-use Rattle.spdx_meaning_text.specs.MeaningText.{IsMeaningText, made_by_rank}
+use Rattle.spdx_meaning.specs.MeaningText.{IsMeaningText, made_by_rank}
 use Rattle.spdx.specs.Meaning.{IsReadFrom}
 use Rattle.spdx.specs.Value.{Written}
 use Rattle.spdx_calls.specs.declared.buffer.Put.{Put}

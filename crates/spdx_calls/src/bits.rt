@@ -17,16 +17,16 @@ use std::alloc::Global;
 /// Those of `check`; else `BitCount`, where `count` is not the number of the requirements.
 pub fn evaluate_bits(
     alloc: Global,
-    cat: &Catalogue,
+    catalogue: &Catalogue,
     mode: ParseMode,
     text: &[u8],
     bits: &[u8],
     count: usize,
 ) -> Result<bool, CallFault>
-    ensures ok { IfOk result (IsTruthByBits cat.now mode text.now bits.now count) }
-    ensures err { IfErr result (IsBitsFault cat.now mode text.now count) }
+    ensures ok { IfOk result (IsTruthByBits catalogue.now mode text.now bits.now count) }
+    ensures err { IfErr result (IsBitsFault catalogue.now mode text.now count) }
 {
-    let expression = read(alloc, cat, mode, text)?;
+    let expression = read(alloc, catalogue, mode, text)?;
     let wanted = expression.requirements().count();
     if count != wanted {
         return Err(CallFault::BitCount(wanted));

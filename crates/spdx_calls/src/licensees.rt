@@ -26,15 +26,15 @@ fn split_line(bytes: &[u8]) -> Option<(&[u8], &[u8])>
 // The licensee that a line names; it has this number.
 fn read_licensee<'c>(
     alloc: Global,
-    cat: &'c Catalogue,
+    catalogue: &'c Catalogue,
     line: &[u8],
     number: usize,
 ) -> Result<Licensee<'c>, CallFault>
-    ensures ok { IfOk result (λ licensee. Names cat.now line.now licensee) }
-    ensures err { IfErr result (IsFaultOfLine cat.now line.now number) }
+    ensures ok { IfOk result (λ licensee. Names catalogue.now line.now licensee) }
+    ensures err { IfErr result (IsFaultOfLine catalogue.now line.now number) }
 {
     match str::from_utf8(line) {
-        Ok(text) => read_name(alloc, cat, text, number),
+        Ok(text) => read_name(alloc, catalogue, text, number),
         Err(_) => Err(CallFault::LicenseeNotText(number)),
     }
 }
@@ -42,14 +42,14 @@ fn read_licensee<'c>(
 // The licensee that a text names; it has this number.
 fn read_name<'c>(
     alloc: Global,
-    cat: &'c Catalogue,
+    catalogue: &'c Catalogue,
     text: &str,
     number: usize,
 ) -> Result<Licensee<'c>, CallFault>
-    ensures ok { IfOk result (λ licensee. Names cat.now text.now licensee) }
-    ensures err { IfErr result (IsFaultOfLine cat.now text.now number) }
+    ensures ok { IfOk result (λ licensee. Names catalogue.now text.now licensee) }
+    ensures err { IfErr result (IsFaultOfLine catalogue.now text.now number) }
 {
-    match Licensee::parse(alloc, cat, text) {
+    match Licensee::parse(alloc, catalogue, text) {
         Ok(licensee) => Ok(licensee),
         Err(Failure::Refused(error)) => Err(CallFault::Licensee(number, refused_at(&error))),
         Err(Failure::Memory(_)) => Err(CallFault::Memory),
@@ -59,24 +59,24 @@ fn read_name<'c>(
 // The licensees that the lines name.
 pub(crate) fn read_licensees<'c>(
     alloc: Global,
-    cat: &'c Catalogue,
+    catalogue: &'c Catalogue,
     names: &[u8],
 ) -> Result<Vec<Licensee<'c>>, CallFault>
     ensures ok { IfOk result (λ licensees.
-        AreNamed cat.now (lines_of names.now) licensees.items) }
-    ensures err { IfErr result (IsLicenseesFault cat.now (lines_of names.now)) }
+        AreNamed catalogue.now (lines_of names.now) licensees.items) }
+    ensures err { IfErr result (IsLicenseesFault catalogue.now (lines_of names.now)) }
 {
     let mut licensees = Vec::new(alloc);
     let mut rest = names;
     while let Some((line, behind)) = split_line(rest) {
-        let licensee = read_licensee(alloc, cat, line, licensees.len())?;
+        let licensee = read_licensee(alloc, catalogue, line, licensees.len())?;
         licensees.push(licensee)?;
         rest = behind;
     }
     if rest.is_empty() {
         return Ok(licensees);
     }
-    let last = read_licensee(alloc, cat, rest, licensees.len())?;
+    let last = read_licensee(alloc, catalogue, rest, licensees.len())?;
     licensees.push(last)?;
     Ok(licensees)
 }

@@ -21,16 +21,16 @@ use std::io::Write;
 /// Those of `check`. Nothing is written then.
 pub fn requirements(
     alloc: Global,
-    cat: &Catalogue,
+    catalogue: &Catalogue,
     mode: ParseMode,
     text: &[u8],
     out: &mut [u8],
 ) -> Result<Put, CallFault>
-    ensures ok { IfOk result (PutsRequirements cat.now mode text.now out.old out.new) }
-    ensures err { IfErr result (IsTextFault cat.now mode text.now) }
+    ensures ok { IfOk result (PutsRequirements catalogue.now mode text.now out.old out.new) }
+    ensures err { IfErr result (IsTextFault catalogue.now mode text.now) }
     ensures unwritten { OnErr result (out.new ≡ out.old) }
 {
-    let expression = read(alloc, cat, mode, text)?;
+    let expression = read(alloc, catalogue, mode, text)?;
     let lines = lines_in(alloc, &expression)?;
     Ok(put_text(&lines, out))
 }

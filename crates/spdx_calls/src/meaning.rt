@@ -3,14 +3,14 @@
 ghost use Rattle.std.specs.Prelude.{◌≡◌, ◌↔◌, IsTrue, OnErr, IfOk, IfErr};
 ghost use Rattle.spdx.specs.Meaning.{IsReadFrom};
 ghost use Rattle.spdx_meaning.specs.Meaning.{AsksAtLeast};
-ghost use Rattle.spdx_meaning.specs.Relations.{relation_of, IsRelation};
+ghost use Rattle.spdx_meaning.specs.Relations.{IsRelation};
 ghost use Rattle.spdx_calls.specs.Meanings.{PutsMeaning, IsMeaningFault, IsCompared, IsComparisonFault, IsOtherFault, IsFaultOfTree, IsFaultOfTrees};
 
 use crate::buffer::{Put, put_text};
 use crate::fault::CallFault;
 use crate::reading::read;
 use spdx::{Catalogue, Expression, Failure, ParseMode};
-use spdx_meaning::Relation;
+use spdx_meaning::{Relation, relation_of};
 use std::alloc::Global;
 
 /// Puts the meaning text of an expression that this mode reads into the buffer: its least sets of requirements, those of
@@ -22,16 +22,16 @@ use std::alloc::Global;
 /// Those of `check`; else `TooManySets`. Nothing is written then.
 pub fn simplify(
     alloc: Global,
-    cat: &Catalogue,
+    catalogue: &Catalogue,
     mode: ParseMode,
     text: &[u8],
     out: &mut [u8],
 ) -> Result<Put, CallFault>
-    ensures ok { IfOk result (PutsMeaning cat.now mode text.now out.old out.new) }
-    ensures err { IfErr result (IsMeaningFault cat.now mode text.now) }
+    ensures ok { IfOk result (PutsMeaning catalogue.now mode text.now out.old out.new) }
+    ensures err { IfErr result (IsMeaningFault catalogue.now mode text.now) }
     ensures unwritten { OnErr result (out.new ≡ out.old) }
 {
-    let expression = read(alloc, cat, mode, text)?;
+    let expression = read(alloc, catalogue, mode, text)?;
     match expression.meaning_text(alloc) {
         Ok(meaning) => Ok(put_text(meaning.as_bytes(), out)),
         Err(Failure::Refused(many)) => Err(CallFault::TooManySets(many.0)),
@@ -47,30 +47,30 @@ pub fn simplify(
 /// `TooManySets` of one of them.
 pub fn compare(
     alloc: Global,
-    cat: &Catalogue,
+    catalogue: &Catalogue,
     mode: ParseMode,
     one: &[u8],
     other: &[u8],
 ) -> Result<Relation, CallFault>
-    ensures ok { IfOk result (IsCompared cat.now mode one.now other.now) }
-    ensures err { IfErr result (IsComparisonFault cat.now mode one.now other.now) }
+    ensures ok { IfOk result (IsCompared catalogue.now mode one.now other.now) }
+    ensures err { IfErr result (IsComparisonFault catalogue.now mode one.now other.now) }
 {
-    let first = read(alloc, cat, mode, one)?;
-    let second = read_other(alloc, cat, mode, other)?;
+    let first = read(alloc, catalogue, mode, one)?;
+    let second = read_other(alloc, catalogue, mode, other)?;
     relation_between(alloc, &first, &second)
 }
 
 // The expression that the second of two texts means.
 fn read_other<'c>(
     alloc: Global,
-    cat: &'c Catalogue,
+    catalogue: &'c Catalogue,
     mode: ParseMode,
     text: &[u8],
 ) -> Result<Expression<'c>, CallFault>
-    ensures ok { IfOk result (λ e. IsReadFrom cat.now mode text.now e) }
-    ensures err { IfErr result (IsOtherFault cat.now mode text.now) }
+    ensures ok { IfOk result (λ e. IsReadFrom catalogue.now mode text.now e) }
+    ensures err { IfErr result (IsOtherFault catalogue.now mode text.now) }
 {
-    match read(alloc, cat, mode, text) {
+    match read(alloc, catalogue, mode, text) {
         Ok(expression) => Ok(expression),
         Err(CallFault::NotText) => Err(CallFault::OtherNotText),
         Err(CallFault::Refused(refusal)) => Err(CallFault::OtherRefused(refusal)),
@@ -103,17 +103,5 @@ fn asks_at_least<'c>(
         Ok(asks) => Ok(asks),
         Err(Failure::Refused(many)) => Err(CallFault::TooManySets(many.0)),
         Err(Failure::Memory(_)) => Err(CallFault::Memory),
-    }
-}
-
-// What it is by whether the first asks at least what the second does, and the other way round.
-fn relation_of(forth: bool, back: bool) -> Relation
-    ensures { result ≡ relation_of forth back }
-{
-    match (forth, back) {
-        (true, true) => Relation::Same,
-        (true, false) => Relation::More,
-        (false, true) => Relation::Less,
-        (false, false) => Relation::Neither,
     }
 }

@@ -20,11 +20,16 @@ use std::alloc::Global;
 /// # Errors
 ///
 /// `NotText`, `Refused` with the first fault, or `Memory`.
-pub fn check(alloc: Global, cat: &Catalogue, mode: ParseMode, text: &[u8]) -> Result<(), CallFault>
-    ensures ok { OnOk result (Reads cat.now mode text.now) }
-    ensures err { IfErr result (IsTextFault cat.now mode text.now) }
+pub fn check(
+    alloc: Global,
+    catalogue: &Catalogue,
+    mode: ParseMode,
+    text: &[u8],
+) -> Result<(), CallFault>
+    ensures ok { OnOk result (Reads catalogue.now mode text.now) }
+    ensures err { IfErr result (IsTextFault catalogue.now mode text.now) }
 {
-    read(alloc, cat, mode, text)?;
+    read(alloc, catalogue, mode, text)?;
     Ok(())
 }
 
@@ -36,16 +41,16 @@ pub fn check(alloc: Global, cat: &Catalogue, mode: ParseMode, text: &[u8]) -> Re
 /// Those of `check`; else the first licensee that is refused.
 pub fn evaluate(
     alloc: Global,
-    cat: &Catalogue,
+    catalogue: &Catalogue,
     mode: ParseMode,
     text: &[u8],
     licensees: &[u8],
 ) -> Result<bool, CallFault>
-    ensures ok { IfOk result (IsTruth cat.now mode text.now licensees.now) }
-    ensures err { IfErr result (IsQuestionFault cat.now mode text.now licensees.now) }
+    ensures ok { IfOk result (IsTruth catalogue.now mode text.now licensees.now) }
+    ensures err { IfErr result (IsQuestionFault catalogue.now mode text.now licensees.now) }
 {
-    let expression = read(alloc, cat, mode, text)?;
-    let accepted = read_licensees(alloc, cat, licensees)?;
+    let expression = read(alloc, catalogue, mode, text)?;
+    let accepted = read_licensees(alloc, catalogue, licensees)?;
     let mut policy = |req: &LicenseReq<'_>| is_accepted(&accepted, req);
     match expression.evaluate(alloc, &mut policy) {
         Ok(truth) => Ok(truth),
@@ -61,19 +66,19 @@ pub fn evaluate(
 /// Those of `evaluate`; else `TooMany` or `Unmet`. Nothing is written then.
 pub fn choose(
     alloc: Global,
-    cat: &Catalogue,
+    catalogue: &Catalogue,
     mode: ParseMode,
     text: &[u8],
     licensees: &[u8],
     out: &mut [u8],
 ) -> Result<Put, CallFault>
     ensures ok { IfOk result (
-        PutsChoice cat.now mode text.now licensees.now out.old out.new) }
-    ensures err { IfErr result (IsChoiceFault cat.now mode text.now licensees.now) }
+        PutsChoice catalogue.now mode text.now licensees.now out.old out.new) }
+    ensures err { IfErr result (IsChoiceFault catalogue.now mode text.now licensees.now) }
     ensures unwritten { OnErr result (out.new ≡ out.old) }
 {
-    let expression = read(alloc, cat, mode, text)?;
-    let accepted = read_licensees(alloc, cat, licensees)?;
+    let expression = read(alloc, catalogue, mode, text)?;
+    let accepted = read_licensees(alloc, catalogue, licensees)?;
     match expression.minimized_requirements(alloc, &accepted) {
         Ok(chosen) => {
             let lines = requirement_lines(alloc, &chosen)?;

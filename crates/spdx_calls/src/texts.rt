@@ -19,17 +19,17 @@ use std::alloc::Global;
 /// Those of `check`. Nothing is written then.
 pub fn canonical(
     alloc: Global,
-    cat: &Catalogue,
+    catalogue: &Catalogue,
     mode: ParseMode,
     text: &[u8],
     out: &mut [u8],
 ) -> Result<Put, CallFault>
-    ensures ok { IfOk result (PutsCanonical cat.now mode text.now out.old out.new) }
-    ensures err { IfErr result (IsCanonicalFault cat.now mode text.now) }
+    ensures ok { IfOk result (PutsCanonical catalogue.now mode text.now out.old out.new) }
+    ensures err { IfErr result (IsCanonicalFault catalogue.now mode text.now) }
     ensures unwritten { OnErr result (out.new ≡ out.old) }
 {
-    let expression = read(alloc, cat, mode, text)?;
-    match Expression::canonicalize(alloc, cat, expression.text()) {
+    let expression = read(alloc, catalogue, mode, text)?;
+    match Expression::canonicalize(alloc, catalogue, expression.text()) {
         Ok(None) => Ok(put_text(text, out)),
         Ok(Some(canonical)) => Ok(put_text(canonical.as_bytes(), out)),
         Err(Failure::Refused(error)) => Err(CallFault::Refused(refused_at(&error))),
@@ -45,18 +45,18 @@ pub fn canonical(
 /// `NotText` or `Memory`. Nothing is written then.
 pub fn fix(
     alloc: Global,
-    cat: &Catalogue,
+    catalogue: &Catalogue,
     text: &[u8],
     out: &mut [u8],
 ) -> Result<Option<Put>, CallFault>
-    ensures ok { IfOk result (PutsFix cat.now text.now out.old out.new) }
+    ensures ok { IfOk result (PutsFix catalogue.now text.now out.old out.new) }
     ensures err { IfErr result (IsFixFault text.now) }
     ensures unwritten { OnErr result (out.new ≡ out.old) }
 {
     let Ok(text) = str::from_utf8(text) else {
         return Err(CallFault::NotText);
     };
-    match Expression::fix(alloc, cat, text) {
+    match Expression::fix(alloc, catalogue, text) {
         Ok(Some(mended)) => Ok(Some(put_text(mended.as_bytes(), out))),
         Ok(None) => Ok(None),
         Err(_) => Err(CallFault::Memory),
@@ -70,16 +70,16 @@ pub fn fix(
 /// Those of `check`. Nothing is written then.
 pub fn normal(
     alloc: Global,
-    cat: &Catalogue,
+    catalogue: &Catalogue,
     mode: ParseMode,
     text: &[u8],
     out: &mut [u8],
 ) -> Result<Put, CallFault>
-    ensures ok { IfOk result (PutsNormal cat.now mode text.now out.old out.new) }
-    ensures err { IfErr result (IsTextFault cat.now mode text.now) }
+    ensures ok { IfOk result (PutsNormal catalogue.now mode text.now out.old out.new) }
+    ensures err { IfErr result (IsTextFault catalogue.now mode text.now) }
     ensures unwritten { OnErr result (out.new ≡ out.old) }
 {
-    let expression = read(alloc, cat, mode, text)?;
+    let expression = read(alloc, catalogue, mode, text)?;
     match expression.normal_text(alloc) {
         Ok(normal) => Ok(put_text(normal.as_bytes(), out)),
         Err(_) => Err(CallFault::Memory),
@@ -101,21 +101,21 @@ pub struct Answered {
 /// The first licensee that is refused, or `Memory`. Nothing is written then.
 pub fn lines(
     alloc: Global,
-    cat: &Catalogue,
+    catalogue: &Catalogue,
     mode: LineMode,
     licensees: &[u8],
     input: &[u8],
     out: &mut [u8],
 ) -> Result<Answered, CallFault>
     ensures ok { IfOk result (
-        PutsLines cat.now mode licensees.now input.now out.old out.new) }
-    ensures err { IfErr result (IsLinesFault cat.now licensees.now) }
+        PutsLines catalogue.now mode licensees.now input.now out.old out.new) }
+    ensures err { IfErr result (IsLinesFault catalogue.now licensees.now) }
     ensures unwritten { OnErr result (out.new ≡ out.old) }
 {
-    let accepted = read_licensees(alloc, cat, licensees)?;
+    let accepted = read_licensees(alloc, catalogue, licensees)?;
     let mut source = Input::new(input);
     let mut sink = Output::new(Vec::new(alloc));
-    match run(alloc, cat, mode, &accepted, &mut source, &mut sink) {
+    match run(alloc, catalogue, mode, &accepted, &mut source, &mut sink) {
         Ok(summary) => {
             let verdicts = sink.into_inner();
             let put = put_text(&verdicts, out);

@@ -18,3 +18,11 @@ pub mod Pushed
 pub mod Continued
 pub mod Laxer
 pub mod Heard
+pub mod FixRead
+pub mod Leaves
+pub mod Words
+pub mod Derives
+pub mod Fewest
+pub mod NormalLaws
+pub mod Walk
+pub mod Steps

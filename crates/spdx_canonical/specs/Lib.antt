@@ -4,3 +4,7 @@ pub mod Draft
 pub mod NextText
 pub mod Code
 pub mod DraftModel
+pub mod Fix
+pub mod Normal
+pub mod NormalLaw
+pub mod Plan

@@ -7,7 +7,7 @@ use Rattle.spdx_requirement.specs.Rows.{Rows}
 use Rattle.spdx_lexer.specs.declared.token.ParseMode.{ParseMode}
 use Rattle.spdx_lexer.specs.Words.{Fault, Span}
 use Rattle.spdx_parser.specs.Faults.{IsFaultOf}
-use Rattle.spdx_fix.specs.Fix.{Reads}
+use Rattle.spdx_canonical.specs.Fix.{Reads}
 use Rattle.spdx_lines.specs.Outcome.{Outcome, outcome}
 use Rattle.spdx_lines.proofs.Outcome.{Means, outcome_means, fault_found}
 use Rattle.spdx_list.specs.Files.{InsteadRow}

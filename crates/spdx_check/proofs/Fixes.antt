@@ -7,8 +7,8 @@ use Rattle.spdx_lexer.specs.Words.{Word, Fault, Span, Item, Placed, words}
 use Rattle.spdx_lexer.specs.Reading.{said}
 use Rattle.spdx_parser.specs.Tree.{Tree}
 use Rattle.spdx_canonical.specs.Canonical.{canonical_of}
-use Rattle.spdx_fix.specs.Fix.{Reads, IsFixOf}
-use Rattle.spdx_fix.proofs.Read.{refused_reads}
+use Rattle.spdx_canonical.specs.Fix.{Reads, IsFixOf}
+use Rattle.spdx_canonical.proofs.FixRead.{refused_reads}
 use Rattle.spdx_lines.specs.Outcome.{Outcome, outcome}
 use Rattle.spdx_lines.proofs.Outcome.{Means, outcome_means, tree_found}
 use Rattle.spdx_check.specs.Found.{when_accepted, mended, fix_of}

@@ -1,7 +1,7 @@
 -- A finding's text round the number of its line tells the finding in each line of the file.
 use Rattle.std.proofs.Common.{◌≡◌, ℕ, List, Some, refl, sym, ap, ◌∙◌}
 use Rattle.finding_forms.specs.declared.forms.Form.{Form}
-use Rattle.finding_forms.specs.declared.frames.Frame.{Frame}
+use Rattle.finding_forms.specs.declared.text.frames.Frame.{Frame}
 use Rattle.finding_forms.specs.Finding.{Told}
 use Rattle.finding_forms.specs.Forms.{finding_text}
 use Rattle.finding_forms.specs.Frames.{IsFrame, on_line}

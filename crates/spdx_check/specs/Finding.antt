@@ -6,7 +6,7 @@ use Rattle.spdx_lexer.specs.declared.token.ParseMode.{ParseMode}
 use Rattle.spdx_lexer.specs.Words.{Fault, UnknownLicense, UnknownTerm, InvalidCharacters, DeprecatedLicenseId, Span, span}
 use Rattle.spdx_lexer.specs.Faults.{fault_text}
 use Rattle.spdx_parser.specs.Faults.{IsFaultOf}
-use Rattle.spdx_fix.specs.Fix.{Reads, IsFixOf}
+use Rattle.spdx_canonical.specs.Fix.{Reads, IsFixOf}
 use Rattle.spdx_hints.specs.declared.rule.Rule.{Rule}
 use Rattle.spdx_hints.specs.Rules.{rule_word}
 use Rattle.spdx_hints.specs.Hints.{hints_of, rule_of}

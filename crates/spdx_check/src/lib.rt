@@ -5,7 +5,7 @@
 //! let Some(refusal) = refusal_of(alloc, check, written.text)? else {
 //! ```
 //!
-//! It stands on the parser, `spdx_fix`, `spdx_hints` and `spdx_list` for what helps, `finding_forms` for how it is
+//! It stands on the parser, `spdx_canonical`, `spdx_hints` and `spdx_list` for what helps, `finding_forms` for how it is
 //! written, and `line_engine`.
 #![tactic(auto)]
 

@@ -6,7 +6,7 @@ ghost use Rattle.std.specs.Str.Lossy.{utf8_valid_len};
 ghost use Rattle.spdx_lexer.specs.Code.{span_of};
 ghost use Rattle.spdx_lexer.specs.Faults.{fault_of};
 ghost use Rattle.spdx_parser.specs.Meaning.{IsRefused};
-ghost use Rattle.spdx_fix.specs.Fix.{Reads};
+ghost use Rattle.spdx_canonical.specs.Fix.{Reads};
 ghost use Rattle.finding_forms.specs.Finding.{aid_of, told};
 ghost use Rattle.spdx_hints.specs.Borrowed.{nows};
 ghost use Rattle.spdx_list.specs.Shown.{instead_of};
@@ -18,8 +18,8 @@ ghost use Rattle.spdx_check.specs.Refusals.{aid_in, wrong_of};
 
 use crate::check::Check;
 use finding_forms::{Finding, Help, Place, Sight};
+use spdx_canonical::fix;
 use spdx_catalogue::{Catalogue, Failure};
-use spdx_fix::fix;
 use spdx_hints::{Meant, hints, phrase};
 use spdx_lexer::error::{ParseError, Reason};
 use spdx_list::Instead;

@@ -107,15 +107,15 @@ impl Judge<'_> {
         input: &mut Input<Feed<'_>>,
         output: &mut Output<Tray>,
     ) -> Answer {
-        let (alloc, cat, accepted) = (self.alloc, self.catalogue, self.accepted.as_slice());
+        let (alloc, catalogue, accepted) = (self.alloc, self.catalogue, self.accepted.as_slice());
         let lax = LineMode::Lax;
         let mut buffer = [0u8; 4096];
         let room = &mut buffer[..way.size()];
         match way {
-            Way::Run => run(alloc, cat, lax, accepted, input, output),
-            Way::RunIn(_) => run_in(alloc, cat, lax, accepted, input, output, room),
-            Way::RunAll => run_all(alloc, cat, lax, accepted, input, output),
-            Way::RunAllIn(_) => run_all_in(alloc, cat, lax, accepted, input, output, room),
+            Way::Run => run(alloc, catalogue, lax, accepted, input, output),
+            Way::RunIn(_) => run_in(alloc, catalogue, lax, accepted, input, output, room),
+            Way::RunAll => run_all(alloc, catalogue, lax, accepted, input, output),
+            Way::RunAllIn(_) => run_all_in(alloc, catalogue, lax, accepted, input, output, room),
         }
     }
 }

@@ -3,7 +3,7 @@ use Rattle.std.proofs.Common.{◌≡◌, ℕ, suc, ◌+◌, ◌-◌, ◌<◌, �
 use Rattle.std.proofs.lemmas.List.{append-nil, append_assoc, drop_more, take_more, take_all, drop_all, length-map}
 use Rattle.spdx_requirement.specs.declared.requirement.LicenseReq.{LicenseReq}
 use Rattle.spdx_requirement.specs.Items.{Requirement}
-use Rattle.bit_stack.specs.Truths.{Stack, join_newest}
+use Rattle.selections.specs.Truths.{Stack, join_newest}
 use Rattle.spdx_parser.specs.declared.node.Operator.{Operator}
 use Rattle.spdx_parser.specs.declared.node.ExpressionReq.{ExpressionReq}
 use Rattle.spdx_parser.specs.declared.node.ExprNode.{ExprNode}

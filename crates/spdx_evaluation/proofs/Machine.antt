@@ -1,7 +1,7 @@
 -- The stack of truths over the nodes of a tree in postfix order.
 use Rattle.std.proofs.Common.{◌≡◌, ℕ, ◌+◌, ◌-◌, ◌≤◌, Bool, false, List, [], ◌∷◌, ◌++◌, length, take, drop, refl, sym, ◌∙◌, ap, subst, arith, get_or}
 use Rattle.std.proofs.lemmas.List.{append_assoc, length-append, length-drop, length-take-le, take-append-drop}
-use Rattle.bit_stack.specs.Truths.{join_newest}
+use Rattle.selections.specs.Truths.{join_newest}
 use Rattle.spdx_parser.specs.Tree.{Tree, Leaf, Join, Node, Op, Req, postfix, leaves}
 use Rattle.spdx_evaluation.specs.PostfixLaws.{regroup}
 use Rattle.spdx_evaluation.specs.Truth.{joined, truth_of}

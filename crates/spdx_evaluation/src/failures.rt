@@ -11,7 +11,7 @@ ghost use Rattle.spdx_evaluation.specs.Calls.{Evaluates, EvaluatesToFalse};
 ghost use Rattle.spdx_evaluation.specs.ByRequirement.{AnswersBy, FailsBy};
 ghost use Rattle.spdx_evaluation.specs.Truth.{holds};
 
-use bit_stack::Truths;
+use selections::Truths;
 use spdx_catalogue::{Failure, LicenseReq};
 use spdx_parser::node::{ExprNode, ExpressionReq, Operator};
 use std::alloc::Global;

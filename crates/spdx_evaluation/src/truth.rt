@@ -10,7 +10,7 @@ ghost use Rattle.spdx_evaluation.specs.ByRequirement.{AnswersBy};
 ghost use Rattle.spdx_evaluation.specs.Truth.{holds};
 
 use crate::word::truth_in_word;
-use bit_stack::Truths;
+use selections::Truths;
 use spdx_catalogue::LicenseReq;
 use spdx_parser::node::{ExprNode, Operator};
 use std::alloc::{AllocError, Global};

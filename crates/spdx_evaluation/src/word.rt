@@ -6,7 +6,7 @@ ghost use Rattle.spdx_parser.specs.Tree.{node_of};
 ghost use Rattle.spdx_evaluation.specs.Postfix.{IsPostfix, tree_in};
 ghost use Rattle.spdx_evaluation.specs.Calls.{Evaluates};
 
-use bit_stack::WordTruths;
+use selections::WordTruths;
 use spdx_catalogue::LicenseReq;
 use spdx_parser::node::{ExprNode, Operator};
 

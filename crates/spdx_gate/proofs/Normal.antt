@@ -7,9 +7,9 @@ use Rattle.spdx_lexer.specs.Words.{words}
 use Rattle.spdx_lexer.specs.Modes.{strict, lax}
 use Rattle.spdx_lexer.specs.Reading.{said}
 use Rattle.spdx_parser.specs.Tree.{Tree, postfix, leaves, node_of}
-use Rattle.spdx_normal.specs.Normal.{normal_text}
-use Rattle.spdx_normal.specs.Law.{IsStrict, ReadsAs}
-use Rattle.spdx_normal.proofs.Laws.{reads}
+use Rattle.spdx_canonical.specs.Normal.{normal_text}
+use Rattle.spdx_canonical.specs.NormalLaw.{IsStrict, ReadsAs}
+use Rattle.spdx_canonical.proofs.NormalLaws.{reads}
 use Rattle.spdx_policy.specs.declared.decision.Decision.{Decision}
 use Rattle.spdx_policy.specs.Decisions.{decision_of}
 use Rattle.spdx_policy.specs.Rules.{Rules}

@@ -10,7 +10,7 @@ use Rattle.spdx_lexer.specs.Words.{Placed, words}
 use Rattle.spdx_parser.specs.Tree.{Tree, Leaf, leaves}
 use Rattle.spdx_parser.specs.Grammar.{IsTheTree}
 use Rattle.spdx_evaluation.specs.Truth.{holds, truth_of}
-use Rattle.sufficiency.specs.Selection.{IsWithin}
+use Rattle.selections.specs.Selection.{IsWithin}
 use Rattle.spdx_minimize.specs.GrowthLaws.{truth_grows}
 use Rattle.spdx_alternatives.specs.Heirs.{Heir}
 use Rattle.spdx_alternatives.specs.Sense.{sense}

@@ -3,8 +3,8 @@ use Rattle.std.specs.Prelude.{◌≡◌, ℕ, false, List}
 use Rattle.std.proofs.Common.{◌⊎◌}
 use Rattle.spdx_requirement.specs.Rows.{Rows}
 use Rattle.spdx_parser.specs.Tree.{Tree}
-use Rattle.spdx_normal.specs.Normal.{normal_text}
-use Rattle.spdx_normal.specs.Law.{IsStrict}
+use Rattle.spdx_canonical.specs.Normal.{normal_text}
+use Rattle.spdx_canonical.specs.NormalLaw.{IsStrict}
 use Rattle.spdx_policy.specs.Rules.{Rules}
 use Rattle.spdx_gate.specs.declared.judgement.Outcome.{Outcome}
 use Rattle.spdx_gate.specs.Judging.{mode_of, IsOutcome}

@@ -49,18 +49,18 @@ impl<'c> Licensee<'c> {
     /// text, on boundaries of characters. Or want of memory.
     pub fn parse<'t>(
         alloc: Global,
-        cat: &'c Catalogue,
+        catalogue: &'c Catalogue,
         text: &'t str,
     ) -> Result<Licensee<'c>, Failure<ParseError<'t>>>
-        ensures ok { IfOk result (λ licensee. Names cat.now text.now licensee) }
+        ensures ok { IfOk result (λ licensee. Names catalogue.now text.now licensee) }
         ensures err { IfErr result (IfRefused (λ e.
-            IsLicenseeFault cat.now text.now (fault_of e.reason) (span_of e.span))) }
-        ensures none { IfErr result (IfRefused (λ _. NamesNone cat.now text.now)) }
+            IsLicenseeFault catalogue.now text.now (fault_of e.reason) (span_of e.span))) }
+        ensures none { IfErr result (IfRefused (λ _. NamesNone catalogue.now text.now)) }
         ensures original { IfErr result (IfRefused (λ e. e.original.now ≡ text.now)) }
         ensures place { IfErr result (IfRefused (λ e. IsPlace text.now (span_of e.span))) }
-        ensures memory { has_reference cat.now text.now ≡ false → IfErr result TellsAFault }
+        ensures memory { has_reference catalogue.now text.now ≡ false → IfErr result TellsAFault }
     {
-        let mut lexer = Lexer::new(cat, text);
+        let mut lexer = Lexer::new(catalogue, text);
         Ok(Licensee {
             req: read_requirement(alloc, text, &mut lexer)?,
         })

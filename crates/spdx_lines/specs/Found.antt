@@ -11,7 +11,7 @@ use Rattle.spdx_lexer.specs.Words.{Fault, Span}
 use Rattle.spdx_lexer.specs.Reading.{reading}
 use Rattle.spdx_parser.specs.Tree.{Tree}
 use Rattle.spdx_canonical.specs.Canonical.{canonical_of}
-use Rattle.spdx_normal.specs.Normal.{normal_text}
+use Rattle.spdx_canonical.specs.Normal.{normal_text}
 use Rattle.spdx_licensee.specs.Answers.{licensee_at}
 use Rattle.spdx_lines.specs.declared.lines.LineMode.{LineMode}
 use Rattle.spdx_lines.specs.declared.lines.LineMode.TheVariants.{Strict, Lax, Normal}

@@ -14,7 +14,7 @@ use Rattle.spdx_parser.specs.Tree.{Tree}
 use Rattle.spdx_parser.specs.Grammar.{IsTheTree}
 use Rattle.spdx_parser.specs.Faults.{IsFaultOf}
 use Rattle.spdx_canonical.specs.Canonical.{canonical_of}
-use Rattle.spdx_normal.specs.Normal.{normal_text}
+use Rattle.spdx_canonical.specs.Normal.{normal_text}
 use Rattle.spdx_minimize.specs.Choice.{Choice, chosen, too_many, unmet, choice_of}
 use Rattle.spdx_lines.specs.declared.lines.LineMode.{LineMode}
 use Rattle.spdx_lines.specs.declared.lines.LineMode.TheVariants.{Strict, Lax, Normal}

@@ -16,7 +16,7 @@ use std::alloc::{AllocError, Global};
 /// Answers each line without a choice, and at the end gives one for all accepted lines.
 #[derive(Drop)]
 pub(crate) struct AllLines<'r, 'c> {
-    cat: &'c Catalogue,
+    catalogue: &'c Catalogue,
     mode: LineMode,
     accepted: &'r [Licensee<'c>],
     kept: Kept<'c>,
@@ -25,17 +25,17 @@ pub(crate) struct AllLines<'r, 'c> {
 impl<'r, 'c> AllLines<'r, 'c> {
     pub(crate) fn new(
         alloc: Global,
-        cat: &'c Catalogue,
+        catalogue: &'c Catalogue,
         mode: LineMode,
         accepted: &'r [Licensee<'c>],
     ) -> AllLines<'r, 'c>
-        ensures cat { result.cat.now ≡ cat.now }
+        ensures catalogue { result.catalogue.now ≡ catalogue.now }
         ensures mode { result.mode ≡ mode }
         ensures accepted { result.accepted.now ≡ accepted.now }
         ensures kept { trees_in result.kept ≡ [] }
     {
         AllLines {
-            cat,
+            catalogue,
             mode,
             accepted,
             kept: Kept::new(alloc),
@@ -44,10 +44,11 @@ impl<'r, 'c> AllLines<'r, 'c> {
 }
 
 impl Verdicts for AllLines<'_, '_> {
-    ghost rule = { λ all. rule_of_all all.cat.now all.mode all.accepted.now };
+    ghost rule = { λ all. rule_of_all all.catalogue.now all.mode all.accepted.now };
 
     ghost HasAnswered = { λ all lines.
-        AreKept all.cat.now (trees_in all.kept) (accepted_trees all.cat.now all.mode lines) };
+        AreKept all.catalogue.now (trees_in all.kept)
+        (accepted_trees all.catalogue.now all.mode lines) };
 
     fn answer(
         &mut self,
@@ -55,7 +56,7 @@ impl Verdicts for AllLines<'_, '_> {
         line: &[u8],
         text: &mut Vec<u8>,
     ) -> Result<bool, AllocError> {
-        match begin_answer(alloc, self.cat, self.mode, line, text)? {
+        match begin_answer(alloc, self.catalogue, self.mode, line, text)? {
             None => Ok(true),
             Some(expression) => {
                 text.push(b'\n')?;

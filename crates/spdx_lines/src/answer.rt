@@ -16,23 +16,23 @@ use std::alloc::{AllocError, Global};
 // the normal text of its tree.
 fn read_line<'c, 't>(
     alloc: Global,
-    cat: &'c Catalogue,
+    catalogue: &'c Catalogue,
     mode: LineMode,
     line: &'t str,
 ) -> Result<(Expression<'c>, Option<String>), Failure<ParseError<'t>>>
-    ensures ok { IfOk result (λ both. IsReadFrom cat.now (parse_mode mode) line.now both.0) }
+    ensures ok { IfOk result (λ both. IsReadFrom catalogue.now (parse_mode mode) line.now both.0) }
     ensures err { IfErr result (IfRefused (λ error.
-        IsRefused cat.now (parse_mode mode) line.now error)) }
+        IsRefused catalogue.now (parse_mode mode) line.now error)) }
     ensures column { IfOk result (λ both. (column : List ℕ) →
-        IsColumn cat.now mode line.now both.0.tree column →
+        IsColumn catalogue.now mode line.now both.0.tree column →
         unwrap_or (option_map string_bytes both.1) line.now ≡ column) }
 {
     match mode {
         LineMode::Strict | LineMode::Lax => {
-            Expression::parse_canonical(alloc, cat, line, mode.parse_mode())
+            Expression::parse_canonical(alloc, catalogue, line, mode.parse_mode())
         }
         LineMode::Normal => {
-            let expression = Expression::parse_mode(alloc, cat, line, mode.parse_mode())?;
+            let expression = Expression::parse_mode(alloc, catalogue, line, mode.parse_mode())?;
             let normal = expression.normal_text(alloc)?;
             Ok((expression, Some(normal)))
         }
@@ -54,20 +54,20 @@ fn put_column(text: &mut Vec<u8>, column: &Option<String>, line: &str) -> Result
 /// is handed out.
 pub(crate) fn begin_answer<'c>(
     alloc: Global,
-    cat: &'c Catalogue,
+    catalogue: &'c Catalogue,
     mode: LineMode,
     line: &[u8],
     text: &mut Vec<u8>,
 ) -> Result<Option<Expression<'c>>, AllocError>
     ensures { IfOk result (λ found. MatchOption found
-        (RefusesSo cat.now mode line.now text.old.items text.new.items)
-        (λ e. AcceptsSo cat.now mode line.now text.old.items text.new.items e.tree)) }
+        (RefusesSo catalogue.now mode line.now text.old.items text.new.items)
+        (λ e. AcceptsSo catalogue.now mode line.now text.old.items text.new.items e.tree)) }
 {
     let Ok(line) = str::from_utf8(line) else {
         text.extend_from_slice(b"bad-utf8\n")?;
         return Ok(None);
     };
-    match read_line(alloc, cat, mode, line) {
+    match read_line(alloc, catalogue, mode, line) {
         Ok((expression, column)) => {
             text.extend_from_slice(b"accepted\t")?;
             put_column(text, &column, line)?;

@@ -17,29 +17,29 @@ use std::alloc::{AllocError, Global};
 /// requirements, as to which licensees satisfy them.
 #[derive(Drop)]
 pub(crate) struct EachLine<'r, 'c> {
-    cat: &'c Catalogue,
+    catalogue: &'c Catalogue,
     mode: LineMode,
     accepted: AcceptedLicensees<'r, 'c>,
     remembered: Remembered,
-    ghost known: { AreAnswers (rule_of cat.now mode (licensees_of accepted))
+    ghost known: { AreAnswers (rule_of catalogue.now mode (licensees_of accepted))
         remembered.slots.items },
 }
 
 impl<'r, 'c> EachLine<'r, 'c> {
     pub(crate) fn new(
         alloc: Global,
-        cat: &'c Catalogue,
+        catalogue: &'c Catalogue,
         mode: LineMode,
         accepted: &'r [Licensee<'c>],
     ) -> EachLine<'r, 'c>
-        ensures cat { result.cat.now ≡ cat.now }
+        ensures catalogue { result.catalogue.now ≡ catalogue.now }
         ensures mode { result.mode ≡ mode }
         ensures accepted { licensees_of result.accepted ≡ accepted.now }
     {
         let accepted = AcceptedLicensees::new(alloc, accepted);
         let remembered = Remembered::new(alloc);
         EachLine {
-            cat,
+            catalogue,
             mode,
             accepted,
             remembered,
@@ -50,19 +50,20 @@ impl<'r, 'c> EachLine<'r, 'c> {
 // Appends the answer to a line, and says whether the line is refused.
 fn put_answer<'c>(
     alloc: Global,
-    cat: &'c Catalogue,
+    catalogue: &'c Catalogue,
     mode: LineMode,
     accepted: &mut AcceptedLicensees<'_, 'c>,
     line: &[u8],
     text: &mut Vec<u8>,
 ) -> Result<bool, AllocError>
     ensures text { OnOk result (text.new.items
-        ≡ text.old.items ++ (rule_of cat.now mode (licensees_of accepted.old)).text [] line.now) }
+        ≡ text.old.items ++
+        (rule_of catalogue.now mode (licensees_of accepted.old)).text [] line.now) }
     ensures refuses { IfOk result (λ refused.
-        refused ≡ (rule_of cat.now mode (licensees_of accepted.old)).refuses line.now) }
+        refused ≡ (rule_of catalogue.now mode (licensees_of accepted.old)).refuses line.now) }
     ensures licensees { licensees_of accepted.new ≡ licensees_of accepted.old }
 {
-    match begin_answer(alloc, cat, mode, line, text)? {
+    match begin_answer(alloc, catalogue, mode, line, text)? {
         None => Ok(true),
         Some(expression) => {
             text.push(b'\t')?;
@@ -75,7 +76,7 @@ fn put_answer<'c>(
 
 impl Verdicts for EachLine<'_, '_> {
     ghost rule = { λ each.
-        rule_of each.cat.now each.mode (licensees_of each.accepted) };
+        rule_of each.catalogue.now each.mode (licensees_of each.accepted) };
 
     ghost HasAnswered = { λ _ _. Unit {0} };
 
@@ -90,7 +91,14 @@ impl Verdicts for EachLine<'_, '_> {
             return Ok(slot.is_refused());
         }
         let start = text.len();
-        let is_refused = put_answer(alloc, self.cat, self.mode, &mut self.accepted, line, text)?;
+        let is_refused = put_answer(
+            alloc,
+            self.catalogue,
+            self.mode,
+            &mut self.accepted,
+            line,
+            text,
+        )?;
         self.remembered
             .keep(alloc, line, &text[start..], is_refused);
         Ok(is_refused)

@@ -47,7 +47,7 @@ impl LineMode {
 /// is answered piece by piece.
 pub fn run_in<'c, I: Source, O: Sink>(
     alloc: Global,
-    cat: &'c Catalogue,
+    catalogue: &'c Catalogue,
     mode: LineMode,
     accepted: &[Licensee<'c>],
     input: &mut I,
@@ -55,11 +55,11 @@ pub fn run_in<'c, I: Source, O: Sink>(
     buffer: &mut [u8],
 ) -> Result<Summary, RunFault>
     requires room { 0 < length buffer.old }
-    ensures { RunsByLine cat.now mode accepted.now
+    ensures { RunsByLine catalogue.now mode accepted.now
         (devices (I.told input.old) (I.told input.new) (O.told output.old) (O.told output.new))
         result }
 {
-    let mut each = EachLine::new(alloc, cat, mode, accepted);
+    let mut each = EachLine::new(alloc, catalogue, mode, accepted);
     engine::run_in(alloc, &mut each, input, output, buffer)
 }
 
@@ -67,17 +67,17 @@ pub fn run_in<'c, I: Source, O: Sink>(
 /// read: that is `Memory`, unless the input has failed before.
 pub fn run<'c, I: Source, O: Sink>(
     alloc: Global,
-    cat: &'c Catalogue,
+    catalogue: &'c Catalogue,
     mode: LineMode,
     accepted: &[Licensee<'c>],
     input: &mut I,
     output: &mut O,
 ) -> Result<Summary, RunFault>
-    ensures { RunsByLine cat.now mode accepted.now
+    ensures { RunsByLine catalogue.now mode accepted.now
         (devices (I.told input.old) (I.told input.new) (O.told output.old) (O.told output.new))
         result }
 {
-    let mut each = EachLine::new(alloc, cat, mode, accepted);
+    let mut each = EachLine::new(alloc, catalogue, mode, accepted);
     engine::run(alloc, &mut each, input, output)
 }
 
@@ -90,7 +90,7 @@ pub fn run<'c, I: Source, O: Sink>(
 /// tree.
 pub fn run_all_in<'c, I: Source, O: Sink>(
     alloc: Global,
-    cat: &'c Catalogue,
+    catalogue: &'c Catalogue,
     mode: LineMode,
     accepted: &[Licensee<'c>],
     input: &mut I,
@@ -98,11 +98,11 @@ pub fn run_all_in<'c, I: Source, O: Sink>(
     buffer: &mut [u8],
 ) -> Result<Summary, RunFault>
     requires room { 0 < length buffer.old }
-    ensures { RunsForAll cat.now mode accepted.now
+    ensures { RunsForAll catalogue.now mode accepted.now
         (devices (I.told input.old) (I.told input.new) (O.told output.old) (O.told output.new))
         result }
 {
-    let mut all = AllLines::new(alloc, cat, mode, accepted);
+    let mut all = AllLines::new(alloc, catalogue, mode, accepted);
     engine::run_in(alloc, &mut all, input, output, buffer)
 }
 
@@ -110,16 +110,16 @@ pub fn run_all_in<'c, I: Source, O: Sink>(
 /// read: that is `Memory`, unless the input has failed before.
 pub fn run_all<'c, I: Source, O: Sink>(
     alloc: Global,
-    cat: &'c Catalogue,
+    catalogue: &'c Catalogue,
     mode: LineMode,
     accepted: &[Licensee<'c>],
     input: &mut I,
     output: &mut O,
 ) -> Result<Summary, RunFault>
-    ensures { RunsForAll cat.now mode accepted.now
+    ensures { RunsForAll catalogue.now mode accepted.now
         (devices (I.told input.old) (I.told input.new) (O.told output.old) (O.told output.new))
         result }
 {
-    let mut all = AllLines::new(alloc, cat, mode, accepted);
+    let mut all = AllLines::new(alloc, catalogue, mode, accepted);
     engine::run(alloc, &mut all, input, output)
 }

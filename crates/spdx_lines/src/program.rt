@@ -98,17 +98,17 @@ fn task_of(words: &[&str]) -> Option<Task>
 // The licensees that the words name.
 fn read_licensees<'c, 'w>(
     alloc: Global,
-    cat: &'c Catalogue,
+    catalogue: &'c Catalogue,
     words: &[&'w str],
 ) -> Result<Vec<Licensee<'c>>, Stop<'w>>
     ensures ok { IfOk result (λ licensees.
-        licensees_from found cat.now 1 (texts_of words.now) ≡ Ok licensees.items) }
+        licensees_from found catalogue.now 1 (texts_of words.now) ≡ Ok licensees.items) }
     ensures err { IfErr result (λ stop.
-        StopsAt (licensees_from found cat.now 1 (texts_of words.now)) stop) }
+        StopsAt (licensees_from found catalogue.now 1 (texts_of words.now)) stop) }
 {
     let mut licensees = Vec::new(alloc);
     for (place, word) in words.iter().enumerate() {
-        match Licensee::parse(alloc, cat, *word) {
+        match Licensee::parse(alloc, catalogue, *word) {
             Ok(licensee) => licensees.push(licensee)?,
             Err(Failure::Refused(error)) => return Err(Stop::Licensee(place + 1, error)),
             Err(Failure::Memory(error)) => return Err(Stop::from(error)),
@@ -120,18 +120,18 @@ fn read_licensees<'c, 'w>(
 // What is asked for, under this catalogue.
 fn run_with<'w, I: Source, O: Sink>(
     alloc: Global,
-    cat: &Catalogue,
+    catalogue: &Catalogue,
     task: Task,
     licensees: &[&'w str],
     input: &mut I,
     output: &mut O,
 ) -> Result<Summary, Stop<'w>>
-    ensures { EndsBy (planned found cat.now task (texts_of licensees.now))
+    ensures { EndsBy (planned found catalogue.now task (texts_of licensees.now))
         (devices (I.told input.old) (I.told input.new) (O.told output.old) (O.told output.new))
         result }
 {
-    let accepted = read_licensees(alloc, cat, licensees)?;
-    match run_task(alloc, cat, &task, &accepted, input, output) {
+    let accepted = read_licensees(alloc, catalogue, licensees)?;
+    match run_task(alloc, catalogue, &task, &accepted, input, output) {
         Ok(summary) => Ok(summary),
         Err(fault) => Err(Stop::Run(fault)),
     }
@@ -139,22 +139,22 @@ fn run_with<'w, I: Source, O: Sink>(
 
 fn run_task<'c, I: Source, O: Sink>(
     alloc: Global,
-    cat: &'c Catalogue,
+    catalogue: &'c Catalogue,
     task: &Task,
     accepted: &[Licensee<'c>],
     input: &mut I,
     output: &mut O,
 ) -> Result<Summary, RunFault>
-    ensures { Runs (if task.now.is_joint then rule_of_all cat.now task.now.mode accepted.now
-        else rule_of cat.now task.now.mode accepted.now)
+    ensures { Runs (if task.now.is_joint then rule_of_all catalogue.now task.now.mode accepted.now
+        else rule_of catalogue.now task.now.mode accepted.now)
         (devices (I.told input.old) (I.told input.new) (O.told output.old) (O.told output.new))
         result }
 {
     if task.is_joint {
-        let mut all = AllLines::new(alloc, cat, task.mode, accepted);
+        let mut all = AllLines::new(alloc, catalogue, task.mode, accepted);
         engine::run(alloc, &mut all, input, output)
     } else {
-        let mut each = EachLine::new(alloc, cat, task.mode, accepted);
+        let mut each = EachLine::new(alloc, catalogue, task.mode, accepted);
         engine::run(alloc, &mut each, input, output)
     }
 }

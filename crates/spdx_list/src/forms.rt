@@ -6,7 +6,9 @@ ghost use Rattle.spdx_requirement.specs.Rows.{row_of, exception_of, imprecise_of
 ghost use Rattle.spdx_list.specs.FullNames.{full_names};
 ghost use Rattle.spdx_list.specs.Forms as spec;
 
-use crate::full_names::{begins_unlisted, begins_with, fits_row, full_names, joined};
+pub(crate) mod full_names;
+
+use crate::forms::full_names::{begins_unlisted, begins_with, fits_row, full_names, joined};
 use spdx_requirement::LicenseId;
 use spdx_requirement::row::{Exception, ImpreciseName, License};
 use std::alloc::{AllocError, Global};

@@ -5,7 +5,6 @@ pub mod diff;
 pub mod error;
 pub mod extras;
 mod forms;
-mod full_names;
 mod item;
 mod json;
 mod names;

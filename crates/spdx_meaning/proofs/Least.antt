@@ -4,9 +4,9 @@ use Rattle.std.specs.Prelude.{not}
 use Rattle.std.specs.List.{list_all, AllByRecursion}
 use Rattle.std.specs.List.Sorted.{IsStrictlyIncreasing}
 use Rattle.spdx_parser.specs.Tree.{Tree, leaves}
-use Rattle.least_sets.specs.Sets.{is_in, includes, differ, met_by, AreApart}
-use Rattle.least_sets.specs.Order.{AreInOrder}
-use Rattle.least_sets.proofs.Means.{either_way, some_passes, all_weaker, and_first, and_second, turned_back}
+use Rattle.selections.specs.Sets.{is_in, includes, differ, met_by, AreApart}
+use Rattle.selections.specs.Order.{AreInOrder}
+use Rattle.selections.proofs.Means.{either_way, some_passes, all_weaker, and_first, and_second, turned_back}
 use Rattle.spdx_meaning.specs.Places.{place_in, answer_at}
 use Rattle.spdx_meaning.specs.Made.{made_in}
 use Rattle.spdx_meaning.specs.Minimal.{holds_at, NeedsAll, AreMinimalSets}

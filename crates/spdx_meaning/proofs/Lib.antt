@@ -8,3 +8,16 @@ pub mod Parted
 pub mod Numbered
 pub mod Placing
 pub mod Marks
+pub mod Later
+pub mod Numbers
+pub mod RanksIn
+pub mod LeastText
+pub mod Tree
+pub mod One
+pub mod Read
+pub mod Telling
+pub mod Written
+pub mod Needed
+pub mod Counted
+pub mod Ranked
+pub mod Fewest

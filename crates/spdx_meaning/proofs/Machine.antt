@@ -16,7 +16,7 @@ use Rattle.spdx_evaluation.specs.Requirements.{requirements_in}
 use Rattle.spdx_evaluation.proofs.Nodes.{requirement_at, requirements_of_tree}
 use Rattle.spdx_evaluation.proofs.Machine.{LeavesOne, leaves_one_postfix}
 use Rattle.spdx_minimize.proofs.Asking.{each_leaf}
-use Rattle.least_sets.proofs.Counts.{length-either, length-both}
+use Rattle.selections.proofs.Counts.{length-either, length-both}
 use Rattle.spdx_meaning.specs.Made.{count_made, join_sets, made_of, made_beside, made_from, made_by}
 use Rattle.spdx_meaning.specs.Stack.{sets_at, stack_in, AreFew, pushed, join_top}
 

@@ -7,7 +7,7 @@ use Rattle.std.proofs.lemmas.List.{get_or_past}
 use Rattle.std.proofs.lemmas.List.Elements.{All-head, All-tail, All-cons, All-nil}
 use Rattle.spdx_requirement.specs.Items.{Requirement}
 use Rattle.spdx_requirement.specs.Equality.{same_requirement}
-use Rattle.least_sets.specs.Sets.{is_in}
+use Rattle.selections.specs.Sets.{is_in}
 use Rattle.spdx_meaning.specs.Places.{place_in}
 use Rattle.spdx_meaning.specs.Marks.{has_mark, AreMarked}
 

@@ -11,11 +11,11 @@ use Rattle.spdx_parser.specs.declared.node.Operator.{Operator}
 use Rattle.spdx_parser.specs.declared.node.Operator.TheVariants.{And, Or}
 use Rattle.spdx_parser.specs.Tree.{Tree, Leaf, Join, leaves}
 use Rattle.spdx_evaluation.specs.Truth.{joined, truth_of, holds}
-use Rattle.sufficiency.specs.Selection.{IsWithin}
+use Rattle.selections.specs.Selection.{IsWithin}
 use Rattle.spdx_minimize.specs.GrowthLaws.{truth_grows}
-use Rattle.least_sets.specs.Sets.{is_in, includes, met_by, AreApart}
-use Rattle.least_sets.proofs.Means.{same_truth, some_passes, in_passes, either_means, both_mean, and_first, and_second}
-use Rattle.least_sets.proofs.Apart.{Among, all_from, none_passes, either_apart, both_apart}
+use Rattle.selections.specs.Sets.{is_in, includes, met_by, AreApart}
+use Rattle.selections.proofs.Means.{same_truth, some_passes, in_passes, either_means, both_mean, and_first, and_second}
+use Rattle.selections.proofs.Apart.{Among, all_from, none_passes, either_apart, both_apart}
 use Rattle.spdx_meaning.specs.Places.{place_in, answer_at}
 use Rattle.spdx_meaning.specs.Meaning.{IsAcceptance, AsksAtLeast, IsEquivalent}
 use Rattle.spdx_meaning.specs.Minimal.{is_unmet}

@@ -13,7 +13,7 @@ use Rattle.spdx_requirement.specs.Keys.{LicenseKey, license_reference, AdditionK
 use Rattle.spdx_requirement.specs.Orders.{option_cmp, mark_cmp, reference_cmp, license_cmp, addition_cmp, requirement_cmp}
 use Rattle.spdx_requirement.specs.Equality.{same_requirement}
 use Rattle.spdx_requirement.specs.EqualityLaws.{requirements_decide}
-use Rattle.least_sets.proofs.Means.{same_truth}
+use Rattle.selections.proofs.Means.{same_truth}
 
 -- an order is total that answers as a total one does
 as_total : {K : Type 0} (R S : K → K → Ordering) → ((x y : K) → R x y ≡ S x y) → IsTotalOrder R → IsTotalOrder S

@@ -7,3 +7,11 @@ pub mod Marks
 pub mod Stack
 pub mod Faults
 pub mod Relations
+pub mod Sets
+pub mod Ranks
+pub mod LeastSets
+pub mod Joined
+pub mod MeaningText
+pub mod Apart
+pub mod Comparing
+pub mod Reading

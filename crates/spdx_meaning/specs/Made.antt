@@ -4,7 +4,7 @@ use Rattle.spdx_requirement.specs.Items.{Requirement}
 use Rattle.spdx_parser.specs.declared.node.Operator.{Operator}
 use Rattle.spdx_parser.specs.declared.node.Operator.TheVariants.{And, Or}
 use Rattle.spdx_parser.specs.Tree.{Tree, Leaf, Join, leaves}
-use Rattle.least_sets.specs.Sets.{either, both}
+use Rattle.selections.specs.Sets.{either, both}
 use Rattle.spdx_meaning.specs.Places.{place_in}
 
 -- the sets of both sides, or a set of each side with one of the other

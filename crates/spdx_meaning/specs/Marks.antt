@@ -1,6 +1,6 @@
 -- Marks at numbers.
 use Rattle.std.specs.Prelude.{◌≡◌, ℕ, ◌<◌, ◌==◌, Bool, cond, List, length, slice_index}
-use Rattle.least_sets.specs.Sets.{is_in}
+use Rattle.selections.specs.Sets.{is_in}
 
 -- whether the number has this mark
 abbrev pub has_mark : List ℕ → ℕ → ℕ → Bool

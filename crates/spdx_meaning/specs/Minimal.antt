@@ -6,8 +6,8 @@ use Rattle.std.specs.List.Sorted.{IsStrictlyIncreasing}
 use Rattle.spdx_requirement.specs.Items.{Requirement}
 use Rattle.spdx_parser.specs.Tree.{Tree, leaves}
 use Rattle.spdx_evaluation.specs.Truth.{holds}
-use Rattle.least_sets.specs.Sets.{is_in, met_by, AreApart}
-use Rattle.least_sets.specs.Order.{AreInOrder}
+use Rattle.selections.specs.Sets.{is_in, met_by, AreApart}
+use Rattle.selections.specs.Order.{AreInOrder}
 use Rattle.spdx_meaning.specs.Places.{place_in, answer_at}
 use Rattle.spdx_meaning.specs.Meaning.{IsAcceptance}
 

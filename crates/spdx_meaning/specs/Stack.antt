@@ -2,7 +2,7 @@
 use Rattle.std.specs.Prelude.{ℕ, ◌≤◌, List, [], ◌∷◌, map, reverse, length, Result, Ok, Err}
 use Rattle.std.specs.Global.{Vec}
 use Rattle.spdx_parser.specs.declared.node.Operator.{Operator}
-use Rattle.least_sets.specs.Sets.{sets_in}
+use Rattle.selections.specs.Sets.{sets_in}
 use Rattle.spdx_meaning.specs.Made.{made_of}
 
 abbrev pub sets_at : Vec (Vec ℕ) → List (List ℕ)

@@ -5,12 +5,12 @@ ghost use Rattle.spdx_requirement.specs.Failures.{IfRefused};
 ghost use Rattle.spdx_requirement.specs.Items.{Requirement};
 ghost use Rattle.spdx_parser.specs.Tree.{leaves, node_of};
 ghost use Rattle.spdx_evaluation.specs.Postfix.{IsPostfix, tree_in};
-ghost use Rattle.least_sets.specs.Sets.{sets_in};
+ghost use Rattle.selections.specs.Sets.{sets_in};
 ghost use Rattle.spdx_meaning.specs.Made.{count_made, made_of, made_by};
 ghost use Rattle.spdx_meaning.specs.Stack.{stack_in, AreFew, join_top};
 
 use crate::error::TooManySets;
-use least_sets::sets::{both, either};
+use selections::sets::{both, either};
 use spdx_catalogue::Failure;
 use spdx_parser::node::{ExprNode, Operator};
 use std::alloc::{AllocError, Global};

@@ -4,14 +4,14 @@ ghost use Rattle.std.specs.Prelude.{◌≡◌, map, IfOk, IfErr, IsOk, Err};
 ghost use Rattle.spdx_requirement.specs.Failures.{IfRefused};
 ghost use Rattle.spdx_parser.specs.Tree.{node_of};
 ghost use Rattle.spdx_evaluation.specs.Postfix.{IsPostfix, tree_in};
-ghost use Rattle.least_sets.specs.Sets.{sets_in};
+ghost use Rattle.selections.specs.Sets.{sets_in};
 ghost use Rattle.spdx_meaning.specs.Made.{made_in};
 ghost use Rattle.spdx_meaning.specs.Minimal.{AreMinimalSets};
 
 use crate::error::TooManySets;
 use crate::made::sets_of;
 use crate::places::places_among;
-use least_sets::order::in_order;
+use selections::order::in_order;
 use spdx_catalogue::Failure;
 use spdx_parser::node::ExprNode;
 use std::alloc::Global;
@@ -22,7 +22,7 @@ use std::alloc::Global;
 /// A requirement is the place where it first stands among the requirements, from 0. Of each set the places ascend; the
 /// sets are ordered by size, then by their first place that differs.
 ///
-/// For the places the requirements are sorted, and each is sought by binary search. [`least_sets::sets`] says what it takes to
+/// For the places the requirements are sorted, and each is sought by binary search. [`selections::sets`] says what it takes to
 /// make the sets.
 ///
 /// # Errors

@@ -1,7 +1,7 @@
 -- What holds after some of the nodes of an expression were read, where the answers to its requirements are known.
 use Rattle.std.proofs.Common.{◌≡◌, ℕ, ◌+◌, ◌-◌, ◌<◌, ◌≤◌, Bool, false, List, [], ◌∷◌, ◌++◌, length, drop, map, sym, ◌∙◌, ap, subst, arith, get_or}
 use Rattle.std.proofs.lemmas.List.{append-nil, drop_more, drop_all, length-map}
-use Rattle.bit_stack.specs.Truths.{Stack, join_newest}
+use Rattle.selections.specs.Truths.{Stack, join_newest}
 use Rattle.spdx_parser.specs.declared.node.Operator.{Operator}
 use Rattle.spdx_parser.specs.declared.node.ExpressionReq.{ExpressionReq}
 use Rattle.spdx_parser.specs.declared.node.ExprNode.{ExprNode}

@@ -10,7 +10,7 @@ use Rattle.spdx_parser.specs.declared.node.ExprNode.{ExprNode}
 use Rattle.spdx_parser.specs.declared.node.Operator.{Operator}
 use Rattle.spdx_parser.specs.declared.node.Operator.TheVariants.{And, Or}
 use Rattle.spdx_parser.specs.Tree.{Tree, Leaf, Join, postfix, leaves, node_of}
-use Rattle.sufficiency.specs.Selection.{IsLeast, NoneSuffices}
+use Rattle.selections.specs.Selection.{IsLeast, NoneSuffices}
 use Rattle.spdx_requirement.specs.Equality.{same_requirement}
 use Rattle.spdx_evaluation.specs.Truth.{joined, truth_of}
 use Rattle.spdx_evaluation.specs.Requirements.{requirements_in}

@@ -5,8 +5,8 @@ use Rattle.spdx_requirement.specs.Items.{Requirement}
 use Rattle.spdx_requirement.specs.Equality.{same_requirement}
 use Rattle.spdx_parser.specs.Tree.{Tree, Leaf}
 use Rattle.spdx_licensee.specs.Satisfies.{satisfies}
-use Rattle.sufficiency.specs.Selection.{IsLeast}
-use Rattle.sufficiency.proofs.Only.{needs_each}
+use Rattle.selections.specs.Selection.{IsLeast}
+use Rattle.selections.proofs.Only.{needs_each}
 use Rattle.spdx_minimize.specs.Choice.{first_ones, satisfies_some, useful, any_chosen, suffices_for, without_and_with, selections, least_of, chosen_of, chosen, choice_among, IsLeastChoice}
 use Rattle.spdx_minimize.proofs.Chosen.{choice_least}
 use Rattle.spdx_minimize.proofs.Selections.{least_of-IsLeast}

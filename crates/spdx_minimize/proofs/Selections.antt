@@ -1,8 +1,8 @@
 -- The first sufficient selection is the least one.
 use Rattle.std.proofs.Common.{◌≡◌, ◌≢◌, ℕ, zero, suc, Bool, true, false, ◌||◌, cond, List, [], ◌∷◌, length, ◌⊎◌, Option, Some, None, option_map, refl, sym, ◌∙◌, ap, subst, inl, inr, arith}
 use Rattle.std.specs.List.{find}
-use Rattle.sufficiency.specs.Selection.{LeavesOutLast, IsLeast, NoneSuffices}
-use Rattle.sufficiency.proofs.Only.{only_least}
+use Rattle.selections.specs.Selection.{LeavesOutLast, IsLeast, NoneSuffices}
+use Rattle.selections.proofs.Only.{only_least}
 use Rattle.spdx_minimize.specs.Choice.{without_and_with, selections, least_of}
 
 -- whether a selection of the members behind the first suffices, without or with the first

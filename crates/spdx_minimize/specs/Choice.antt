@@ -5,7 +5,7 @@ use Rattle.std.specs.List.{filter, find, list_all, list_any}
 use Rattle.spdx_requirement.specs.Items.{Requirement}
 use Rattle.spdx_parser.specs.Tree.{Tree, leaves}
 use Rattle.spdx_licensee.specs.Satisfies.{satisfies}
-use Rattle.sufficiency.specs.Selection.{IsLeast, NeedsEach}
+use Rattle.selections.specs.Selection.{IsLeast, NeedsEach}
 use Rattle.spdx_requirement.specs.Equality.{same_requirement}
 pub use Rattle.spdx_evaluation.specs.Truth.{holds}
 

@@ -7,7 +7,7 @@ use Rattle.spdx_parser.specs.declared.node.Operator.{Operator}
 use Rattle.spdx_parser.specs.declared.node.Operator.TheVariants.{And, Or}
 use Rattle.spdx_parser.specs.Tree.{Tree, Leaf, Join, leaves}
 use Rattle.spdx_licensee.specs.Satisfies.{satisfies}
-use Rattle.sufficiency.specs.Selection.{IsWithin}
+use Rattle.selections.specs.Selection.{IsWithin}
 use Rattle.spdx_evaluation.specs.Truth.{joined, truth_of}
 use Rattle.spdx_minimize.specs.Choice.{any_chosen, suffices_for}
 use Rattle.spdx_evaluation.specs.Truth.{holds}

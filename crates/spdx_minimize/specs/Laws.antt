@@ -1,7 +1,7 @@
 -- The least selection, found as the first that suffices and as the one that leaves out more of the
 -- last members.
 use Rattle.std.specs.Prelude.{◌≡◌, ◌↔◌, ℕ, Bool, List, Some}
-use Rattle.sufficiency.specs.Selection.{IsLeast}
+use Rattle.selections.specs.Selection.{IsLeast}
 use Rattle.spdx_minimize.specs.Choice.{least_of}
 
 abbrev pub IsFirstLeast : Type 0

@@ -15,6 +15,7 @@ use crate::judge::{question_of, questions_of};
 use crate::nodes::TreeNodes;
 use crate::question::Question;
 use crate::useful::useful_members;
+use selections::least_selection;
 use smallvec::SmallVec;
 use spdx_catalogue::{Failure, LicenseReq};
 use spdx_error::MinimizeError;
@@ -22,7 +23,6 @@ use spdx_licensee::Licensee;
 use spdx_parser::node::ExprNode;
 use std::alloc::{AllocError, Global};
 use std::slice;
-use sufficiency::least_selection;
 
 // A truth for each member, true where it is chosen; so many take no memory.
 type Selection = SmallVec<bool, 32>;

@@ -6,10 +6,9 @@ ghost use Rattle.spdx_minimize.specs.Places.{question_tree, IsOver, longest};
 
 use crate::judge::{are_all_true, longest_of};
 use crate::question::Question;
-use bit_stack::Truths;
+use selections::{Sufficiency, Truths};
 use spdx_licensee::Licensee;
 use std::alloc::{AllocError, Global};
-use sufficiency::Sufficiency;
 
 /// Judges selections as [`crate::NodesJudge`] does, and keeps neither questions nor members: for
 /// few nodes it takes no memory.

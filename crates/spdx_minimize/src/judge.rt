@@ -12,12 +12,11 @@ ghost use Rattle.spdx_minimize.specs.Places.{places, met_by, any_at, question_tr
 use crate::nodes::TreeNodes;
 use crate::question::{Part, PartList, PlaceList, Question};
 use crate::useful::satisfies;
-use bit_stack::{Truths, WordTruths};
+use selections::{Sufficiency, Truths, WordTruths};
 use spdx_catalogue::LicenseReq;
 use spdx_licensee::Licensee;
 use spdx_parser::node::{ExprNode, Operator};
 use std::alloc::{AllocError, Global};
-use sufficiency::Sufficiency;
 
 /// Judges selections of some members: one suffices if it makes every one of some expressions true,
 /// where a requirement is met if a chosen member satisfies it.

@@ -2,7 +2,7 @@
 //!
 //! ```rust
 //! // crates/spdx/src/expression/parser.rt
-//! let nodes = parse_nodes(alloc, cat, text, mode)?;
+//! let nodes = parse_nodes(alloc, catalogue, text, mode)?;
 //! ```
 //!
 //! It stands on the lexer.

@@ -5,8 +5,8 @@ use Rattle.spdx_requirement.specs.Failures.{IfRefused}
 use Rattle.spdx_requirement.specs.declared.failure.Failure.{Failure}
 use Rattle.spdx_requirement.specs.declared.failure.Failure.TheVariants.{Refused, Memory}
 use Rattle.spdx_policy.specs.declared.fault.PolicyFault.{PolicyFault}
-use Rattle.spdx_policy.specs.declared.draft.ExceptionDraft.{ExceptionDraft}
-use Rattle.spdx_policy.specs.declared.draft.ClarifyDraft.{ClarifyDraft}
+use Rattle.spdx_policy.specs.declared.reading.draft.ExceptionDraft.{ExceptionDraft}
+use Rattle.spdx_policy.specs.declared.reading.draft.ClarifyDraft.{ClarifyDraft}
 use Rattle.spdx_policy.specs.declared.error.Key.TheVariants as key
 use Rattle.spdx_policy.specs.declared.error.Section.TheVariants as section
 use Rattle.spdx_alternatives.specs.Heirs.{Heir}

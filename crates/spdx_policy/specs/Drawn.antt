@@ -1,8 +1,8 @@
 -- What drafts show.
 use Rattle.std.specs.Prelude.{option_map, map, string_bytes}
-use Rattle.spdx_policy.specs.declared.draft.ExceptionDraft.{ExceptionDraft}
-use Rattle.spdx_policy.specs.declared.draft.ClarifyDraft.{ClarifyDraft}
-use Rattle.spdx_policy.specs.declared.draft.Draft.{Draft}
+use Rattle.spdx_policy.specs.declared.reading.draft.ExceptionDraft.{ExceptionDraft}
+use Rattle.spdx_policy.specs.declared.reading.draft.ClarifyDraft.{ClarifyDraft}
+use Rattle.spdx_policy.specs.declared.reading.draft.Draft.{Draft}
 use Rattle.spdx_policy.specs.Drafts.{ExceptionRow, ClarifyRow, DraftRows}
 
 abbrev pub exception_row : ExceptionDraft → ExceptionRow

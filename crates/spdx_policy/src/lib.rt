@@ -3,18 +3,14 @@
 
 mod deciding;
 pub mod decision;
-mod draft;
 pub mod error;
 mod escaped;
 pub mod fault;
-mod from_toml;
-mod lines;
 mod named;
 pub mod offer;
 pub mod policy;
 mod reading;
 mod scopes;
-mod shape;
 
 pub use crate::decision::{Decision, Entry, Flag};
 pub use crate::error::{Key, Kind, Place, Section, ShapeFault};

@@ -16,10 +16,15 @@ ghost use Rattle.spdx_policy.specs.PolicyModel.{named_rows};
 ghost use Rattle.spdx_policy.specs.Shown.{range_of, scope_row};
 ghost use Rattle.spdx_policy.specs.Drawn.{exception_row, clarify_row};
 
-use crate::draft::{ClarifyDraft, ExceptionDraft};
+pub(crate) mod draft;
+pub(crate) mod from_toml;
+pub(crate) mod lines;
+pub(crate) mod shape;
+
 use crate::error::{Key, Place, Section};
 use crate::fault::{PolicyError, PolicyFault};
 use crate::named::Named;
+use crate::reading::draft::{ClarifyDraft, ExceptionDraft};
 use crate::scopes::Scope;
 use semver::{Error, VersionReq};
 use spdx_alternatives::{Heirs, sense};
@@ -35,36 +40,36 @@ use std::ops::Range;
 /// The entry of a text, which stands at the place.
 pub(crate) fn name_of<'c>(
     alloc: Global,
-    cat: &'c Catalogue,
+    catalogue: &'c Catalogue,
     heirs: &Heirs<'c>,
     place: Place,
     text: &str,
 ) -> Result<Named<'c>, Failure<PolicyFault>>
-    ensures ok { IfOk result (λ n. IsNamed cat.now heirs.now text.now (named_row n)) }
-    ensures err { IfErr result (IfRefused (BlamesName cat.now place text.now)) }
+    ensures ok { IfOk result (λ n. IsNamed catalogue.now heirs.now text.now (named_row n)) }
+    ensures err { IfErr result (IfRefused (BlamesName catalogue.now place text.now)) }
 {
-    let req = entry_of(alloc, cat, place, text)?;
+    let req = entry_of(alloc, catalogue, place, text)?;
     Ok(Named {
         text: String::from_str(alloc, text)?,
-        sense: sense(alloc, cat, heirs, &req)?,
+        sense: sense(alloc, catalogue, heirs, &req)?,
     })
 }
 
 // The requirement that the text of an entry names.
 fn entry_of<'c>(
     alloc: Global,
-    cat: &'c Catalogue,
+    catalogue: &'c Catalogue,
     place: Place,
     text: &str,
 ) -> Result<LicenseReq<'c>, Failure<PolicyFault>>
-    ensures ok { IfOk result (λ r. IsEntry cat.now text.now (requirement_of r)) }
-    ensures err { IfErr result (IfRefused (BlamesName cat.now place text.now)) }
+    ensures ok { IfOk result (λ r. IsEntry catalogue.now text.now (requirement_of r)) }
+    ensures err { IfErr result (IfRefused (BlamesName catalogue.now place text.now)) }
 {
-    match Licensee::parse(alloc, cat, text) {
+    match Licensee::parse(alloc, catalogue, text) {
         Ok(licensee) => Ok(licensee.into_req()),
         Err(Failure::Memory(error)) => Err(Failure::Memory(error)),
         Err(Failure::Refused(ParseError { span, reason, .. })) => {
-            old_or_fault(alloc, cat, place, text, span, reason)
+            old_or_fault(alloc, catalogue, place, text, span, reason)
         }
     }
 }
@@ -72,18 +77,18 @@ fn entry_of<'c>(
 // The same of a text that names no licensee, for this reason.
 fn old_or_fault<'c>(
     alloc: Global,
-    cat: &'c Catalogue,
+    catalogue: &'c Catalogue,
     place: Place,
     text: &str,
     span: Range<usize>,
     reason: Reason,
 ) -> Result<LicenseReq<'c>, Failure<PolicyFault>>
-    requires none { NamesNone cat.now text.now }
-    requires fault { IsLicenseeFault cat.now text.now (fault_of reason) (span_of span) }
-    ensures ok { IfOk result (λ r. IsEntry cat.now text.now (requirement_of r)) }
-    ensures err { IfErr result (IfRefused (BlamesName cat.now place text.now)) }
+    requires none { NamesNone catalogue.now text.now }
+    requires fault { IsLicenseeFault catalogue.now text.now (fault_of reason) (span_of span) }
+    ensures ok { IfOk result (λ r. IsEntry catalogue.now text.now (requirement_of r)) }
+    ensures err { IfErr result (IfRefused (BlamesName catalogue.now place text.now)) }
 {
-    if let Some(req) = old_entry(alloc, cat, text)? {
+    if let Some(req) = old_entry(alloc, catalogue, text)? {
         return Ok(req);
     }
     let copy = String::from_str(alloc, text)?;
@@ -93,19 +98,19 @@ fn old_or_fault<'c>(
 // What a text names in which deprecated names may stand: one requirement without a `+`.
 fn old_entry<'c>(
     alloc: Global,
-    cat: &'c Catalogue,
+    catalogue: &'c Catalogue,
     text: &str,
 ) -> Result<Option<LicenseReq<'c>>, AllocError>
     ensures some { IfOk result (λ found. IfSome found (λ r.
-        IsOldEntry cat.now text.now (requirement_of r))) }
+        IsOldEntry catalogue.now text.now (requirement_of r))) }
     ensures none { IfOk result (λ found. IfNone found (
-        (r : Requirement) → IsOldEntry cat.now text.now r → ⊥)) }
+        (r : Requirement) → IsOldEntry catalogue.now text.now r → ⊥)) }
 {
     let mode = ParseMode {
         allow_deprecated: true,
         ..ParseMode::STRICT
     };
-    match parse_nodes(alloc, cat, text, mode) {
+    match parse_nodes(alloc, catalogue, text, mode) {
         Ok(nodes) => unmarked(alloc, nodes.as_slice()),
         Err(Failure::Refused(_)) => Ok(None),
         Err(Failure::Memory(error)) => Err(error),
@@ -140,21 +145,21 @@ fn is_marked(license: &LicenseItem<'_>) -> bool
 /// The entries of the texts that stand at a key.
 pub(crate) fn names_of<'c>(
     alloc: Global,
-    cat: &'c Catalogue,
+    catalogue: &'c Catalogue,
     heirs: &Heirs<'c>,
     section: Section,
     key: Key,
     texts: &[String],
 ) -> Result<Vec<Named<'c>>, Failure<PolicyFault>>
     ensures ok { IfOk result (λ names.
-        Each (IsNamed cat.now heirs.now) (map string_bytes texts.now) (named_rows names)) }
+        Each (IsNamed catalogue.now heirs.now) (map string_bytes texts.now) (named_rows names)) }
     ensures err { IfErr result (IfRefused (
-        BlamesNames cat.now section key (map string_bytes texts.now))) }
+        BlamesNames catalogue.now section key (map string_bytes texts.now))) }
 {
     let mut names = Vec::new(alloc);
     for (index, text) in texts.iter().enumerate() {
         let place = Place::one(section, key, index);
-        names.push(name_of(alloc, cat, heirs, place, text.as_str())?)?;
+        names.push(name_of(alloc, catalogue, heirs, place, text.as_str())?)?;
     }
     Ok(names)
 }
@@ -254,19 +259,19 @@ pub(crate) fn exempted_of(
 // What an exception allows.
 fn exempting_in<'c>(
     alloc: Global,
-    cat: &'c Catalogue,
+    catalogue: &'c Catalogue,
     heirs: &Heirs<'c>,
     number: usize,
     exception: &ExceptionDraft,
 ) -> Result<Vec<Named<'c>>, Failure<PolicyFault>>
     ensures ok { IfOk result (λ names.
-        IsExempting cat.now heirs.now (exception_row exception.now) (named_rows names)) }
-    ensures err { IfErr result (IfRefused (BlamesNames cat.now (Section.Exception number)
+        IsExempting catalogue.now heirs.now (exception_row exception.now) (named_rows names)) }
+    ensures err { IfErr result (IfRefused (BlamesNames catalogue.now (Section.Exception number)
         Key.Allow (exception_row exception.now).allow)) }
 {
     names_of(
         alloc,
-        cat,
+        catalogue,
         heirs,
         Section::Exception(number),
         Key::Allow,
@@ -277,18 +282,18 @@ fn exempting_in<'c>(
 /// What the exceptions allow.
 pub(crate) fn exempting_of<'c>(
     alloc: Global,
-    cat: &'c Catalogue,
+    catalogue: &'c Catalogue,
     heirs: &Heirs<'c>,
     exceptions: &[ExceptionDraft],
 ) -> Result<Vec<Vec<Named<'c>>>, Failure<PolicyFault>>
-    ensures ok { IfOk result (λ lists. Each (IsExempting cat.now heirs.now)
+    ensures ok { IfOk result (λ lists. Each (IsExempting catalogue.now heirs.now)
         (map exception_row exceptions.now) (map named_rows lists.items)) }
     ensures err { IfErr result (IfRefused (
-        BlamesExempting cat.now (map exception_row exceptions.now))) }
+        BlamesExempting catalogue.now (map exception_row exceptions.now))) }
 {
     let mut lists = Vec::new(alloc);
     for (index, exception) in exceptions.iter().enumerate() {
-        lists.push(exempting_in(alloc, cat, heirs, index, exception)?)?;
+        lists.push(exempting_in(alloc, catalogue, heirs, index, exception)?)?;
     }
     Ok(lists)
 }

@@ -1,13 +1,13 @@
 // The command `diff`: what changed between two lists of packages.
 
 use crate::console::Console;
+use crate::files::system::System;
 use crate::list::{HEIRS, inside};
 use crate::packages::{read_as, tell_forms};
-use crate::system::System;
 use crate::trouble::Trouble;
-use change_forms::Form;
 use changes_program::{Request, Run, Totals};
 use line_engine::lines::write_all;
+use package_changes::Form;
 use package_files::Wanted;
 use shelves::SystemShelf;
 use spdx_words::{ChangesForm, ChangesRequest};

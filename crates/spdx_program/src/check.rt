@@ -1,16 +1,19 @@
 // The command `check`.
 
+pub(crate) mod owed;
+pub(crate) mod sums;
+
+use crate::check::owed::{Owing, put_owed, put_untagged};
+use crate::check::sums::{Sums, summary_of};
 use crate::console::Console;
-use crate::left::tell_left;
-use crate::list::{self, mode_of};
-use crate::manifest::Manifest;
-use crate::owed::{Owing, put_owed, put_untagged};
-use crate::sums::{Sums, summary_of};
-use crate::system::{
+use crate::files::left::tell_left;
+use crate::files::system::{
     System, bytes_of, bytes_or, input_bytes, paths_or_input, utf16_text, without_mark,
 };
+use crate::files::walk::Walk;
+use crate::list::{self, mode_of};
+use crate::manifest::Manifest;
 use crate::trouble::Trouble;
-use crate::walk::Walk;
 use crate::wanted::{Reading, Taken, form_below, reading_of};
 use check_sources::{Findings, Source, check_manifest, check_tags, is_binary};
 use finding_forms::{Form, Style, put_beginning, put_ending};

@@ -1,11 +1,13 @@
 // What each package is used under.
 
-use crate::allowed::allowed;
+pub(crate) mod allowed;
+
+use crate::chosen::allowed::allowed;
+use crate::files::system::System;
 use crate::list::mode_of;
 use crate::policy::policy;
-use crate::several::Several;
-use crate::system::System;
 use crate::trouble::Trouble;
+use crate::trouble::several::Several;
 use package_choices::accepted::{Unmet, own_choices};
 use package_choices::{RequirementTexts, texts_of};
 use package_sources::{License, Package};

@@ -1,8 +1,8 @@
 // The command `compare`.
 
 use crate::console::Console;
+use crate::files::system::System;
 use crate::list::inside;
-use crate::system::System;
 use crate::trouble::Trouble;
 use line_engine::lines::write_all;
 use meaning_program::Asked;

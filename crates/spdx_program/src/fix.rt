@@ -1,13 +1,15 @@
 // The command `fix`.
 
 use crate::console::Console;
-use crate::left::{tell_left, tell_left_beside};
+use crate::files::left::{tell_left, tell_left_beside};
+use crate::files::replace::{Held, Loss, hold, replace};
+use crate::files::system::{
+    System, bytes_of, input_bytes, is_special, paths_or_input, without_mark,
+};
+use crate::files::walk::Walk;
 use crate::list;
 use crate::manifest::{Manifest, trouble_of};
-use crate::replace::{Held, Loss, hold, replace};
-use crate::system::{System, bytes_of, input_bytes, is_special, paths_or_input, without_mark};
 use crate::trouble::Trouble;
-use crate::walk::Walk;
 use crate::wanted::{Reading, Taken, form_below, reading_of};
 use fix_sources::{FixedText, fix_lines, fix_tags};
 use line_diff::put_diff;

@@ -2,9 +2,9 @@
 
 use crate::check::VERSION;
 use crate::console::Console;
+use crate::files::system::{System, paths_or_input};
 use crate::list::{HEIRS, inside};
 use crate::packages::{read_as, tell_forms, tell_shared};
-use crate::system::{System, paths_or_input};
 use crate::trouble::Trouble;
 use finding_forms::Style;
 use gate_program::{End, GateText, Look, Request, Run};

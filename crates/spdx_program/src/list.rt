@@ -1,6 +1,10 @@
 // The list that expressions are read by, and how.
 
-use crate::system::System;
+pub(crate) mod diff;
+pub(crate) mod make;
+pub(crate) mod show;
+
+use crate::files::system::System;
 use crate::trouble::Trouble;
 use list_program::{Inside, named_list};
 use shelves::SystemShelf;

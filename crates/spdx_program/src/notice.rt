@@ -1,13 +1,17 @@
 // The command `notice`.
 
+pub(crate) mod general;
+pub(crate) mod homes;
+pub(crate) mod sources;
+
 use crate::chosen::{Choice, Chosen, choose};
 use crate::console::Console;
-use crate::general::{HeldText, general_texts};
-use crate::homes::check_folder;
+use crate::files::system::System;
 use crate::list;
+use crate::notice::general::{HeldText, general_texts};
+use crate::notice::homes::check_folder;
+use crate::notice::sources::{ReadFile, own_files};
 use crate::packages::{AllListed, Listed, Wanted, read_all};
-use crate::sources::{ReadFile, own_files};
-use crate::system::System;
 use crate::trouble::Trouble;
 use license_notice::Requirement;
 use line_engine::lines::write_all;
@@ -16,7 +20,7 @@ use notice_program::{
     GeneralText, Lack, Look, NoticeFault, NoticeText, OwnFile, Package as Noted, all_lacks,
     notice_text, totals_line,
 };
-use owed_files::File;
+use notice_texts::File;
 use package_sources::Package;
 use spdx_words::{NoticeRequest, OwnTexts, PageForm};
 use std::alloc::{AllocError, Global};
@@ -126,7 +130,7 @@ fn noticed<'t>(
     let offered = requirements(alloc, &chosen.offered)?;
     let files = all_files(alloc, read)?;
     let noted = noted(alloc, packages, &choices, &offered, &files)?;
-    let general = general(alloc, held)?;
+    let general = general_of(alloc, held)?;
     let look = Look {
         form: form_of(request.form),
         marks_general: request.own != OwnTexts::Left,
@@ -233,7 +237,7 @@ fn noted<'c, 't>(
     Ok(all)
 }
 
-fn general<'t>(alloc: Global, held: &'t [HeldText]) -> Result<Vec<GeneralText<'t>>, AllocError> {
+fn general_of<'t>(alloc: Global, held: &'t [HeldText]) -> Result<Vec<GeneralText<'t>>, AllocError> {
     let mut general = Vec::new(alloc);
     for text in held {
         general.push(GeneralText {

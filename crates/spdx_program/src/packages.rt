@@ -1,7 +1,7 @@
 // The packages that the files list.
 
 use crate::console::Console;
-use crate::system::{System, paths_or_input};
+use crate::files::system::{System, paths_or_input};
 use crate::trouble::Trouble;
 use document_references::shared_references;
 pub(crate) use package_files::Listed;

@@ -1,7 +1,7 @@
 // The policy that packages are judged by.
 
+use crate::files::system::System;
 use crate::list::HEIRS;
-use crate::system::System;
 use crate::trouble::Trouble;
 use gate_program::policy_at;
 use shelves::SystemShelf;

@@ -1,8 +1,8 @@
 // The command `simplify`.
 
 use crate::console::Console;
+use crate::files::system::{System, paths_or_input};
 use crate::list::inside;
-use crate::system::{System, paths_or_input};
 use crate::trouble::Trouble;
 use line_engine::lines::write_all;
 use meaning_program::{FileEnd, Request, Run, Simplified, UnmeantLine};

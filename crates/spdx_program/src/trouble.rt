@@ -1,6 +1,8 @@
 // Why the program stops, leaves a file out, or does other than what may be thought.
 
-use crate::replace::{Loss, Obstacle};
+pub(crate) mod several;
+
+use crate::files::replace::{Loss, Obstacle};
 use foreign_text::{Sink, text_for};
 use gate_program::{GateTrouble, PolicyTrouble};
 use line_engine::device::Failed;

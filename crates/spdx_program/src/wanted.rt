@@ -1,6 +1,6 @@
 // Which expressions of a file are taken.
 
-use crate::system::{System, is_folder};
+use crate::files::system::{System, is_folder};
 use crate::trouble::Trouble;
 use manifests::{Form, form_named, form_of};
 use spdx_words::Wanted;

@@ -7,19 +7,8 @@
 #![tactic(auto)]
 
 mod answer;
-mod canonical;
+mod calls;
 mod catalogues;
-mod choice;
-mod copies;
-mod evaluation;
-mod json;
-mod lexing;
-mod licensees;
-mod look_ups;
-mod making;
-mod orders;
-mod parsing;
-mod printing;
 mod rows;
 
 use crate::catalogues::Catalogues;

@@ -1,11 +1,11 @@
 // Rows, one by one.
 
 use crate::answer::{Answer, NoAnswer, two_parts};
-use crate::catalogues::Catalogues;
-use crate::{
+use crate::calls::{
     canonical, choice, copies, evaluation, json, lexing, licensees, look_ups, making, orders,
     parsing, printing,
 };
+use crate::catalogues::Catalogues;
 use spdx::Catalogue;
 use std::alloc::{AllocError, Global};
 use test_rows::written_out;

@@ -7,7 +7,7 @@ use Rattle.spdx_requirement.specs.Equality.{same_requirement}
 use Rattle.spdx_parser.specs.declared.node.ExpressionReq.{ExpressionReq}
 use Rattle.spdx_parser.specs.declared.node.ExprNode.{ExprNode}
 use Rattle.spdx_parser.specs.Tree.{Tree, leaves}
-use Rattle.sufficiency.specs.Selection.{IsWithin, IsLeast, NeedsEach}
+use Rattle.selections.specs.Selection.{IsWithin, IsLeast, NeedsEach}
 use Rattle.spdx_evaluation.specs.Truth.{truth_of}
 use Rattle.spdx_evaluation.specs.Requirements.{requirements_in}
 use Rattle.spdx_evaluation.proofs.Nodes.{requirement_at}

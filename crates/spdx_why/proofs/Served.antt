@@ -7,7 +7,7 @@ use Rattle.std.proofs.lemmas.List.{get_or-replicate, length-replicate}
 use Rattle.std.proofs.lemmas.List.Elements.{All-nil, All-cons, All-head, All-tail}
 use Rattle.std.proofs.lemmas.Bool.Decides.{nat_tests}
 use Rattle.spdx_parser.specs.Tree.{Tree}
-use Rattle.sufficiency.specs.Selection.{IsLeast, NoneSuffices, everything}
+use Rattle.selections.specs.Selection.{IsLeast, NoneSuffices, everything}
 use Rattle.spdx_evaluation.specs.Truth.{truth_of}
 use Rattle.spdx_minimize.specs.Choice.{least_of}
 use Rattle.spdx_minimize.specs.Places.{places_from}

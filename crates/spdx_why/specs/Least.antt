@@ -4,7 +4,7 @@ use Rattle.std.specs.List.{list_all}
 use Rattle.spdx_requirement.specs.Items.{Requirement}
 use Rattle.spdx_requirement.specs.Equality.{same_requirement}
 use Rattle.spdx_parser.specs.Tree.{Tree, leaves}
-use Rattle.sufficiency.specs.Selection.{IsLeast, NeedsEach, NoneSuffices}
+use Rattle.selections.specs.Selection.{IsLeast, NeedsEach, NoneSuffices}
 use Rattle.spdx_evaluation.specs.Truth.{truth_of}
 use Rattle.spdx_minimize.specs.Choice.{least_of}
 use Rattle.spdx_minimize.specs.Places.{places_from}

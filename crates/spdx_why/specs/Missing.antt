@@ -3,7 +3,7 @@
 use Rattle.std.specs.Prelude.{◌≡◌, ℕ, ◌+◌, Bool, true, false, not, cond, List, [], ◌∷◌, ◌++◌, length, slice_index_or}
 use Rattle.std.specs.List.{list_all}
 use Rattle.spdx_parser.specs.Tree.{Tree, Leaf, Join, leaves}
-use Rattle.sufficiency.specs.Selection.{IsWithin}
+use Rattle.selections.specs.Selection.{IsWithin}
 use Rattle.spdx_evaluation.specs.Truth.{joined, truth_of}
 
 -- the answer to the requirement of this number

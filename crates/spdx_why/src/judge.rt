@@ -7,10 +7,9 @@ ghost use Rattle.spdx_evaluation.specs.Postfix.{IsPostfix, tree_in};
 ghost use Rattle.spdx_why.specs.Missing.{answer_in};
 ghost use Rattle.spdx_why.specs.Serving.{lists_in, with_served, serves_in};
 
-use bit_stack::Truths;
+use selections::{Sufficiency, Truths};
 use spdx_parser::node::{ExprNode, Operator};
 use std::alloc::{AllocError, Global};
-use sufficiency::Sufficiency;
 
 /// Judges choices among some candidates for an expression: one suffices if the expression is true
 /// where a requirement is accepted that was before, or that a chosen candidate serves.

@@ -8,9 +8,9 @@ ghost use Rattle.spdx_why.specs.Serving.{lists_in, serves_in, choice_among, Choo
 
 use crate::choice::Remedy;
 use crate::judge::ChoiceJudge;
+use selections::least_selection;
 use spdx_parser::node::ExprNode;
 use std::alloc::{AllocError, Global};
-use sufficiency::least_selection;
 
 /// The least choice among so many candidates, numbered from 0, that makes the expression pass beside
 /// what is accepted. For each requirement, in the order of the text, `serving` lists the numbers of

@@ -4,7 +4,7 @@
 // something to readers.
 
 use crate::names::{names_of, put_name};
-use owed_texts::owed_texts;
+use notice_texts::owed_texts;
 use std::alloc::{AllocError, Global};
 use test_rows::Tally;
 

@@ -6,9 +6,9 @@
 // `#` says something to readers.
 
 use crate::shelf::{HEIRS, inside, lines_of, shelf_of, told_faults};
-use change_forms::Form;
 use changes_program::{Request, Run, changes};
 use gate_program::{GateTrouble, PolicyTrouble};
+use package_changes::Form;
 use package_files::{Source, Wanted};
 use package_sources::Form as SourceForm;
 use shelves::Held;

@@ -1,15 +1,39 @@
-//! Where something stands in the bytes of a file, and what such a place is counted by: lines, characters, a last line.
+//! Where something stands in the bytes of a file: the values of a field in one that is written line by line, the texts of an
+//! element in one of XML; and what such a place is counted by: lines, characters, a last line.
+//!
+//! It knows no ecosystem and no vocabulary: whoever asked reads what stands there.
 //!
 //! ```rust
-//! // crates/line_sights/src/cursor.rt
-//! let line = self.line + newline_count(skipped) as u64;
+//! let opam = Grammar {
+//!     name: b"license",
+//!     is_any_case: false,
+//!     before: b"",
+//!     separators: b":",
+//!     notation: Notation::Quoted,
+//!     comment: b"#",
+//!     section: b"",
+//!     is_header: false,
+//! };
+//! for span in fields(alloc, b"license: [\"MIT\" \"ISC\"]\n", &opam)? {
 //! ```
 //!
-//! It stands on nothing.
+//! It stands on `line_engine` alone, for what a line is.
 #![tactic(auto)]
 
 ghost use Rattle.std.specs.Prelude.{◌≡◌, ◌≤◌, length};
 ghost use Rattle.text_places.specs.Places.{newline_count, character_count, last_line_len};
+
+pub mod element_texts;
+pub mod field_lines;
+mod lines;
+pub mod marks;
+mod names;
+mod places;
+mod tags;
+mod texts;
+
+pub use crate::element_texts::{Element, elements};
+pub use crate::field_lines::{Grammar, Notation, fields};
 
 /// A part of a file: from `start` up to `end`, in bytes from the file's beginning.
 #[derive(Clone, Copy, PartialEq, Eq, Debug)]

@@ -4,13 +4,15 @@ ghost use Rattle.std.specs.Prelude.{◌≡◌, ◌≢◌, ◌↔◌, Some, false
 ghost use Rattle.toml.specs.Data.{string};
 ghost use Rattle.toml.specs.Parse.{parse_document, parse_value};
 ghost use Rattle.toml.specs.View.{view, table_view};
-ghost use Rattle.toml_places.specs.Places.{AreInOrder, marked, IsLiteral, Stands, ArePlaces};
+ghost use Rattle.toml_places.specs.Places.{IsLiteral, Stands, ArePlaces};
+ghost use Rattle.text_places.specs.Marks.{marked};
+ghost use Rattle.text_places.specs.Order.{AreInOrder};
 
 use crate::literals::literals;
-use crate::marks::{marked, number_of};
 use crate::path::{Path, text_at};
 use std::alloc::{AllocError, Global};
 use text_places::Span;
+use text_places::marks::{marked, number_of};
 use toml::{Table, Value};
 
 fn is_same_text(one: &str, other: &str) -> bool

@@ -1,7 +1,7 @@
 // The literals of a TOML text that are values, found by a scan that knows quotes, comments, headers and keys.
 
 ghost use Rattle.std.specs.Prelude.{◌≡◌, ◌+◌, ◌<◌, ◌≤◌, IfOk, length};
-ghost use Rattle.toml_places.specs.Places.{AreInOrder};
+ghost use Rattle.text_places.specs.Order.{AreInOrder};
 
 use std::alloc::{AllocError, Global};
 use text_places::Span;

@@ -11,9 +11,9 @@ use crate::allowed::judge::JointJudge;
 use crate::allowed::members::members_of;
 use crate::allowed::offer::Offer;
 use crate::allowed::question::Question;
+use selections::least_selection;
 use spdx_why::{Remedy, least};
 use std::alloc::{AllocError, Global};
-use sufficiency::least_selection;
 
 /// What all of some packages are used under.
 #[derive(Debug, Drop)]

@@ -7,10 +7,9 @@ ghost use Rattle.package_choices.specs.Questions.{asked_of, longest};
 
 use crate::allowed::asking::is_met;
 use crate::allowed::question::Question;
-use bit_stack::Truths;
+use selections::{Sufficiency, Truths};
 use spdx_parser::node::{ExprNode, Operator};
 use std::alloc::{AllocError, Global};
-use sufficiency::Sufficiency;
 
 /// Judges choices among some members: one suffices if it makes every one of some expressions true, where a requirement is
 /// met if it is allowed in its expression and its member is chosen.

@@ -32,20 +32,20 @@ impl<'c> Expression<'c> {
     /// refused.
     pub fn canonicalize<'t>(
         alloc: Global,
-        cat: &Catalogue,
+        catalogue: &Catalogue,
         text: &'t str,
     ) -> Result<Option<String>, Failure<ParseError<'t>>>
         ensures answer { IfOk result (λ answer.
-            answer_to text.now (canonical_of cat.now text.now)
+            answer_to text.now (canonical_of catalogue.now text.now)
             ≡ Ok (option_map string_bytes answer)) }
         ensures refusal { IfErr result
             (IfRefused (λ error.
-            (canonical_of cat.now text.now ≡ Err (fault_of error.reason, span_of error.span))
+            (canonical_of catalogue.now text.now ≡ Err (fault_of error.reason, span_of error.span))
             × (error.original.now ≡ text.now))) }
         ensures place { IfErr result (IfRefused (λ error. IsPlace text.now (span_of error.span))) }
-        ensures itself { canonical_of cat.now text.now ≡ Ok text.now → result ≡ Ok None }
-        ensures laws { CanonicalLaws cat.now text.now }
+        ensures itself { canonical_of catalogue.now text.now ≡ Ok text.now → result ≡ Ok None }
+        ensures laws { CanonicalLaws catalogue.now text.now }
     {
-        spdx_canonical::canonical(alloc, cat, text)
+        spdx_canonical::canonical(alloc, catalogue, text)
     }
 }

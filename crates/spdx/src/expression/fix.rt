@@ -2,7 +2,7 @@
 
 ghost use Rattle.std.specs.Prelude.{IfOk, option_map, string_bytes};
 ghost use Rattle.std.specs.Option.{IfSome};
-ghost use Rattle.spdx_fix.specs.Fix.{IsFixOf, FixLaws};
+ghost use Rattle.spdx_canonical.specs.Fix.{IsFixOf, FixLaws};
 
 use crate::expression::Expression;
 use spdx_catalogue::Catalogue;
@@ -19,12 +19,16 @@ impl<'c> Expression<'c> {
     /// # Errors
     ///
     /// Memory was refused.
-    pub fn fix(alloc: Global, cat: &Catalogue, text: &str) -> Result<Option<String>, AllocError>
+    pub fn fix(
+        alloc: Global,
+        catalogue: &Catalogue,
+        text: &str,
+    ) -> Result<Option<String>, AllocError>
         ensures answer { IfOk result (λ fix.
-            IsFixOf cat.now text.now (option_map string_bytes fix)) }
+            IsFixOf catalogue.now text.now (option_map string_bytes fix)) }
         ensures laws { IfOk result (λ fix. IfSome fix (λ mended.
-            FixLaws cat.now text.now (string_bytes mended))) }
+            FixLaws catalogue.now text.now (string_bytes mended))) }
     {
-        spdx_fix::fix(alloc, cat, text)
+        spdx_canonical::fix(alloc, catalogue, text)
     }
 }

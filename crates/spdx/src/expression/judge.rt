@@ -6,11 +6,11 @@ ghost use Rattle.spdx_minimize.specs.Trees.{trees_in};
 ghost use Rattle.spdx.specs.Value.{trees_of};
 
 use crate::expression::Expression;
+use selections::Sufficiency;
 use spdx_licensee::Licensee;
 use spdx_minimize::{NodesJudge, TreeNodes};
 use std::alloc::{AllocError, Global};
 use std::slice;
-use sufficiency::Sufficiency;
 
 /// Judges selections of some members: one suffices if it makes every one of some expressions true,
 /// where a requirement is met if a chosen member satisfies it.

@@ -1,20 +1,20 @@
 //! What an expression means, whatever its tree.
 
 ghost use Rattle.std.specs.Prelude.{◌≡◌, ◌↔◌, ◌⊎◌, ℕ, List, Err, IsOk, IsTrue, IfOk, IfErr, string_bytes};
-ghost use Rattle.least_sets.specs.Sets.{sets_in};
+ghost use Rattle.selections.specs.Sets.{sets_in};
 ghost use Rattle.spdx_requirement.specs.Failures.{IfRefused};
 ghost use Rattle.spdx_requirement.specs.Rows.{Rows};
 ghost use Rattle.spdx_parser.specs.Tree.{Tree};
-ghost use Rattle.spdx_normal.specs.Law.{IsStrict};
+ghost use Rattle.spdx_canonical.specs.NormalLaw.{IsStrict};
 ghost use Rattle.spdx_meaning.specs.Made.{made_in};
 ghost use Rattle.spdx_meaning.specs.Meaning.{AsksAtLeast, IsEquivalent};
 ghost use Rattle.spdx_meaning.specs.Minimal.{AreMinimalSets};
-ghost use Rattle.spdx_meaning_text.specs.MeaningText.{made_by_rank, IsMeaningText};
+ghost use Rattle.spdx_meaning.specs.MeaningText.{made_by_rank, IsMeaningText};
 
 use crate::expression::Expression;
 use spdx_catalogue::Failure;
 use spdx_meaning::TooManySets;
-use spdx_meaning_text::laws::meaning_texts_tell;
+use spdx_meaning::text::text_laws::meaning_texts_tell;
 use std::alloc::Global;
 
 impl<'c> Expression<'c> {
@@ -90,6 +90,6 @@ impl<'c> Expression<'c> {
             (string_bytes text ≡ others) ↔ IsEquivalent self.now.tree other) }
     {
         meaning_texts_tell();
-        spdx_meaning_text::meaning_text(alloc, self.nodes())
+        spdx_meaning::meaning_text(alloc, self.nodes())
     }
 }

@@ -3,8 +3,8 @@
 ghost use Rattle.std.specs.Prelude.{◌≡◌, ◌↔◌, IfOk, IsTrue, string_bytes};
 ghost use Rattle.spdx_requirement.specs.Rows.{Rows};
 ghost use Rattle.spdx_parser.specs.Tree.{Tree};
-ghost use Rattle.spdx_normal.specs.Normal.{normal_text};
-ghost use Rattle.spdx_normal.specs.Law.{IsStrict, ReadsAs, HasFewestParens};
+ghost use Rattle.spdx_canonical.specs.Normal.{normal_text};
+ghost use Rattle.spdx_canonical.specs.NormalLaw.{IsStrict, ReadsAs, HasFewestParens};
 ghost use Rattle.spdx.specs.Equality.{same_tree};
 
 use crate::expression::Expression;
@@ -37,6 +37,6 @@ impl<'c> Expression<'c> {
             IsStrict c self.now.tree → IsStrict c other →
             (string_bytes text ≡ normal_text other) ↔ IsTrue (same_tree self.now.tree other)) }
     {
-        spdx_normal::normal_text(alloc, self.nodes())
+        spdx_canonical::normal_text(alloc, self.nodes())
     }
 }

@@ -9,7 +9,7 @@ ghost use Rattle.spdx_lexer.specs.Words.{Placed, words};
 ghost use Rattle.spdx_requirement.specs.Failures.{IfRefused};
 ghost use Rattle.spdx_parser.specs.Meaning.{IsRefused};
 ghost use Rattle.spdx_canonical.specs.Canonical.{canonical_of, canonical_text, answer_to};
-ghost use Rattle.spdx_normal.specs.Law.{EachLeaf, IsStrict};
+ghost use Rattle.spdx_canonical.specs.NormalLaw.{EachLeaf, IsStrict};
 ghost use Rattle.spdx.specs.Meaning.{IsReadFrom, ReadsBack};
 
 use crate::expression::Expression;
@@ -24,18 +24,21 @@ impl<'c> Expression<'c> {
     /// printed text of each requirement, read strictly again, is that requirement alone.
     pub fn parse<'t>(
         alloc: Global,
-        cat: &'c Catalogue,
+        catalogue: &'c Catalogue,
         text: &'t str,
     ) -> Result<Expression<'c>, Failure<ParseError<'t>>>
-        ensures ok { IfOk result (λ expression. IsReadFrom cat.now strict text.now expression) }
-        ensures err { IfErr result (IfRefused (λ error. IsRefused cat.now strict text.now error)) }
+        ensures ok { IfOk result (λ expression.
+            IsReadFrom catalogue.now strict text.now expression) }
+        ensures err { IfErr result (IfRefused (λ error.
+            IsRefused catalogue.now strict text.now error)) }
         ensures place { IfErr result (IfRefused (λ error. IsPlace text.now (span_of error.span))) }
-        ensures strict { IfOk result (λ expression. IsStrict cat.now expression.tree) }
+        ensures strict { IfOk result (λ expression. IsStrict catalogue.now expression.tree) }
         ensures spans { IfOk result (λ expression. All (IsPlace text.now) expression.spans) }
-        ensures back { IfOk result (λ expression. EachLeaf (ReadsBack cat.now) expression.tree) }
+        ensures back { IfOk result (λ expression.
+            EachLeaf (ReadsBack catalogue.now) expression.tree) }
     {
-        cat.is_well_formed();
-        Expression::parse_mode(alloc, cat, text, ParseMode::STRICT)
+        catalogue.is_well_formed();
+        Expression::parse_mode(alloc, catalogue, text, ParseMode::STRICT)
     }
 
     /// The expression that the text means in this mode: the one tree that the grammar derives from
@@ -52,18 +55,19 @@ impl<'c> Expression<'c> {
     /// token, a place that is no token, or the end. `Memory` where memory was refused.
     pub fn parse_mode<'t>(
         alloc: Global,
-        cat: &'c Catalogue,
+        catalogue: &'c Catalogue,
         text: &'t str,
         mode: ParseMode,
     ) -> Result<Expression<'c>, Failure<ParseError<'t>>>
-        ensures ok { IfOk result (λ expression. IsReadFrom cat.now mode text.now expression) }
-        ensures err { IfErr result (IfRefused (λ error. IsRefused cat.now mode text.now error)) }
+        ensures ok { IfOk result (λ expression. IsReadFrom catalogue.now mode text.now expression) }
+        ensures err { IfErr result (IfRefused (λ error.
+            IsRefused catalogue.now mode text.now error)) }
         ensures place { IfErr result (IfRefused (λ error. IsPlace text.now (span_of error.span))) }
         ensures spans { IfOk result (λ expression. All (IsPlace text.now) expression.spans) }
     {
-        cat.is_well_formed();
-        cat.has_text_prefixes();
-        let nodes = parse_nodes(alloc, cat, text, mode)?;
+        catalogue.is_well_formed();
+        catalogue.has_text_prefixes();
+        let nodes = parse_nodes(alloc, catalogue, text, mode)?;
         let original = String::from_str(alloc, text)?;
         Ok(Expression::from_nodes(original, nodes))
     }
@@ -77,25 +81,26 @@ impl<'c> Expression<'c> {
     /// Those of [`Expression::parse_mode`]: every text that means an expression has a canonical text.
     pub fn parse_canonical<'t>(
         alloc: Global,
-        cat: &'c Catalogue,
+        catalogue: &'c Catalogue,
         text: &'t str,
         mode: ParseMode,
     ) -> Result<(Expression<'c>, Option<String>), Failure<ParseError<'t>>>
-        ensures ok { IfOk result (λ both. IsReadFrom cat.now mode text.now both.0) }
-        ensures err { IfErr result (IfRefused (λ error. IsRefused cat.now mode text.now error)) }
+        ensures ok { IfOk result (λ both. IsReadFrom catalogue.now mode text.now both.0) }
+        ensures err { IfErr result (IfRefused (λ error.
+            IsRefused catalogue.now mode text.now error)) }
         ensures place { IfErr result (IfRefused (λ error. IsPlace text.now (span_of error.span))) }
         ensures spans { IfOk result (λ both. All (IsPlace text.now) both.0.spans) }
         ensures written { IfOk result (λ both. (read : List Placed) →
-            reading cat.now mode 0 text.now ≡ map Ok read →
+            reading catalogue.now mode 0 text.now ≡ map Ok read →
             answer_to text.now (Ok (canonical_text (words read)))
             ≡ Ok (option_map string_bytes both.1)) }
         ensures canonical { IfOk result (λ both. (mode ≡ strict) ⊎ (mode ≡ lax) →
-            answer_to text.now (canonical_of cat.now text.now)
+            answer_to text.now (canonical_of catalogue.now text.now)
             ≡ Ok (option_map string_bytes both.1)) }
     {
-        cat.is_well_formed();
-        cat.has_text_prefixes();
-        let (nodes, canonical) = spdx_canonical::parse_canonical(alloc, cat, text, mode)?;
+        catalogue.is_well_formed();
+        catalogue.has_text_prefixes();
+        let (nodes, canonical) = spdx_canonical::parse_canonical(alloc, catalogue, text, mode)?;
         let original = String::from_str(alloc, text)?;
         Ok((Expression::from_nodes(original, nodes), canonical))
     }

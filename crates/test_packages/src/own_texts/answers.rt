@@ -2,8 +2,7 @@
 
 use crate::escapes::{bytes_of, put_bytes};
 use crate::names::{names_of, put_name};
-use owed_files::{File, owed_files, path_in};
-use shared_texts::{Holder, OwnText, SharedText, shared_texts};
+use notice_texts::{File, Holder, OwnText, SharedText, owed_files, path_in, shared_texts};
 use std::alloc::{AllocError, Global};
 
 /// What is answered to what stands before a row's `=>`.

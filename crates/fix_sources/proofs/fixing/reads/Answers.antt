@@ -1,7 +1,7 @@
 use Rattle.std.proofs.Common.{rules, subst}
 use Rattle.spdx_requirement.specs.Failures.{IfRefused}
 use Rattle.spdx_lexer.specs.Modes.{strict}
-use Rattle.spdx_fix.proofs.Read.{parsed_reads, refused_reads}
+use Rattle.spdx_canonical.proofs.FixRead.{parsed_reads, refused_reads}
 use Rattle.fix_sources.proofs.fixing.reads.Goals as goal
 use Rattle.fix_sources.proofs.fixing.reads.Goals.{in-Ok, in-Err-Refused, in-Err-Memory}
 

@@ -1,5 +1,5 @@
 use Rattle.std.proofs.Common.{◌≡◌, ◌++◌, take, flat_map}
-use Rattle.html_text.specs.Text.{page_text}
+use Rattle.foreign_text.specs.PageText.{page_text}
 use Rattle.gate_forms.specs.Page.{in_unstated}
 use Rattle.gate_forms.proofs.page.put_unstated_items.Given as goal
 

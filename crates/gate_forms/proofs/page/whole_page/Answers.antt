@@ -1,5 +1,5 @@
 use Rattle.std.proofs.Common.{codes}
-use Rattle.html_text.specs.Text.{page_text}
+use Rattle.foreign_text.specs.PageText.{page_text}
 use Rattle.gate_forms.specs.Top.{page_top}
 use Rattle.gate_forms.specs.Page.{title_part, refused_section, unstated_section, allowed_section}
 use Rattle.gate_forms.proofs.PageLaws.{in_a_row}

@@ -1,9 +1,9 @@
 use Rattle.std.proofs.Common.{◌≡◌, Some, refl, sym, ap, ◌∙◌}
 use Rattle.serde_json.specs.View.{view}
 use Rattle.serde_json.specs.Read.{read}
-use Rattle.json_places.specs.Places.{marked, mark_text}
+use Rattle.text_places.specs.Marks.{marked, mark_text}
 use Rattle.json_places.specs.Paths.{text_at}
-use Rattle.json_places.proofs.InOrder.{AreInOrder-at}
+use Rattle.text_places.proofs.InOrder.{AreInOrder-at}
 use Rattle.json_places.proofs.finding.place.Goals as goal
 
 pub is_literal-requires-clause-ordered : goal.is_literal-requires-clause-ordered

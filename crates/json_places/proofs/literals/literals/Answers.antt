@@ -1,5 +1,5 @@
 use Rattle.std.proofs.Common.{arith}
-use Rattle.json_places.proofs.InOrder.{AreInOrder-before, AreInOrder-push}
+use Rattle.text_places.proofs.InOrder.{AreInOrder-before, AreInOrder-push}
 use Rattle.json_places.proofs.literals.literals.Goals as goal
 
 pub loop-at-preserved-in_ok-push : goal.loop-at-preserved-in_ok-push

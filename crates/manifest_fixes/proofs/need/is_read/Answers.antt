@@ -1,8 +1,8 @@
 use Rattle.std.proofs.Common.{rules, subst}
 use Rattle.spdx_lexer.specs.declared.token.ParseMode.{ParseMode}
 use Rattle.spdx_requirement.specs.Failures.{IfRefused}
-use Rattle.spdx_fix.specs.Fix.{Reads}
-use Rattle.spdx_fix.proofs.Read.{parsed_reads, refused_reads}
+use Rattle.spdx_canonical.specs.Fix.{Reads}
+use Rattle.spdx_canonical.proofs.FixRead.{parsed_reads, refused_reads}
 use Rattle.manifest_fixes.specs.Fixing.{mode_of}
 use Rattle.manifest_fixes.proofs.need.is_read.Goals as goal
 use Rattle.manifest_fixes.proofs.need.is_read.Goals.{in-Ok, in-Err-Refused, in-Err-Memory}

@@ -2,7 +2,7 @@ use Rattle.std.proofs.Common.{rules, ◌≡◌, ℕ, List, Option, String, Globa
 use Rattle.std.proofs.lemmas.Str.{IsUtf8-string_bytes}
 use Rattle.std.specs.Str.{IsUtf8}
 use Rattle.spdx_requirement.specs.Rows.{Rows}
-use Rattle.spdx_fix.specs.Fix.{Reads, IsFix, IsFixOf}
+use Rattle.spdx_canonical.specs.Fix.{Reads, IsFix, IsFixOf}
 use Rattle.manifests.specs.declared.form.Form.{Form}
 use Rattle.manifest_fixes.specs.Fixing.{mode_of, IsMendedBy}
 use Rattle.manifest_fixes.proofs.Slashed.{mended_by}

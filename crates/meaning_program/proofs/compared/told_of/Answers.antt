@@ -2,7 +2,7 @@ use Rattle.std.proofs.Common.{rules, ◌≡◌, ◌∙◌, ap, subst, ℕ, Bool,
 use Rattle.std.specs.Prelude.{bytes_eq}
 use Rattle.spdx_parser.specs.declared.node.ExprNode.{ExprNode}
 use Rattle.spdx_evaluation.specs.Postfix.{tree_in}
-use Rattle.spdx_compare.specs.Comparing.{IsComparisonOf}
+use Rattle.spdx_meaning.specs.Comparing.{IsComparisonOf}
 use Rattle.meaning_program.specs.Sayings.{alike, told_text}
 use Rattle.meaning_program.proofs.compared.told_of.Goals as goal
 

@@ -1,6 +1,6 @@
 use Rattle.std.proofs.Common.{◌≡◌, Err, Ok, ap, rules, string_bytes}
 use Rattle.std.proofs.lemmas.Str.{is_utf8-from_IsUtf8}
-use Rattle.spdx_compare.specs.Reading.{IsMeaningless, IsMeaningOf}
+use Rattle.spdx_meaning.specs.Reading.{IsMeaningless, IsMeaningOf}
 use Rattle.meaning_program.specs.Troubles.{why_text}
 use Rattle.meaning_program.proofs.Lining.{not_text, of_read, of_some}
 use Rattle.meaning_program.proofs.simplified.answer_to.Goals as goal

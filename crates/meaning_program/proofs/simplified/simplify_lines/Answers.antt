@@ -2,7 +2,7 @@ use Rattle.std.proofs.Common.{◌≡◌, ◌∙◌, ◌++◌, ◌∷◌, [], Lis
 use Rattle.std.specs.Borrow.{Bor}
 use Rattle.std.specs.List.{take-map}
 use Rattle.line_engine.specs.Lines.{cut, lines_of}
-use Rattle.spdx_meaning_text.specs.LeastSets.{any_of}
+use Rattle.spdx_meaning.specs.LeastSets.{any_of}
 use Rattle.meaning_program.specs.Simplified.{AreSimplified}
 use Rattle.meaning_program.proofs.Pieces.{pieces_are}
 use Rattle.meaning_program.proofs.Lines.{IsReadAgain, tells_nothing, writes_each}

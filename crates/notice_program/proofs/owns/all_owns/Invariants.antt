@@ -1,6 +1,6 @@
 use Rattle.std.proofs.Common.{◌≡◌, map, take, flat_map}
 use Rattle.notice_program.specs.Packages.{owns_of}
-use Rattle.shared_texts.specs.Shared.{own}
+use Rattle.notice_texts.specs.Shared.{own}
 use Rattle.notice_program.proofs.owns.all_owns.Given as goal
 
 abbrev pub invariant-loop-one : goal.invariant-loop-one

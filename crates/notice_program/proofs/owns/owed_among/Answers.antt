@@ -1,6 +1,6 @@
 use Rattle.std.proofs.Common.{ℕ, ◌<◌, ◌∙◌, List, Bor, length, map, sym, arith}
 use Rattle.notice_program.specs.declared.packages.OwnFile.{OwnFile}
-use Rattle.owed_files.specs.Owed.{is_owed, seen}
+use Rattle.notice_texts.specs.Owed.{is_owed, seen}
 use Rattle.notice_program.proofs.Filters.{kept_more, left_more}
 use Rattle.notice_program.proofs.owns.owed_among.Goals.{then-is_owed+in_ok-push, else-is_owed}
 use Rattle.notice_program.proofs.owns.owed_among.Goals as goal

@@ -2,7 +2,7 @@ use Rattle.std.proofs.Common.{◌≡◌, ℕ, List, map, take}
 use Rattle.std.specs.Borrow.{Bor}
 use Rattle.std.specs.Prelude.{filter}
 use Rattle.notice_program.specs.declared.packages.OwnFile.{OwnFile}
-use Rattle.owed_files.specs.Owed.{is_owed, seen}
+use Rattle.notice_texts.specs.Owed.{is_owed, seen}
 use Rattle.notice_program.proofs.owns.owed_among.Given as goal
 
 abbrev pub invariant-loop-one : goal.invariant-loop-one

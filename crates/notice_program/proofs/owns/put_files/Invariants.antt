@@ -1,6 +1,6 @@
 use Rattle.std.proofs.Common.{◌≡◌, ◌++◌, map, take}
 use Rattle.notice_program.specs.Packages.{own_in}
-use Rattle.shared_texts.specs.Shared.{own}
+use Rattle.notice_texts.specs.Shared.{own}
 use Rattle.notice_program.proofs.owns.put_files.Given as goal
 
 abbrev pub invariant-loop-one : goal.invariant-loop-one

@@ -1,7 +1,7 @@
 use Rattle.std.proofs.Common.{◌≡◌, ◌∙◌, ap, List, map, subst}
 use Rattle.std.specs.List.{AllZip}
-use Rattle.shared_texts.specs.declared.texts.OwnText.{OwnText}
-use Rattle.shared_texts.specs.Shared.{EachStands, NothingElse, Own, Shared, gathered, own, shared_of}
+use Rattle.notice_texts.specs.declared.texts.OwnText.{OwnText}
+use Rattle.notice_texts.specs.Shared.{EachStands, NothingElse, Own, Shared, gathered, own, shared_of}
 use Rattle.notice_program.specs.declared.lacks.GeneralText.{GeneralText}
 use Rattle.notice_program.specs.Lacks.{seen_lack}
 use Rattle.notice_program.specs.Packages.{owns_in}

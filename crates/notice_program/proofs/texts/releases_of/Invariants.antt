@@ -1,6 +1,6 @@
 use Rattle.std.proofs.Common.{◌≡◌, map, take}
 use Rattle.license_notice.specs.Notices.{line_of}
-use Rattle.shared_texts.specs.Shared.{held}
+use Rattle.notice_texts.specs.Shared.{held}
 use Rattle.notice_program.specs.Texts.{line_held}
 use Rattle.notice_program.proofs.texts.releases_of.Given as goal
 

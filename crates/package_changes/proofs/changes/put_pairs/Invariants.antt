@@ -1,5 +1,5 @@
 use Rattle.std.proofs.Common.{◌≡◌, ◌++◌, map, take}
-use Rattle.package_changes.specs.declared.pairing.Pair.{Pair}
+use Rattle.package_changes.specs.declared.changes.pairing.Pair.{Pair}
 use Rattle.package_changes.specs.Rows.{change_row}
 use Rattle.package_changes.specs.Pairing.{stayed_of}
 use Rattle.package_changes.specs.Steps.{pair_of}

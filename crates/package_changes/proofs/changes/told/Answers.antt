@@ -1,7 +1,7 @@
 use Rattle.std.proofs.Common.{◌≡◌, List, [], ◌∷◌, map, refl, ap, ◌∙◌, append_assoc}
 use Rattle.package_changes.specs.declared.package.Package.{Package}
 use Rattle.package_changes.specs.declared.package.Change.{Change}
-use Rattle.package_changes.specs.declared.pairing.Pair.{Pair}
+use Rattle.package_changes.specs.declared.changes.pairing.Pair.{Pair}
 use Rattle.package_changes.specs.Rows.{row_of, change_row, went, came}
 use Rattle.package_changes.specs.Pairing.{stayed_of}
 use Rattle.package_changes.specs.Steps.{pair_of}

@@ -1,7 +1,7 @@
 use Rattle.std.proofs.Common.{◌≡◌, ◌++◌, map}
 use Rattle.std.specs.Prelude.{filter}
 use Rattle.text_places.specs.declared.Span.{Span}
-use Rattle.element_texts.specs.declared.Element.{Element}
+use Rattle.text_places.specs.declared.element_texts.Element.{Element}
 use Rattle.plain_manifests.specs.Places.{declares, text_at, element_places}
 use Rattle.plain_manifests.proofs.places.element_places.Given as goal
 

@@ -1,6 +1,6 @@
 use Rattle.std.proofs.Common.{rules, subst}
 use Rattle.spdx_requirement.specs.Failures.{IfRefused}
-use Rattle.spdx_fix.proofs.Read.{parsed_reads}
+use Rattle.spdx_canonical.proofs.FixRead.{parsed_reads}
 use Rattle.spdx_check.proofs.refusals.fault_in.Goals as goal
 use Rattle.spdx_check.proofs.refusals.fault_in.Goals.{in-Ok, in-Err-Refused, in-Err-Memory}
 

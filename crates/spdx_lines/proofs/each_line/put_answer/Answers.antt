@@ -13,5 +13,5 @@ returns-in_ok-push-in-Some-2-clause-text c =
     let accepts = rw c.in-Some.is at c.in_ok-begin_answer.ensures in
     let choice = choice_of (t ∷ []) accepted in
     let found = c.in_ok-put_choice-in-Some.ensures choice c.minimized_among.ensures.ok c.minimized_among.ensures.err in
-    ends_so c.args.cat.now c.args.mode c.args.line.now c.args.text.now.items first c.push-in-Some.new.self.items t (choice_column accepted) accepts
+    ends_so c.args.catalogue.now c.args.mode c.args.line.now c.args.text.now.items first c.push-in-Some.new.self.items t (choice_column accepted) accepts
     (third first c.push.new.self.items c.put_choice.new.text.items c.push-in-Some.new.self.items (choice_text choice) c.in_ok-push-in-Some.ensures.items found c.in_ok-push-in-Some-2.ensures.items)

@@ -9,17 +9,17 @@ use Rattle.spdx_lines.proofs.lines.run.Goals as goal
 
 pub returns : goal.returns
 returns g c =
-    let cat = c.args.cat.now in
+    let catalogue = c.args.catalogue.now in
     let mode = c.args.mode in
     let accepted = c.args.accepted.now in
     let made = c.new-each.result in
     let same = c.new-each.ensures in
-    let rule : rule_of made.cat.now made.mode (licensees_of made.accepted) ≡ rule_of cat mode accepted =
-    ap (λ x. rule_of x made.mode (licensees_of made.accepted)) same.cat ∙ ap (λ x. rule_of cat x (licensees_of made.accepted)) same.mode ∙ ap (λ x. rule_of cat mode x) same.accepted in
+    let rule : rule_of made.catalogue.now made.mode (licensees_of made.accepted) ≡ rule_of catalogue mode accepted =
+    ap (λ x. rule_of x made.mode (licensees_of made.accepted)) same.catalogue ∙ ap (λ x. rule_of catalogue x (licensees_of made.accepted)) same.mode ∙ ap (λ x. rule_of catalogue mode x) same.accepted in
     let d = devices (g.I.Source.told c.args.input.now) (g.I.Source.told c.run.new.input) (g.O.Sink.told c.args.output.now) (g.O.Sink.told c.run.new.output) in
     record {
-      verdict = verdict cat mode;
-      verdicts = the_verdict cat mode;
-      splits = splits (rule_of cat mode accepted) (λ before line. refl) (λ lines. refl);
+      verdict = verdict catalogue mode;
+      verdicts = the_verdict catalogue mode;
+      splits = splits (rule_of catalogue mode accepted) (λ before line. refl) (λ lines. refl);
       runs = subst (λ r. Runs r d c.run.result) rule c.run.ensures.runs;
     }

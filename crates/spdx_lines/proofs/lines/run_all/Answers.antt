@@ -8,17 +8,17 @@ use Rattle.spdx_lines.proofs.lines.run_all.Goals as goal
 
 pub returns : goal.returns
 returns g c =
-    let cat = c.args.cat.now in
+    let catalogue = c.args.catalogue.now in
     let mode = c.args.mode in
     let accepted = c.args.accepted.now in
     let made = c.new-all.result in
     let same = c.new-all.ensures in
-    let rule : rule_of_all made.cat.now made.mode made.accepted.now ≡ rule_of_all cat mode accepted =
-    ap (λ x. rule_of_all x made.mode made.accepted.now) same.cat ∙ ap (λ x. rule_of_all cat x made.accepted.now) same.mode ∙ ap (λ x. rule_of_all cat mode x) same.accepted in
+    let rule : rule_of_all made.catalogue.now made.mode made.accepted.now ≡ rule_of_all catalogue mode accepted =
+    ap (λ x. rule_of_all x made.mode made.accepted.now) same.catalogue ∙ ap (λ x. rule_of_all catalogue x made.accepted.now) same.mode ∙ ap (λ x. rule_of_all catalogue mode x) same.accepted in
     let d = devices (g.I.Source.told c.args.input.now) (g.I.Source.told c.run.new.input) (g.O.Sink.told c.args.output.now) (g.O.Sink.told c.run.new.output) in
     record {
-      verdict = verdict cat mode;
-      verdicts = the_verdict cat mode;
-      doubles = closes_alike cat mode accepted;
+      verdict = verdict catalogue mode;
+      verdicts = the_verdict catalogue mode;
+      doubles = closes_alike catalogue mode accepted;
       runs = subst (λ r. Runs r d c.run.result) rule c.run.ensures.runs;
     }

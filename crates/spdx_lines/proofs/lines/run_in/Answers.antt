@@ -9,17 +9,17 @@ use Rattle.spdx_lines.proofs.lines.run_in.Goals as goal
 
 pub returns : goal.returns
 returns g c =
-    let cat = c.args.cat.now in
+    let catalogue = c.args.catalogue.now in
     let mode = c.args.mode in
     let accepted = c.args.accepted.now in
     let each = c.new-each.result in
     let made = c.new-each.ensures in
-    let rule : rule_of each.cat.now each.mode (licensees_of each.accepted) ≡ rule_of cat mode accepted =
-    ap (λ x. rule_of x each.mode (licensees_of each.accepted)) made.cat ∙ ap (λ x. rule_of cat x (licensees_of each.accepted)) made.mode ∙ ap (λ x. rule_of cat mode x) made.accepted in
+    let rule : rule_of each.catalogue.now each.mode (licensees_of each.accepted) ≡ rule_of catalogue mode accepted =
+    ap (λ x. rule_of x each.mode (licensees_of each.accepted)) made.catalogue ∙ ap (λ x. rule_of catalogue x (licensees_of each.accepted)) made.mode ∙ ap (λ x. rule_of catalogue mode x) made.accepted in
     let d = devices (g.I.Source.told c.args.input.now) (g.I.Source.told c.run_in.new.input) (g.O.Sink.told c.args.output.now) (g.O.Sink.told c.run_in.new.output) in
     record {
-      verdict = verdict cat mode;
-      verdicts = the_verdict cat mode;
-      splits = splits (rule_of cat mode accepted) (λ before line. refl) (λ lines. refl);
+      verdict = verdict catalogue mode;
+      verdicts = the_verdict catalogue mode;
+      splits = splits (rule_of catalogue mode accepted) (λ before line. refl) (λ lines. refl);
       runs = subst (λ r. Runs r d c.run_in.result) rule c.run_in.ensures.runs;
     }

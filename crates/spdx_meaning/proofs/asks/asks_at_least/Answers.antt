@@ -4,7 +4,7 @@ use Rattle.std.specs.Global.{Vec}
 use Rattle.std.specs.List.{list_all, find}
 use Rattle.spdx_parser.specs.Tree.{leaves}
 use Rattle.spdx_evaluation.specs.Postfix.{tree_in}
-use Rattle.least_sets.specs.Sets.{sets_in}
+use Rattle.selections.specs.Sets.{sets_in}
 use Rattle.spdx_meaning.specs.Places.{place_in}
 use Rattle.spdx_meaning.specs.Made.{made_in}
 use Rattle.spdx_meaning.specs.Minimal.{is_unmet}

@@ -6,7 +6,7 @@ use Rattle.std.proofs.lemmas.List.{drop_all, drop_more}
 use Rattle.spdx_parser.specs.declared.node.ExprNode.{ExprNode}
 use Rattle.spdx_evaluation.specs.Postfix.{tree_in}
 use Rattle.spdx_evaluation.specs.Truth.{truth_of}
-use Rattle.least_sets.specs.Sets.{is_in, set_of, sets_in}
+use Rattle.selections.specs.Sets.{is_in, set_of, sets_in}
 use Rattle.spdx_meaning.proofs.Marks.{marks_tell, still_low}
 use Rattle.spdx_meaning.proofs.asks.first_failing.Goals as goal
 

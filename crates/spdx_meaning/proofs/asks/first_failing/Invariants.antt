@@ -3,7 +3,7 @@ use Rattle.std.specs.Prelude.{not}
 use Rattle.std.specs.List.{find}
 use Rattle.spdx_evaluation.specs.Postfix.{tree_in}
 use Rattle.spdx_evaluation.specs.Truth.{truth_of}
-use Rattle.least_sets.specs.Sets.{is_in, sets_in}
+use Rattle.selections.specs.Sets.{is_in, sets_in}
 use Rattle.spdx_meaning.proofs.asks.first_failing.Given as goal
 
 abbrev pub invariant-loop-index : goal.invariant-loop-index

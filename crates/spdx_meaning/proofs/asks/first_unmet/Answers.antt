@@ -9,7 +9,7 @@ use Rattle.spdx_evaluation.specs.Postfix.{tree_in}
 use Rattle.spdx_evaluation.specs.Requirements.{requirements_in}
 use Rattle.spdx_evaluation.specs.Truth.{truth_of}
 use Rattle.spdx_evaluation.proofs.Nodes.{requirement_at, requirements_of_tree}
-use Rattle.least_sets.specs.Sets.{is_in, sets_in}
+use Rattle.selections.specs.Sets.{is_in, sets_in}
 use Rattle.spdx_meaning.proofs.Meaning.{tests_are}
 use Rattle.spdx_meaning.proofs.Marks.{places_few}
 use Rattle.spdx_meaning.proofs.asks.first_unmet.Goals as goal

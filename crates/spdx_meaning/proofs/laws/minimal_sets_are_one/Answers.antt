@@ -1,5 +1,5 @@
 use Rattle.std.proofs.Common.{sym, ◌∙◌}
-use Rattle.least_sets.proofs.Unique.{only_one}
+use Rattle.selections.proofs.Unique.{only_one}
 use Rattle.spdx_meaning.proofs.laws.minimal_sets_are_one.Goals as goal
 
 pub returns : goal.returns

@@ -1,7 +1,7 @@
 use Rattle.std.proofs.Common.{◌≡◌, ◌∙◌, Ok}
 use Rattle.spdx_parser.specs.Tree.{leaves}
 use Rattle.spdx_evaluation.specs.Postfix.{tree_in}
-use Rattle.least_sets.specs.Sets.{sets_in}
+use Rattle.selections.specs.Sets.{sets_in}
 use Rattle.spdx_meaning.specs.Places.{place_in}
 use Rattle.spdx_meaning.specs.Made.{made_in}
 use Rattle.spdx_meaning.proofs.Meaning.{made_apart}

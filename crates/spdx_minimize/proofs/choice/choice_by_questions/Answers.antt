@@ -1,6 +1,6 @@
 use Rattle.std.proofs.Common.{rules, arith, ◌≡◌, ◌≤◌, ◌∙◌, sym, ap, length, map}
 use Rattle.std.proofs.lemmas.List.{length-map}
-use Rattle.sufficiency.specs.Selection.{IsLeast, NeedsEach, NoneSuffices}
+use Rattle.selections.specs.Selection.{IsLeast, NeedsEach, NoneSuffices}
 use Rattle.spdx_minimize.specs.Choice.{chosen}
 use Rattle.spdx_minimize.specs.Places.{question_tree}
 use Rattle.spdx_evaluation.specs.Requirements.{nows}

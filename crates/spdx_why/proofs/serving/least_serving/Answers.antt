@@ -1,6 +1,6 @@
 use Rattle.std.proofs.Common.{rules, arith, ◌+◌, ◌≤◌, ◌∙◌, sym, ap, subst, ℕ, ◌<◌, List, length}
 use Rattle.std.specs.List.{All}
-use Rattle.sufficiency.specs.Selection.{IsLeast, NeedsEach, NoneSuffices}
+use Rattle.selections.specs.Selection.{IsLeast, NeedsEach, NoneSuffices}
 use Rattle.spdx_evaluation.specs.Postfix.{tree_in}
 use Rattle.spdx_why.specs.Least.{chosen}
 use Rattle.spdx_why.specs.Serving.{lists_in}

@@ -1,7 +1,7 @@
 use Rattle.std.proofs.Common.{◌≡◌, Some, refl, sym, ap, ◌∙◌}
 use Rattle.toml.specs.View.{table_view}
 use Rattle.toml.specs.Parse.{parse_document}
-use Rattle.toml_places.specs.Places.{marked, mark_text}
+use Rattle.text_places.specs.Marks.{marked, mark_text}
 use Rattle.toml_places.specs.Paths.{text_at}
 use Rattle.toml_places.proofs.finding.place.Goals as goal
 

@@ -1,5 +1,5 @@
 use Rattle.std.proofs.Common.{arith}
-use Rattle.toml_places.proofs.InOrder.{AreInOrder-before, AreInOrder-push}
+use Rattle.text_places.proofs.InOrder.{AreInOrder-before, AreInOrder-push}
 use Rattle.toml_places.proofs.literals.literals.Goals as goal
 use Rattle.toml_places.proofs.literals.literals.Goals.{then-is_quote+then-not-line+then-not-is_key+in_ok-push, else-is_quote}
 

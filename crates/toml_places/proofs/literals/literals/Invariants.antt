@@ -1,5 +1,5 @@
 use Rattle.std.proofs.Common.{length, ◌-◌, ◌≤◌}
-use Rattle.toml_places.specs.Places.{AreInOrder}
+use Rattle.text_places.specs.Order.{AreInOrder}
 use Rattle.toml_places.proofs.literals.literals.Given as goal
 
 abbrev pub invariant-loop-at : goal.invariant-loop-at

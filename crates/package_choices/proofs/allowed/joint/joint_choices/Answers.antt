@@ -2,7 +2,7 @@ use Rattle.std.proofs.Common.{rules, arith, ◌≡◌, ◌∙◌, sym, ap, subst
 use Rattle.std.proofs.lemmas.List.{length-map}
 use Rattle.spdx_requirement.specs.declared.requirement.LicenseReq.{LicenseReq}
 use Rattle.spdx_requirement.specs.Items.{Requirement, requirement_of}
-use Rattle.sufficiency.specs.Selection.{IsLeast, NeedsEach, NoneSuffices}
+use Rattle.selections.specs.Selection.{IsLeast, NeedsEach, NoneSuffices}
 use Rattle.package_choices.specs.declared.allowed.question.Question.{Question}
 use Rattle.package_choices.specs.Choice.{Asked, offer_of, asked, members_of, asked_all, suffices_for, own_in, together}
 use Rattle.package_choices.specs.Members.{shown}

@@ -2,9 +2,9 @@ use Rattle.std.proofs.Common.{◌≡◌, ◌↔◌, ℕ, List, IfOk, string_byte
 use Rattle.std.proofs.lemmas.Result.{IfOk-weaker}
 use Rattle.spdx_requirement.specs.Rows.{Rows}
 use Rattle.spdx_parser.specs.Tree.{Tree}
-use Rattle.spdx_normal.specs.Law.{IsStrict}
+use Rattle.spdx_canonical.specs.NormalLaw.{IsStrict}
 use Rattle.spdx_meaning.specs.Meaning.{IsEquivalent}
-use Rattle.spdx_meaning_text.specs.MeaningText.{IsMeaningText}
+use Rattle.spdx_meaning.specs.MeaningText.{IsMeaningText}
 use Rattle.spdx.proofs.expression.Expression.meaning_text.Goals as goal
 
 -- src/expression/meaning.rt:84:5

@@ -1,7 +1,7 @@
 use Rattle.std.proofs.Common.{ℕ, List, sym, ◌∙◌, ap, subst, string_bytes}
 use Rattle.spdx_parser.specs.Tree.{postfix}
-use Rattle.spdx_normal.specs.Law.{ReadsAs, HasFewestParens}
-use Rattle.spdx_normal.proofs.Laws.{reads, fewest}
+use Rattle.spdx_canonical.specs.NormalLaw.{ReadsAs, HasFewestParens}
+use Rattle.spdx_canonical.proofs.NormalLaws.{reads, fewest}
 use Rattle.spdx.proofs.Leaves.{if_ok}
 use Rattle.spdx.proofs.Telling.{tells}
 use Rattle.spdx.proofs.expression.Expression.normal_text.Goals as goal

@@ -4,5 +4,5 @@ use Rattle.spdx_lines.proofs.each_line.EachLine.new.Goals as goal
 
 pub invariant_of-result : goal.invariant_of-result
 invariant_of-result c = record {
-  known = c.new-remembered.ensures (rule_of c.args.cat.now c.args.mode (licensees_of c.new-accepted.result));
+  known = c.new-remembered.ensures (rule_of c.args.catalogue.now c.args.mode (licensees_of c.new-accepted.result));
 }

@@ -12,19 +12,19 @@ use Rattle.spdx_lines.proofs.each_line.EachLineVerdicts.answer.Goals as goal
 pub returns-in-Some-clause-text : goal.returns-in-Some-clause-text
 returns-in-Some-clause-text c lines h =
     let each = c.args.self.now in
-    let told = c.in-Some.ensures (rule_of each.cat.now each.mode (licensees_of each.accepted)) each.known in
+    let told = c.in-Some.ensures (rule_of each.catalogue.now each.mode (licensees_of each.accepted)) each.known in
     c.in_ok-extend_from_slice.ensures.items ∙ ap (λ (xs : List ℕ). c.args.text.now.items ++ xs) (c.answer.ensures ∙ told.0)
 
 pub returns-in-Some-clause-refuses : goal.returns-in-Some-clause-refuses
 returns-in-Some-clause-refuses c =
     let each = c.args.self.now in
-    let told = c.in-Some.ensures (rule_of each.cat.now each.mode (licensees_of each.accepted)) each.known in
+    let told = c.in-Some.ensures (rule_of each.catalogue.now each.mode (licensees_of each.accepted)) each.known in
     c.is_refused.ensures ∙ told.1
 
 -- what is known of some licensees is known of equal ones
 of_same : (each : EachLine) (ls : List Requirement) (slots : List Slot) → ls ≡ licensees_of each.accepted
-    → AreAnswers (rule_of each.cat.now each.mode (licensees_of each.accepted)) slots → AreAnswers (rule_of each.cat.now each.mode ls) slots
-of_same each ls slots e known = subst (λ (z : List Requirement). AreAnswers (rule_of each.cat.now each.mode z) slots) (sym e) known
+    → AreAnswers (rule_of each.catalogue.now each.mode (licensees_of each.accepted)) slots → AreAnswers (rule_of each.catalogue.now each.mode ls) slots
+of_same each ls slots e known = subst (λ (z : List Requirement). AreAnswers (rule_of each.catalogue.now each.mode z) slots) (sym e) known
 
 pub invariant_of-self : goal.invariant_of-self
 invariant_of-self c = record { known = of_same c.args.self.now _ _ c.put_answer.ensures.licensees c.args.self.now.known }
@@ -32,7 +32,7 @@ invariant_of-self c = record { known = of_same c.args.self.now _ _ c.put_answer.
 pub invariant_of-self-2 : goal.invariant_of-self-2
 invariant_of-self-2 c =
     let each = c.args.self.now in
-    let rule = rule_of each.cat.now each.mode (licensees_of each.accepted) in
+    let rule = rule_of each.catalogue.now each.mode (licensees_of each.accepted) in
     let before = c.args.text.now.items in
     let answer = rule.text [] c.args.line.now in
     let start : c.len-start.result ≡ length before = search rules in

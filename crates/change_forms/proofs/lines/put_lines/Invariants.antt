@@ -1,6 +1,0 @@
-use Rattle.std.proofs.Common.{◌≡◌, ◌++◌, flat_map, take}
-use Rattle.change_forms.specs.Lines.{line_of}
-use Rattle.change_forms.proofs.lines.put_lines.Given as goal
-
-abbrev pub invariant-loop-telling : goal.invariant-loop-telling
-invariant-loop-telling l = l.page.items ≡ l.initial.page.items ++ flat_map line_of (take l.telling-index l.tellings)

@@ -1,9 +1,0 @@
-use Rattle.std.proofs.Common.{append_assoc}
-use Rattle.change_forms.specs.Table.{notes_cell}
-use Rattle.change_forms.proofs.table.put_notes.Goals as goal
-
-pub returns : goal.returns
-unfolding notes_cell
-returns c =
-    rw (c.in_ok-put_refused.ensures, c.in_ok-put_reason-2.ensures, c.in_ok-put_reason.ensures, c.in_ok-put_enough-2.ensures, c.in_ok-put_enough.ensures)
-    (simp append_assoc)

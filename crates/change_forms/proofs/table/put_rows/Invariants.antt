@@ -1,6 +1,0 @@
-use Rattle.std.proofs.Common.{◌≡◌, ◌++◌, flat_map, take}
-use Rattle.change_forms.specs.Table.{row_of}
-use Rattle.change_forms.proofs.table.put_rows.Given as goal
-
-abbrev pub invariant-loop-telling : goal.invariant-loop-telling
-invariant-loop-telling l = l.page.items ≡ l.initial.page.items ++ flat_map row_of (take l.telling-index l.tellings)

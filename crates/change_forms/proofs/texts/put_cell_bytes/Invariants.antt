@@ -1,6 +1,0 @@
-use Rattle.std.proofs.Common.{◌≡◌, ◌++◌, flat_map, take}
-use Rattle.change_forms.specs.Texts.{cell_byte}
-use Rattle.change_forms.proofs.texts.put_cell_bytes.Given as goal
-
-abbrev pub invariant-loop-byte : goal.invariant-loop-byte
-invariant-loop-byte l = l.page.items ≡ l.initial.page.items ++ flat_map cell_byte (take l.byte-index l.bytes)

@@ -1,5 +1,0 @@
-pub mod Listing
-pub mod FirstLine
-pub mod Lengths
-pub mod Following
-pub mod Steps

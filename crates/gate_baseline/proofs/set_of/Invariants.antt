@@ -1,6 +1,0 @@
-use Rattle.std.proofs.Common.{take}
-use Rattle.gate_baseline.specs.Sets.{Has}
-use Rattle.gate_baseline.proofs.set_of.Given as goal
-
-abbrev pub invariant-loop-refusal : goal.invariant-loop-refusal
-invariant-loop-refusal l = Has l.set (take l.refusal-index l.refusals)

@@ -1,7 +1,0 @@
-use Rattle.std.proofs.Common.{◌≡◌, ◌++◌, flat_map}
-use Rattle.html_text.specs.Text.{page_char}
-use Rattle.html_text.proofs.put_chars.Given as goal
-
-abbrev pub invariant-loop-letter : goal.invariant-loop-letter
-invariant-loop-letter l =
-    l.page.items ≡ l.initial.page.items ++ flat_map page_char l.yielded

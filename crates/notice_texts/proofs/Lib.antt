@@ -1,0 +1,9 @@
+pub mod Stems
+pub mod LackLaws
+pub mod Laws
+pub mod Inside
+pub mod Wording
+pub mod Holding
+pub mod Sharing
+pub mod Viewed
+pub mod Gathering

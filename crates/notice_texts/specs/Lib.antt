@@ -1,0 +1,9 @@
+pub mod Lacking
+pub mod Sets
+pub mod Stems
+pub mod Names
+pub mod Owed
+pub mod Paths
+pub mod Words
+pub mod Shared
+pub mod Entries

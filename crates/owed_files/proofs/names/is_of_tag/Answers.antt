@@ -1,6 +1,0 @@
-use Rattle.std.proofs.Common.{ap, ◌∙◌}
-use Rattle.owed_files.specs.Names.{stands_for}
-use Rattle.owed_files.proofs.names.is_of_tag.Goals as goal
-
-pub returns : goal.returns
-returns c = c.stands_for.ensures ∙ ap (stands_for c.args.tag.now) c.as_bytes.ensures.value

@@ -1,2 +1,0 @@
-pub mod Stems
-pub mod Laws

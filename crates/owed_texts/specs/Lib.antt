@@ -1,3 +1,0 @@
-pub mod Owed
-pub mod Sets
-pub mod Stems

@@ -1,0 +1,12 @@
+use Rattle.std.proofs.Common.{◌≡◌, ◌++◌, Ok, map, drop}
+use Rattle.package_items.specs.Rows.{row_of, item_row}
+use Rattle.package_items.specs.Members.{on_ok}
+use Rattle.package_items.specs.Items.{each}
+use Rattle.package_sources.specs.Cargo.{cargo}
+use Rattle.package_sources.proofs.formats.cargo.cargo_packages.Given as goal
+
+abbrev pub invariant-loop-item : goal.invariant-loop-item
+invariant-loop-item l =
+    each (λ i. cargo (map item_row l.members) i) (map item_row l.items)
+    ≡ on_ok (each (λ i. cargo (map item_row l.members) i) (map item_row (drop l.item-index l.items)))
+    (λ rows. Ok (map row_of l.packages.items ++ rows))

@@ -1,0 +1,9 @@
+pub mod Words
+pub mod Least
+pub mod Only
+pub mod Lists
+pub mod Means
+pub mod Apart
+pub mod Counts
+pub mod Ordered
+pub mod Unique

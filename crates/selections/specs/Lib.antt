@@ -1,0 +1,5 @@
+pub mod Truths
+pub mod Selection
+pub mod Weights
+pub mod Sets
+pub mod Order

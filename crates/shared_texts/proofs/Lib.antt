@@ -1,5 +1,0 @@
-pub mod Wording
-pub mod Holding
-pub mod Sharing
-pub mod Viewed
-pub mod Gathering

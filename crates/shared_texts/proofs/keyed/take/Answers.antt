@@ -1,5 +1,0 @@
-use Rattle.shared_texts.proofs.Holding.{takes}
-use Rattle.shared_texts.proofs.keyed.take.Goals as goal
-
-pub returns-clause-left : goal.returns-clause-left
-returns-clause-left c = takes c.args.holders.now c.remove.new.self c.args.key.now c.remove.ensures.updates

@@ -1,0 +1,22 @@
+use Rattle.std.proofs.Common.{rules, ◌≡◌, IfOk, true, false, subst}
+use Rattle.spdx_requirement.specs.Failures.{IfRefused}
+use Rattle.spdx_canonical.proofs.FixRead.{parsed_reads, refused_reads}
+use Rattle.spdx_canonical.proofs.fixing.accepts.Goals as goal
+use Rattle.spdx_canonical.proofs.fixing.accepts.Goals.{in-Ok, in-Err-Refused, in-Err-Memory}
+
+pub returns-clause-yes : goal.returns-clause-yes
+returns-clause-yes c = elim c.match-parse_nodes.branch [
+  | in-Ok w ↦ let reads = parsed_reads c.args.catalogue.now c.args.mode c.args.text.now w.in-Ok.field-0.items w.in-Ok.ensures.ok in search (rules, reads)
+  | in-Err-Refused w ↦ search rules
+  | in-Err-Memory w ↦ search rules
+]
+
+pub returns-clause-no : goal.returns-clause-no
+returns-clause-no c = elim c.match-parse_nodes.branch [
+  | in-Ok w ↦ search rules
+  | in-Err-Refused w ↦
+      let told = subst (IfRefused _) w.in-Err-Refused.field-0-is w.in-Err-Refused.ensures.err in
+      let not = refused_reads c.args.catalogue.now c.args.mode c.args.text.now told.no_tree in
+      search (rules, not)
+  | in-Err-Memory w ↦ search rules
+]

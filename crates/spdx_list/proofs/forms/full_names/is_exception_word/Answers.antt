@@ -1,0 +1,14 @@
+use Rattle.std.proofs.Common.{rules, tests, ◌∙◌, string_bytes}
+use Rattle.std.specs.Str.{str_eq_ignore_ascii_case}
+use Rattle.std.proofs.lemmas.Iterator.{YieldsList-from_slice}
+use Rattle.std.proofs.lemmas.Iterator.Search.{any_from_yields_List}
+use Rattle.spdx_requirement.specs.Rows.{ExceptionRow, exception_of}
+use Rattle.spdx_requirement.specs.declared.row.Exception.{Exception}
+use Rattle.spdx_list.proofs.Fitted.{any_map}
+use Rattle.spdx_list.proofs.forms.full_names.is_exception_word.Goals as goal
+
+pub returns : goal.returns
+returns c =
+    any_from_yields_List (λ (r : Exception). str_eq_ignore_ascii_case (string_bytes r.name) c.args.word.now) _ _ c.any.result c.any.ensures.ran
+    (YieldsList-from_slice c.args.exceptions.now cc) (λ x b q k. search (rules, tests))
+    ∙ any_map (λ (r : ExceptionRow). str_eq_ignore_ascii_case r.name c.args.word.now) exception_of c.args.exceptions.now

@@ -1,5 +1,0 @@
-use Rattle.spdx_meaning_text.proofs.Telling.{is_read}
-use Rattle.spdx_meaning_text.proofs.laws.meaning_text_is_read.Goals as goal
-
-pub returns : goal.returns
-returns c = λ rows t text s x. is_read rows t text s x

@@ -1,5 +1,0 @@
-use Rattle.spdx_meaning_text.proofs.Telling.{tells}
-use Rattle.spdx_meaning_text.proofs.laws.meaning_texts_tell.Goals as goal
-
-pub returns : goal.returns
-returns c = λ rows t u a b s r x y. tells rows t u a b s r x y

@@ -1,3 +1,0 @@
-pub mod Normal
-pub mod Law
-pub mod Plan

@@ -1,0 +1,7 @@
+// The files of the system: read, walked over and replaced.
+
+pub(crate) mod left;
+pub(crate) mod replace;
+pub(crate) mod system;
+pub(crate) mod walk;
+pub(crate) mod within;

@@ -1,0 +1,191 @@
+// A file whose bytes are replaced at once.
+
+use crate::files::system::System;
+use std::fs::{self, Metadata, OpenFile, OpenOptions, Permissions};
+use std::io::{self, ErrorKind, Read, Write};
+use std::os::unix::fs::{MetadataExt, OpenOptionsExt, PermissionsExt, chown};
+
+// How many names are tried for the file beside.
+const TRIES: u32 = 100;
+
+// The bits of a mode that a file keeps: those of who may read, write and run it.
+const KEPT: u32 = 0o777;
+
+// The bits that let a file run as its owner or its group.
+const SET_ID: u32 = 0o6000;
+
+/// By what a file is known to be the one that was read, with the bytes that it had then.
+#[derive(Clone, Copy, PartialEq, Eq)]
+pub(crate) struct Stamp {
+    device: u64,
+    node: u64,
+    length: u64,
+    changed: i64,
+    changed_nanos: i64,
+}
+
+/// What a file held, and what it was then.
+#[derive(Drop)]
+pub(crate) struct Held {
+    pub(crate) bytes: Vec<u8>,
+    pub(crate) stamp: Stamp,
+}
+
+/// Why a file is left as it is.
+#[derive(Drop)]
+pub(crate) enum Obstacle {
+    /// It changed since it was read.
+    Changed,
+    /// It has other names, which would keep the old bytes.
+    Linked,
+    /// Its owner or group can't be kept.
+    Owner(io::Error),
+    Failed(io::Error),
+}
+
+/// What a file lost.
+#[derive(Clone, Copy, PartialEq, Eq, Debug)]
+pub(crate) enum Loss {
+    Nothing,
+    /// The bits that let it run as its owner or its group.
+    SetId,
+}
+
+impl From<io::Error> for Obstacle {
+    fn from(error: io::Error) -> Obstacle {
+        Obstacle::Failed(error)
+    }
+}
+
+impl Stamp {
+    fn of(metadata: &Metadata) -> Stamp {
+        Stamp {
+            device: metadata.dev(),
+            node: metadata.ino(),
+            length: metadata.size(),
+            changed: metadata.ctime(),
+            changed_nanos: metadata.ctime_nsec(),
+        }
+    }
+}
+
+/// What the file holds, and what it is.
+pub(crate) fn hold<R: System>(rt: &R, path: &str) -> io::Result<Held> {
+    let mut file = fs::open(rt, path)?;
+    let stamp = Stamp::of(&file.metadata()?);
+    let mut bytes = Vec::new(rt.alloc());
+    file.read_to_end(&mut bytes)?;
+    Ok(Held { bytes, stamp })
+}
+
+/// Puts the bytes in the place of what the file held when it was read, and keeps its owner, its group and who may read,
+/// write and run it. They are written to a new file beside it, which its owner alone may read until it has all of that,
+/// and which then takes its name: so the file has its old bytes or all of the new ones, whatever fails. A link stays a link
+/// to the same file.
+///
+/// # Errors
+///
+/// The file is as it was, and there is no other beside it, unless the removal of that one failed too.
+pub(crate) fn replace<R: System>(
+    rt: &R,
+    path: &str,
+    read: Stamp,
+    breaks_links: bool,
+    bytes: &[u8],
+) -> Result<Loss, Obstacle> {
+    let path = fs::canonicalize(rt, path)?;
+    let path = path.as_str();
+    let old = unchanged(rt, path, read)?;
+    if old.nlink() > 1 && !breaks_links {
+        return Err(Obstacle::Linked);
+    }
+    let Beside {
+        path: other,
+        mut file,
+    } = create_beside(rt, path)?;
+    let placed = match fill(rt, other.as_str(), &mut file, &old, bytes) {
+        Ok(()) => take_place(rt, other.as_str(), path, read),
+        Err(obstacle) => Err(obstacle),
+    };
+    match placed {
+        Ok(()) if old.mode() & SET_ID == 0 => Ok(Loss::Nothing),
+        Ok(()) => Ok(Loss::SetId),
+        Err(obstacle) => {
+            let _ = fs::remove_file(rt, other.as_str());
+            Err(obstacle)
+        }
+    }
+}
+
+// What the file is, if it is what it was when it was read.
+fn unchanged<R: System>(rt: &R, path: &str, read: Stamp) -> Result<Metadata, Obstacle> {
+    let now = fs::metadata(rt, path)?;
+    if Stamp::of(&now) == read {
+        Ok(now)
+    } else {
+        Err(Obstacle::Changed)
+    }
+}
+
+// A new file, and its path.
+#[derive(Drop)]
+struct Beside<F: Drop> {
+    path: String,
+    file: F,
+}
+
+// A file that is not there yet, and that its owner alone may read and write until it takes the other's place.
+fn hidden() -> OpenOptions {
+    let mut options = OpenOptions::new();
+    options.write(true);
+    options.create_new(true);
+    options.mode(0o600);
+    options
+}
+
+// Under a name that nobody can foresee.
+fn create_beside<R: System>(rt: &R, path: &str) -> io::Result<Beside<R::File>> {
+    let folder = match path.rsplit_once('/') {
+        Some((folder, _)) => folder,
+        None => ".",
+    };
+    for _ in 0..TRIES {
+        let mut random = [0u8; 8];
+        rt.fill_bytes(&mut random)?;
+        let number = u64::from_ne_bytes(random);
+        let path = format!(in rt.alloc(); "{folder}/.spdx-{number:016x}")?;
+        match hidden().open(rt, path.as_str()) {
+            Ok(file) => return Ok(Beside { path, file }),
+            Err(error) if error.kind() == ErrorKind::AlreadyExists => {}
+            Err(error) => return Err(error),
+        }
+    }
+    Err(io::Error::from(ErrorKind::AlreadyExists))
+}
+
+// The owner comes before the mode, so that nobody may read the file who could not read the old one.
+fn fill<R: System>(
+    rt: &R,
+    path: &str,
+    file: &mut R::File,
+    old: &Metadata,
+    bytes: &[u8],
+) -> Result<(), Obstacle> {
+    file.write_all(bytes)?;
+    let new = file.metadata()?;
+    if (new.uid() != old.uid() || new.gid() != old.gid())
+        && let Err(error) = chown(rt, path, Some(old.uid()), Some(old.gid()))
+    {
+        return Err(Obstacle::Owner(error));
+    }
+    file.set_permissions(Permissions::from_mode(old.mode() & KEPT))?;
+    file.sync_all()?;
+    Ok(())
+}
+
+// Gives the file the other's name, if that one is still what it was when it was read.
+fn take_place<R: System>(rt: &R, new: &str, path: &str, read: Stamp) -> Result<(), Obstacle> {
+    unchanged(rt, path, read)?;
+    fs::rename(rt, new, path)?;
+    Ok(())
+}

@@ -1,0 +1,12 @@
+use Rattle.std.proofs.Common.{◌-◌, length, ap, ◌∙◌, arith}
+use Rattle.std.specs.List.{suffix_len}
+use Rattle.std.specs.Char.{is_ascii_whitespace}
+use Rattle.std.proofs.lemmas.List.{length-take-le}
+use Rattle.std.proofs.lemmas.Str.Ascii.{trim_ascii_end_is}
+use Rattle.text_places.proofs.tags.trimmed_len.Goals as goal
+
+pub returns-clause-value : goal.returns-clause-value
+returns-clause-value c =
+    let bytes = c.args.text.now in
+    ap length (trim_ascii_end_is bytes c.trim_ascii_end.result.now c.trim_ascii_end.ensures.value)
+    ∙ length-take-le (length bytes - suffix_len is_ascii_whitespace bytes) bytes (omega arith)
