@@ -11,7 +11,7 @@ PREFIX ?= /usr/local
 LINES := crates/spdx_lines_main/out/spdx_lines_main
 SPDX := crates/spdx_main/out/spdx_main
 
-.PHONY: run build install install_library quotes theorem known growths program commands verdicts hostile planted samples speed \
+.PHONY: run build install install_library quotes theorem known growths program commands verdicts hostile planted samples sql speed \
 	library_speed test
 
 run:
@@ -66,6 +66,10 @@ planted:
 # part of the gate.
 samples:
 	@tools/samples
+
+# The extension of SQLite, built and tried. It needs sqlite3 and its headers.
+sql:
+	@tools/sql
 
 # Whether data/ is as tools/list makes it, and the list inside the program is what data/ has; tools/known writes it.
 known:
