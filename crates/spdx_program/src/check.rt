@@ -26,6 +26,7 @@ use spdx_words::{CheckRequest, Form as AskedForm, Wanted};
 use std::alloc::{AllocError, Global};
 use std::fs;
 use std::io::Write;
+use std::mem::forget;
 
 /// The version that logs tell.
 pub(crate) const VERSION: &str = "0.1.0";
@@ -66,6 +67,8 @@ pub(crate) fn check<R: System, O: Write + Drop, F: Write + Drop>(
         let text = summary_of(rt.alloc(), &sums)?;
         write_all(&mut console.output, &text)?;
     }
+    // The program ends here; to give back each row would take a tenth of a short run.
+    forget(catalogue);
     Ok(sums.status())
 }
 
