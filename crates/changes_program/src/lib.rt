@@ -5,7 +5,7 @@
 //! let run = changes_program::changes(alloc, &shelf, inside(), HEIRS.as_bytes(), asked)?;
 //! ```
 //!
-//! It stands on `package_files`, `package_changes`, `license_changes`, `change_forms` and `gate_program`.
+//! It stands on `package_files`, `package_changes` and `gate_program`.
 #![tactic(auto)]
 
 mod packages;

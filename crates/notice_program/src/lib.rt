@@ -8,8 +8,8 @@
 //! match notice_text(alloc, look, &noted, &general) {
 //! ```
 //!
-//! `owed_of` says which files of a package need to be read, and `all_lacks` which general texts. It stands on `owed_files`,
-//! `shared_texts`, `license_notice` and `notice_forms`, and reads nothing itself.
+//! `owed_of` says which files of a package need to be read, and `all_lacks` which general texts. It stands on `notice_texts`,
+//! `license_notice` and `notice_forms`, and reads nothing itself.
 #![tactic(auto)]
 
 mod lacks;

@@ -7,7 +7,7 @@
 //! for site in plain_sites(alloc, form, bytes)? {
 //! ```
 //!
-//! It stands on `field_lines`, `element_texts` and `text_places`.
+//! It stands on `text_places`.
 #![tactic(auto)]
 
 mod form;

@@ -6,7 +6,7 @@
 //! spdx_evaluation::evaluate(alloc, self.nodes(), f)
 //! ```
 //!
-//! It stands on the parser and `bit_stack`.
+//! It stands on the parser and `selections`.
 #![tactic(auto)]
 
 pub mod failures;

@@ -5,7 +5,7 @@
 //! least_choice(alloc, slice::from_ref(&list), accepted)
 //! ```
 //!
-//! It stands on `spdx_evaluation`, `spdx_licensee` and `sufficiency`.
+//! It stands on `spdx_evaluation`, `spdx_licensee` and `selections`.
 #![tactic(auto)]
 
 pub mod accepted;
