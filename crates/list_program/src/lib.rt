@@ -13,5 +13,5 @@ pub mod named;
 pub mod trouble;
 
 pub use crate::made::{MadeOf, put_made_list};
-pub use crate::named::{Inside, list_at, named_list};
+pub use crate::named::{Inside, extras_inside, list_at, named_list};
 pub use crate::trouble::ListTrouble;

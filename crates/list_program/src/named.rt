@@ -195,7 +195,12 @@ fn list_of_folder<S: Shelf>(
     }
 }
 
-fn extras_inside(alloc: Global, bytes: &[u8]) -> Result<Extras, ListTrouble>
+/// What this project says besides SPDX's files, as the bytes have it.
+///
+/// # Errors
+///
+/// They have no extras, or memory was refused.
+pub fn extras_inside(alloc: Global, bytes: &[u8]) -> Result<Extras, ListTrouble>
     ensures ok { IfOk result (λ x. extras_in bytes.now ≡ Ok (shown_extras x)) }
     ensures err { IfErr result (AreNoExtras bytes.now) }
 {

@@ -19,9 +19,8 @@ ghost use Rattle.list_told.specs.Diffs.{
 use crate::changes::{
     exception_changes, license_changes, put_added_exceptions, put_added_licenses, put_removed,
 };
-use crate::extras::extras_in;
 use crate::parts::put_line;
-use list_program::{Inside, ListTrouble, list_at, named_list};
+use list_program::{Inside, ListTrouble, extras_inside, list_at, named_list};
 use shelves::Shelf;
 use spdx_catalogue::Catalogue;
 use spdx_list::{Extras, differences};
@@ -74,7 +73,7 @@ fn diff_by(
     ensures ok { IfOk result (λ text. IsDiffBy heirs.now old.now new.now text.items) }
     ensures err { IfErr result (AreNoExtras heirs.now) }
 {
-    let extras = extras_in(alloc, heirs)?;
+    let extras = extras_inside(alloc, heirs)?;
     let text = diff_of(alloc, old, new, &extras)?;
     Ok(text)
 }

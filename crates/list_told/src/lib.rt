@@ -11,7 +11,6 @@
 
 mod changes;
 pub mod differing;
-mod extras;
 mod flags;
 pub mod heirs;
 mod names;

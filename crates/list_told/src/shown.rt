@@ -16,11 +16,10 @@ ghost use Rattle.list_told.specs.Shown.{
   status_of,
 };
 
-use crate::extras::extras_in;
 use crate::names::names_text;
 use crate::rows::rows_text;
 use crate::unlisted::{Unlisted, unlisted_among};
-use list_program::{Inside, ListTrouble, named_list};
+use list_program::{Inside, ListTrouble, extras_inside, named_list};
 use shelves::Shelf;
 use spdx_catalogue::Catalogue;
 use spdx_list::Extras;
@@ -78,7 +77,7 @@ pub fn show<S: Shelf>(
     Ok(shown)
 }
 
-// The same by this list.
+// What this list says of them.
 fn shown_by(
     alloc: Global,
     catalogue: &Catalogue,
@@ -94,7 +93,7 @@ fn shown_by(
             Ok(shown)
         }
         [_, ..] => {
-            let extras = extras_in(alloc, heirs)?;
+            let extras = extras_inside(alloc, heirs)?;
             let shown = each_shown(alloc, catalogue, &extras, names)?;
             Ok(shown)
         }

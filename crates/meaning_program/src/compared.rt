@@ -69,7 +69,7 @@ pub fn compare<S: Shelf>(
     Ok(compared)
 }
 
-// The same by this list.
+// How they compare by this list.
 fn compared_by(
     alloc: Global,
     catalogue: &Catalogue,

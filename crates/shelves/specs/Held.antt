@@ -1,5 +1,5 @@
 -- What a shelf of values tells: what stands in it.
-use Rattle.std.specs.Prelude.{◌≡◌, ℕ, Bool, List, Option, None, Some, option_map, find, bytes_eq, string_bytes}
+use Rattle.std.specs.Prelude.{◌≡◌, ◌⊎◌, ℕ, Bool, true, false, List, Option, None, Some, map, option_map, find, bytes_eq, string_bytes}
 use Rattle.std.specs.List.{list_any}
 use Rattle.std.specs.IoError.{error_kind}
 use Rattle.std.specs.declared.io.Error.{Error}
@@ -8,7 +8,10 @@ use Rattle.shelves.specs.declared.held.Held.{Held}
 use Rattle.shelves.specs.declared.held.HeldFile.{HeldFile}
 use Rattle.shelves.specs.declared.held.HeldFolder.{HeldFolder}
 use Rattle.shelves.specs.declared.held.HeldVariable.{HeldVariable}
-use Rattle.shelves.specs.Shelf.{Shelved}
+use Rattle.shelves.specs.declared.held.HeldLink.{HeldLink}
+use Rattle.shelves.specs.declared.shelf.Kind.{Kind}
+use Rattle.shelves.specs.declared.shelf.Kind.TheVariants as kind
+use Rattle.shelves.specs.Shelf.{Named, Shelved, entry_of}
 
 -- the bytes of the first file of that path
 abbrev pub bytes_at : List HeldFile → List ℕ → Option (List ℕ)
@@ -25,16 +28,44 @@ says variables name =
 abbrev pub has_folder : List HeldFolder → List ℕ → Bool
 has_folder folders path = list_any (λ (f : HeldFolder). bytes_eq (string_bytes f.path) path) folders
 
--- why the file that holds these bytes, or none, isn't read
-abbrev pub IsReadFault : Option (List ℕ) → Error → Type 0
-IsReadFault (Some bytes) error = error_kind error ≡ OutOfMemory
-IsReadFault None error = error_kind error ≡ NotFound
+-- what is in the first folder of that path
+abbrev pub entries_at : List HeldFolder → List ℕ → Option (List Named)
+entries_at folders path =
+    option_map (λ (f : HeldFolder). map entry_of f.entries.items)
+    (find (λ (f : HeldFolder). bytes_eq (string_bytes f.path) path) folders)
+
+-- where the first link of that path leads, else the path
+abbrev pub real_of : Option HeldLink → List ℕ → List ℕ
+real_of None path = path
+real_of (Some link) path = string_bytes link.to
+
+abbrev pub real_path : List HeldLink → List ℕ → List ℕ
+real_path links path = real_of (find (λ (l : HeldLink). bytes_eq (string_bytes l.path) path) links) path
+
+-- what is where these bytes are, or none, and where a folder is, or not
+abbrev pub kind_of : Option (List ℕ) → Bool → Option Kind
+kind_of (Some bytes) is_folder = Some kind.File
+kind_of None true = Some kind.Folder
+kind_of None false = None
+
+abbrev pub kind_at : Held → List ℕ → Option Kind
+kind_at shelf path = kind_of (bytes_at shelf.files.items path) (has_folder shelf.folders.items path)
+
+-- memory was refused; or there is no file, or no folder
+abbrev pub IsFault : Option (List ℕ) → Option (List Named) → Error → Type 0
+IsFault bytes entries error = (error_kind error ≡ OutOfMemory) ⊎
+    ((error_kind error ≡ NotFound) × ((bytes ≡ None) ⊎ (entries ≡ None)))
 
 abbrev pub shelved : Held → Shelved
 shelved shelf = record {
   Holds = λ path bytes. bytes_at shelf.files.items path ≡ Some bytes;
   IsFolder = λ path is. has_folder shelf.folders.items path ≡ is;
-  Fails = λ path error. IsReadFault (bytes_at shelf.files.items path) error;
+  IsOf = λ path kind. kind_at shelf path ≡ Some kind;
+  Lists = λ path entries unnamed.
+      (entries_at shelf.folders.items path ≡ Some entries) × (unnamed ≡ 0);
+  IsReal = λ path real. real_path shelf.links.items path ≡ real;
+  Fails = λ path error.
+      IsFault (bytes_at shelf.files.items path) (entries_at shelf.folders.items path) error;
   Says = λ name text. says shelf.variables.items name ≡ text;
   IsNoText = λ name. ⊥;
   IsInput = λ bytes. shelf.input.items ≡ bytes;

@@ -1,12 +1,28 @@
 -- What a shelf tells.
-use Rattle.std.specs.Prelude.{ℕ, Bool, List, Option}
+use Rattle.std.specs.Prelude.{ℕ, Bool, List, Option, string_bytes}
 use Rattle.std.specs.declared.io.Error.{Error}
+use Rattle.shelves.specs.declared.shelf.Entry.{Entry}
+use Rattle.shelves.specs.declared.shelf.Kind.{Kind}
 
--- which bytes the file at a path holds, whether a folder is there, what a variable says, and which
--- bytes the input has; and of each why it isn't told
+-- a name in a folder, and what it stands for
+pub record Named : Type 0 where
+  pub name : List ℕ
+  pub kind : Kind
+
+abbrev pub entry_of : Entry → Named
+entry_of e = record { name = string_bytes e.name; kind = e.kind }
+
+-- which bytes the file at a path holds, what is there, what is in a folder, what a variable says, and
+-- which bytes the input has; and of each why it isn't told
 pub record Shelved : Type 1 where
   pub Holds : List ℕ → List ℕ → Type 0
   pub IsFolder : List ℕ → Bool → Type 0
+  -- this stands at the path, or where the link there leads
+  pub IsOf : List ℕ → Kind → Type 0
+  -- the folder at the path has these in it, in some order, and so many whose names are no UTF-8
+  pub Lists : List ℕ → List Named → ℕ → Type 0
+  -- with all links followed the path is this one
+  pub IsReal : List ℕ → List ℕ → Type 0
   -- what is at the path can't be looked at, or not be read
   pub Fails : List ℕ → Error → Type 0
   pub Says : List ℕ → Option (List ℕ) → Type 0
@@ -20,6 +36,9 @@ abbrev pub silent : Shelved
 silent = record {
   Holds = λ path bytes. Unit {0};
   IsFolder = λ path is. Unit {0};
+  IsOf = λ path kind. Unit {0};
+  Lists = λ path entries unnamed. Unit {0};
+  IsReal = λ path real. Unit {0};
   Fails = λ path error. Unit {0};
   Says = λ name text. Unit {0};
   IsNoText = λ name. Unit {0};

@@ -13,6 +13,6 @@ mod held;
 pub mod shelf;
 mod system;
 
-pub use crate::held::{Held, HeldFile, HeldFolder, HeldVariable};
-pub use crate::shelf::{Shelf, VariableFault};
+pub use crate::held::{Held, HeldFile, HeldFolder, HeldLink, HeldVariable};
+pub use crate::shelf::{Entries, Entry, Kind, Shelf, Stamp, Stamped, VariableFault};
 pub use crate::system::SystemShelf;

@@ -138,6 +138,7 @@ fn shelf(alloc: Global, variable: Option<&str>) -> Result<Held, AllocError> {
     for path in ["spdx", "half", "wrong"] {
         folders.push(HeldFolder {
             path: String::from_str(alloc, path)?,
+            entries: Vec::new(alloc),
         })?;
     }
     let mut variables = Vec::new(alloc);
@@ -150,6 +151,7 @@ fn shelf(alloc: Global, variable: Option<&str>) -> Result<Held, AllocError> {
     Ok(Held {
         files,
         folders,
+        links: Vec::new(alloc),
         variables,
         input: Vec::new(alloc),
     })

@@ -37,6 +37,7 @@ pub(crate) fn shelf_of(alloc: Global, text: &str) -> Result<Held, AllocError> {
     Ok(Held {
         files,
         folders: Vec::new(alloc),
+        links: Vec::new(alloc),
         variables: Vec::new(alloc),
         input,
     })
