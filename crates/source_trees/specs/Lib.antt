@@ -1,0 +1,4 @@
+pub mod Visits
+pub mod Stops
+pub mod Walks
+pub mod Readings
