@@ -1,26 +1,26 @@
 // The command `check`.
 
 pub(crate) mod owed;
-pub(crate) mod sums;
 
 use crate::check::owed::{Owing, put_owed, put_untagged};
-use crate::check::sums::{Sums, summary_of};
 use crate::console::Console;
 use crate::files::left::tell_left;
 use crate::files::system::{
     System, bytes_of, bytes_or, input_bytes, paths_or_input, utf16_text, without_mark,
 };
-use crate::files::walk::Walk;
 use crate::list::{self, mode_of};
 use crate::manifest::Manifest;
+use crate::readings::{file_seen, reading_at, walk_from};
 use crate::trouble::Trouble;
-use crate::wanted::{Reading, Taken, form_below, reading_of};
+use check_program::{Sums, summary_of};
 use check_sources::{Findings, Source, check_manifest, check_tags, is_binary};
 use finding_forms::{Form, Style, put_beginning, put_ending};
 use license_tags::{comment_of, tags};
 use line_engine::lines::write_all;
 use line_engine::stream::Input as Lines;
 use manifests::{Form as ManifestForm, has_license_table};
+use shelves::SystemShelf;
+use source_trees::{Reading, Seen, Taken, form_below};
 use spdx_check::{Check, check_lines};
 use spdx_words::{CheckRequest, Form as AskedForm, Wanted};
 use std::alloc::{AllocError, Global};
@@ -129,7 +129,7 @@ fn check_path<R: System, O: Write + Drop, F: Write + Drop>(
     sums: &mut Sums,
     console: &mut Console<O, F>,
 ) -> Result<(), Trouble> {
-    match reading_of(rt, job.wanted, path)? {
+    match reading_at(rt, job.wanted, path)? {
         Reading::Lines => check_list(rt, job, path, sums, console),
         Reading::Tags => check_tagged(rt, job, path, sums, console),
         Reading::Manifest(form) => check_named(rt, job, form, path, sums, console),
@@ -264,22 +264,31 @@ fn check_tree<R: System, O: Write + Drop, F: Write + Drop>(
     console: &mut Console<O, F>,
 ) -> Result<(), Trouble> {
     let alloc = rt.alloc();
-    let mut walk = Walk::new(rt, path)?;
+    let shelf = SystemShelf::new(rt);
+    let mut walk = walk_from(rt, path)?;
     let mut owing = Owing::new(rt, job.texts, path)?;
-    for count in 0..u64::MAX {
-        console.show_progress(alloc, count)?;
-        let checked = match walk.next_file(rt) {
-            Ok(Some(file)) => check_file(rt, job, taken, file.as_str(), &mut owing, sums, console),
-            Ok(None) => break,
-            Err(trouble) => Err(trouble),
+    let mut left_behind = Vec::new(alloc);
+    let mut count: u64 = 0;
+    for _ in 0..u64::MAX {
+        let Some(seen) = walk.next(alloc, &shelf)? else {
+            break;
+        };
+        let checked = match seen {
+            Seen::LeftOut(path) => Ok(sums.left_out.push(path)?),
+            Seen::LeftBehind(path) => Ok(left_behind.push(path)?),
+            Seen::File(file) => {
+                console.show_progress(alloc, count)?;
+                count = count.saturating_add(1);
+                check_file(rt, job, taken, file.as_str(), &mut owing, sums, console)
+            }
+            other => file_seen(other).map(|_| ()),
         };
         if let Err(trouble) = checked {
             pass_over(alloc, trouble, sums, console)?;
         }
     }
     console.end_progress();
-    sums.left_out.append(&mut walk.left_out)?;
-    tell_left(alloc, walk.left_behind, console);
+    tell_left(alloc, left_behind, console);
     if taken.is_all() {
         tell_owed(rt, job, &owing, sums, console)?;
     }

@@ -25,6 +25,7 @@ mod manifest;
 mod notice;
 mod packages;
 mod policy;
+mod readings;
 mod serve;
 mod simplify;
 mod trouble;

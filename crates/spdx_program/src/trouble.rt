@@ -11,6 +11,7 @@ use list_program::ListTrouble;
 use meaning_program::{MeaningTrouble, Unsaid};
 use package_files::FileFault;
 use package_sources::SourceFault;
+use source_trees::ReadingFault;
 use spdx::ReadFault;
 use spdx_list::ListFault;
 use spdx_policy::PolicyFault;
@@ -134,6 +135,17 @@ impl From<FileFault> for Trouble {
     }
 }
 
+impl From<ReadingFault> for Trouble {
+    fn from(fault: ReadingFault) -> Trouble {
+        match fault {
+            ReadingFault::Unreadable(path, error) => Trouble::of_path(path, error),
+            ReadingFault::NoManifest(path) => Trouble::NoManifest(path),
+            ReadingFault::Folder(path) => Trouble::Folder(path),
+            ReadingFault::Memory => Trouble::Memory,
+        }
+    }
+}
+
 impl From<PolicyTrouble> for Trouble {
     fn from(trouble: PolicyTrouble) -> Trouble {
         match trouble {
@@ -174,7 +186,8 @@ impl Trouble {
         }
     }
 
-    fn of_path(path: String, error: io::Error) -> Trouble {
+    /// Of this path, which gave this error.
+    pub(crate) fn of_path(path: String, error: io::Error) -> Trouble {
         if error.kind() == ErrorKind::OutOfMemory {
             return Trouble::Memory;
         }

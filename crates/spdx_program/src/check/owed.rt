@@ -1,14 +1,16 @@
 // The license texts that a folder owes, and its files without a license.
 
 use crate::files::system::System;
-use crate::files::walk::Walk;
 use crate::manifest::Manifest;
+use crate::readings::file_seen;
 use crate::trouble::Trouble;
 use check_sources::mode_in;
 use finding_forms::{Finding, Help, Place, put_finding};
 use license_tags::Tag;
 use manifests::{ManifestError, sites};
 use notice_texts::owed_texts;
+use shelves::SystemShelf;
+use source_trees::all_seen;
 use spdx::{Expression, Failure, ParseMode};
 use spdx_check::Check;
 use std::alloc::{AllocError, Global};
@@ -221,12 +223,15 @@ fn put_compared(
 
 // The files below a folder.
 fn files_in<R: System>(rt: &R, folder: &str) -> Result<Vec<String>, Trouble> {
-    let mut walk = Walk::new(rt, folder)?;
-    let mut files = Vec::new(rt.alloc());
-    for _ in 0..u64::MAX {
-        match walk.next_file(rt)? {
-            Some(file) => files.push(file)?,
-            None => break,
+    let alloc = rt.alloc();
+    let all = match all_seen(alloc, &SystemShelf::new(rt), folder) {
+        Ok(all) => all,
+        Err(error) => return Err(Trouble::unreadable(alloc, folder, error)),
+    };
+    let mut files = Vec::new(alloc);
+    for seen in all {
+        if let Some(file) = file_seen(seen)? {
+            files.push(file)?;
         }
     }
     Ok(files)

@@ -1,0 +1,15 @@
+//! What a check counts and how it ends, and which license texts the expressions of a folder need.
+//!
+//! ```rust
+//! // crates/spdx_program/src/check.rt
+//! let text = summary_of(rt.alloc(), &sums)?;
+//! ```
+//!
+//! It stands on `check_sources`, `spdx_check`, `source_trees` and `notice_texts`.
+#![tactic(auto)]
+
+pub mod needs;
+pub mod sums;
+
+pub use crate::needs::needed_by;
+pub use crate::sums::{Sums, summary_of};
