@@ -1,2 +1,4 @@
 pub mod Sums
 pub mod Needs
+pub mod Owed
+pub mod Untagged

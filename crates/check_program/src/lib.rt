@@ -9,7 +9,11 @@
 #![tactic(auto)]
 
 pub mod needs;
+pub mod owed;
 pub mod sums;
+pub mod untagged;
 
 pub use crate::needs::needed_by;
+pub use crate::owed::{Whole, owed_by, put_wholes, without_license};
 pub use crate::sums::{Sums, summary_of};
+pub use crate::untagged::{is_text, needs_none};

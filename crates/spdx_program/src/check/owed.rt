@@ -4,18 +4,16 @@ use crate::files::system::System;
 use crate::manifest::Manifest;
 use crate::readings::file_seen;
 use crate::trouble::Trouble;
+use check_program::{is_text, needed_by, needs_none, owed_by, put_wholes, without_license};
 use check_sources::mode_in;
-use finding_forms::{Finding, Help, Place, put_finding};
 use license_tags::Tag;
 use manifests::{ManifestError, sites};
-use notice_texts::owed_texts;
 use shelves::SystemShelf;
 use source_trees::all_seen;
-use spdx::{Expression, Failure, ParseMode};
+use spdx::ParseMode;
 use spdx_check::Check;
 use std::alloc::{AllocError, Global};
 use std::fs;
-use std::path::Path;
 
 /// What the expressions of a folder use, and which of its files have none.
 #[derive(Drop)]
@@ -48,12 +46,13 @@ impl Owing {
 
     /// Whether the file is one of the texts.
     pub(crate) fn is_text(&self, path: &str) -> bool {
+        is_text(self.folder_text(), path)
+    }
+
+    fn folder_text(&self) -> Option<&str> {
         match &self.folder {
-            Some(folder) => match path.strip_prefix(folder.as_str()) {
-                Some(rest) => rest.starts_with('/'),
-                None => false,
-            },
-            None => false,
+            Some(folder) => Some(folder.as_str()),
+            None => None,
         }
     }
 
@@ -92,7 +91,7 @@ impl Owing {
         }
     }
 
-    // Adds what an expression uses, if it is one; deprecated names have their texts too.
+    // Adds what an expression needs, if it is one.
     fn add(
         &mut self,
         alloc: Global,
@@ -100,39 +99,8 @@ impl Owing {
         mode: ParseMode,
         bytes: &[u8],
     ) -> Result<(), AllocError> {
-        let Ok(text) = str::from_utf8(bytes) else {
-            return Ok(());
-        };
-        let mode = ParseMode {
-            allow_deprecated: true,
-            ..mode
-        };
-        match Expression::parse_mode(alloc, check.catalogue, text, mode) {
-            Ok(expression) => self.add_names(alloc, &expression),
-            Err(Failure::Refused(_)) => Ok(()),
-            Err(Failure::Memory(error)) => Err(error),
-        }
-    }
-
-    // Adds the names of the licenses and exceptions of an expression.
-    fn add_names(&mut self, alloc: Global, expression: &Expression<'_>) -> Result<(), AllocError> {
-        for placed in expression.requirements() {
-            let license = format!(in alloc; "{}", placed.req.license)?;
-            self.add_name(alloc, license.as_str())?;
-            if let Some(addition) = &placed.req.addition {
-                let name = format!(in alloc; "{}", addition)?;
-                self.add_name(alloc, name.as_str())?;
-            }
-        }
-        Ok(())
-    }
-
-    // Adds a name; the text of `NAME+` is that of `NAME`, and what another document names has its text there.
-    fn add_name(&mut self, alloc: Global, name: &str) -> Result<(), AllocError> {
-        if !name.contains(':') {
-            let name = name.strip_suffix('+').unwrap_or(name);
-            self.used.push(String::from_str(alloc, name)?)?;
-        }
+        let mut names = needed_by(alloc, check.catalogue, mode, bytes)?;
+        self.used.append(&mut names)?;
         Ok(())
     }
 
@@ -146,10 +114,7 @@ impl Owing {
     ) -> Result<(), AllocError> {
         let alloc = rt.alloc();
         let beside = format!(in alloc; "{path}.license")?;
-        let needs_none = bytes.is_empty()
-            || is_license_text(path)
-            || path.ends_with(".license")
-            || self.is_text(path)
+        let needs_none = needs_none(self.folder_text(), path, bytes)
             || fs::metadata(rt, beside.as_str()).is_ok();
         if !needs_none {
             self.untagged.push(String::from_str(alloc, path)?)?;
@@ -172,11 +137,6 @@ fn own_folder<R: System>(rt: &R, path: &str) -> Result<Option<String>, AllocErro
     }
 }
 
-fn is_license_text(path: &str) -> bool {
-    let name = Path::new(path).file_name().unwrap_or("");
-    name.starts_with("LICENSE") || name.starts_with("LICENCE") || name.starts_with("COPYING")
-}
-
 /// Appends which license texts are missing, and which nobody needs, and answers how many they are.
 pub(crate) fn put_owed<R: System>(
     rt: &R,
@@ -189,36 +149,10 @@ pub(crate) fn put_owed<R: System>(
         return Ok(0);
     };
     let files = files_in(rt, folder.as_str())?;
-    let texts = Texts {
-        folder: folder.as_str(),
-        used: &owing.used,
-        files: &files,
-    };
-    Ok(put_compared(rt.alloc(), check, is_first, &texts, text)?)
-}
-
-// A folder of license texts, the names that are used, and the files of the folder.
-#[derive(Clone, Copy)]
-struct Texts<'t> {
-    folder: &'t str,
-    used: &'t [String],
-    files: &'t [String],
-}
-
-fn put_compared(
-    alloc: Global,
-    check: &Check<'_>,
-    is_first: bool,
-    texts: &Texts<'_>,
-    text: &mut Vec<u8>,
-) -> Result<u64, AllocError> {
-    let used = texts_in(alloc, texts.used)?;
-    let names = names_in(alloc, texts.files)?;
-    let owed = owed_texts(alloc, &used, &names)?;
-    let missing = put_missing(alloc, check, is_first, texts.folder, &owed.missing, text)?;
-    let is_first = is_first && missing == 0;
-    let unused = put_unused(alloc, check, is_first, texts.folder, &owed.unused, text)?;
-    Ok(missing.saturating_add(unused))
+    let alloc = rt.alloc();
+    let wholes = owed_by(alloc, folder.as_str(), &owing.used, &files)?;
+    put_wholes(alloc, text, check.form, is_first, &wholes)?;
+    Ok(wholes.len() as u64)
 }
 
 // The files below a folder.
@@ -237,66 +171,6 @@ fn files_in<R: System>(rt: &R, folder: &str) -> Result<Vec<String>, Trouble> {
     Ok(files)
 }
 
-fn names_in<'f>(alloc: Global, files: &'f [String]) -> Result<Vec<&'f str>, AllocError> {
-    let mut names = Vec::new(alloc);
-    for file in files {
-        names.push(Path::new(file.as_str()).file_name().unwrap_or(""))?;
-    }
-    Ok(names)
-}
-
-fn texts_in<'n>(alloc: Global, names: &'n [String]) -> Result<Vec<&'n str>, AllocError> {
-    let mut texts = Vec::new(alloc);
-    for name in names {
-        texts.push(name.as_str())?;
-    }
-    Ok(texts)
-}
-
-fn put_missing(
-    alloc: Global,
-    check: &Check<'_>,
-    is_first: bool,
-    folder: &str,
-    names: &[&str],
-    text: &mut Vec<u8>,
-) -> Result<u64, AllocError> {
-    let mut count: u64 = 0;
-    for name in names {
-        let path = format!(in alloc; "{folder}/{name}.txt")?;
-        let told = Told {
-            path: path.as_str(),
-            name: *name,
-            reason: "the text of this license is missing",
-        };
-        put_told(alloc, check, is_first && count == 0, told, text)?;
-        count = count.saturating_add(1);
-    }
-    Ok(count)
-}
-
-fn put_unused(
-    alloc: Global,
-    check: &Check<'_>,
-    is_first: bool,
-    folder: &str,
-    names: &[&str],
-    text: &mut Vec<u8>,
-) -> Result<u64, AllocError> {
-    let mut count: u64 = 0;
-    for name in names {
-        let path = format!(in alloc; "{folder}/{name}")?;
-        let told = Told {
-            path: path.as_str(),
-            name: *name,
-            reason: "no expression uses the license of this text",
-        };
-        put_told(alloc, check, is_first && count == 0, told, text)?;
-        count = count.saturating_add(1);
-    }
-    Ok(count)
-}
-
 /// Appends which files have no license, and answers how many they are.
 pub(crate) fn put_untagged(
     alloc: Global,
@@ -305,46 +179,7 @@ pub(crate) fn put_untagged(
     paths: &[String],
     text: &mut Vec<u8>,
 ) -> Result<u64, AllocError> {
-    let mut count: u64 = 0;
-    for path in paths {
-        let told = Told {
-            path: path.as_str(),
-            name: Path::new(path.as_str()).file_name().unwrap_or(""),
-            reason: "no license is told here",
-        };
-        put_told(alloc, check, is_first && count == 0, told, text)?;
-        count = count.saturating_add(1);
-    }
-    Ok(count)
-}
-
-// What is wrong with a file as a whole.
-#[derive(Clone, Copy)]
-struct Told<'t> {
-    path: &'t str,
-    name: &'t str,
-    reason: &'t str,
-}
-
-fn put_told(
-    alloc: Global,
-    check: &Check<'_>,
-    is_first: bool,
-    told: Told<'_>,
-    text: &mut Vec<u8>,
-) -> Result<(), AllocError> {
-    let finding = Finding {
-        place: Place {
-            file: told.path,
-            line: 1,
-            column: 1,
-        },
-        expression: told.name,
-        start: 0,
-        end: told.name.len(),
-        reason: told.reason,
-        help: Help::Nothing,
-        sight: None,
-    };
-    put_finding(alloc, text, check.form, is_first, &finding)
+    let wholes = without_license(alloc, paths)?;
+    put_wholes(alloc, text, check.form, is_first, &wholes)?;
+    Ok(wholes.len() as u64)
 }
