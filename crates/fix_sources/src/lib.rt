@@ -2,8 +2,8 @@
 //! license tags.
 //!
 //! ```rust
-//! // crates/spdx_program/src/fix.rt
-//! let tagged = fix_tags(alloc, job.catalogue, path, text)?;
+//! // crates/file_fixes/src/mended.rt
+//! let tagged = fix_tags(alloc, catalogue, content.path, text)?;
 //! ```
 //!
 //! It stands on `spdx_canonical`, and on `spdx_check`, `check_sources` and `license_tags`, which say where the expressions are.

@@ -1,8 +1,8 @@
 //! A manifest whose declared license expressions are replaced by their fixes, and nothing else.
 //!
 //! ```rust
-//! // crates/spdx_program/src/fix.rt
-//! } = match fix_manifest(alloc, job.catalogue, form, behind) {
+//! // crates/file_fixes/src/mended.rt
+//! match fix_manifest(alloc, catalogue, form, behind) {
 //! ```
 //!
 //! It stands on `manifests` and `spdx_canonical`.

@@ -1,0 +1,5 @@
+pub mod Slashes
+pub mod Untouched
+pub mod Walked
+pub mod Runs
+pub mod Passing
