@@ -1,6 +1,7 @@
 // Where the program writes.
 
 use crate::trouble::Trouble;
+use fix_program::Progress;
 use line_engine::lines::write_all;
 use line_engine::stream::Output;
 use std::alloc::{AllocError, Global};
@@ -98,5 +99,28 @@ impl<O: Write + Drop, F: Write + Drop> Console<O, F> {
         if self.screen.progress {
             let _ = write_all(&mut self.faults, b"\r\x1b[K");
         }
+    }
+}
+
+/// Shows how far a run of `fix` is.
+#[derive(Drop)]
+pub(crate) struct Meter<'c, O: Drop, F: Drop> {
+    alloc: Global,
+    console: &'c mut Console<O, F>,
+}
+
+impl<'c, O: Write + Drop, F: Write + Drop> Meter<'c, O, F> {
+    pub(crate) fn new(alloc: Global, console: &'c mut Console<O, F>) -> Meter<'c, O, F> {
+        Meter { alloc, console }
+    }
+}
+
+impl<O: Write + Drop, F: Write + Drop> Progress for Meter<'_, O, F> {
+    fn seen(&mut self, files: u64) -> Result<(), AllocError> {
+        self.console.show_progress(self.alloc, files)
+    }
+
+    fn ended(&mut self) {
+        self.console.end_progress();
     }
 }

@@ -3,5 +3,4 @@
 pub(crate) mod left;
 pub(crate) mod replace;
 pub(crate) mod system;
-pub(crate) mod walk;
 pub(crate) mod within;

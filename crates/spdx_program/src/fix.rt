@@ -1,34 +1,18 @@
 // The command `fix`.
 
-use crate::console::Console;
+use crate::console::{Console, Meter};
 use crate::files::left::{tell_left, tell_left_beside};
-use crate::files::replace::{Held, Loss, hold, replace};
-use crate::files::system::{
-    System, bytes_of, input_bytes, is_special, paths_or_input, without_mark,
-};
-use crate::files::walk::Walk;
-use crate::list;
-use crate::manifest::{Manifest, trouble_of};
+use crate::files::replace::{Loss, replace};
+use crate::files::system::{System, paths_or_input};
+use crate::list::inside;
+use crate::readings;
 use crate::trouble::Trouble;
-use crate::wanted::{Reading, Taken, form_below, reading_of};
-use fix_sources::{FixedText, fix_lines, fix_tags};
-use line_diff::put_diff;
+use fix_program::{Deed, FileEnd, Fixed, Manner, PathEnd, Replacement, Request, Run, file_fixed};
 use line_engine::lines::write_all;
-use manifest_fixes::{FixedManifest, fix_manifest};
-use manifests::Form;
+use shelves::{Stamp, SystemShelf};
 use spdx::Catalogue;
-use spdx_words::{FixRequest, Wanted};
-use std::alloc::{AllocError, Global};
+use spdx_words::FixRequest;
 use std::io::Write;
-
-// What is mended by what, and where that goes.
-#[derive(Clone, Copy)]
-struct Job<'r> {
-    catalogue: &'r Catalogue,
-    wanted: Wanted<'r>,
-    is_written: bool,
-    breaks_links: bool,
-}
 
 /// Mends what the request names, and answers the status: 1 where some expression is refused and has no mended text.
 pub(crate) fn fix<R: System, O: Write + Drop, F: Write + Drop>(
@@ -36,305 +20,153 @@ pub(crate) fn fix<R: System, O: Write + Drop, F: Write + Drop>(
     request: &FixRequest<'_>,
     console: &mut Console<O, F>,
 ) -> Result<u8, Trouble> {
-    let catalogue = list::catalogue(rt, request.list)?;
-    let job = Job {
+    let run = run_of(rt, request, console)?;
+    let mut status = run.status();
+    let Run { catalogue, paths } = run;
+    let mut writing = Writing {
         catalogue: &catalogue,
-        wanted: request.wanted,
-        is_written: request.write,
         breaks_links: request.break_links,
+        replaced: Vec::new(rt.alloc()),
     };
-    let mut status = 0;
-    for path in paths_or_input(&request.paths) {
-        match fix_path(rt, &job, *path, console) {
-            Ok(other) => status = status.max(other),
-            Err(trouble) if trouble.is_passed_over() => status = console.tell(rt.alloc(), &trouble),
-            Err(trouble) => return Err(trouble),
-        }
+    for path in paths {
+        status = do_path(rt, &mut writing, path, console)?.max(status);
     }
-    if job.is_written {
+    if request.write {
         tell_left_beside(rt, &request.paths, console)?;
     }
     Ok(status)
 }
 
-fn fix_path<R: System, O: Write + Drop, F: Write + Drop>(
+// What is put out, and what files are to hold.
+fn run_of<R: System, O: Write + Drop, F: Write + Drop>(
     rt: &R,
-    job: &Job<'_>,
-    path: &str,
+    request: &FixRequest<'_>,
     console: &mut Console<O, F>,
-) -> Result<u8, Trouble> {
-    let parts = match reading_of(rt, job.wanted, path)? {
-        Reading::Lines => Parts::Lines,
-        Reading::Tags => Parts::TAGS,
-        Reading::Manifest(form) => Parts::declared(form),
-        Reading::Tree(taken) => return fix_tree(rt, job, taken, path, console),
+) -> Result<Run, Trouble> {
+    let alloc = rt.alloc();
+    let asked = Request {
+        list: request.list,
+        wanted: readings::asked(request.wanted),
+        is_written: request.write,
+        paths: paths_or_input(&request.paths),
     };
-    fix_file(rt, job, parts, path, console)
+    let mut meter = Meter::new(alloc, console);
+    let run = fix_program::fix(alloc, &SystemShelf::new(rt), inside(), asked, &mut meter)?;
+    Ok(run)
 }
 
-// Mends what is taken of the files below a folder.
-fn fix_tree<R: System, O: Write + Drop, F: Write + Drop>(
+// How files are written, and those that were.
+#[derive(Drop)]
+struct Writing<'r> {
+    catalogue: &'r Catalogue,
+    breaks_links: bool,
+    // by what each was known when it was read
+    replaced: Vec<Stamp>,
+}
+
+// Does and tells what comes of a path, and last what runs that were killed left below it.
+fn do_path<R: System, O: Write + Drop, F: Write + Drop>(
     rt: &R,
-    job: &Job<'_>,
-    taken: Taken,
-    path: &str,
+    writing: &mut Writing<'_>,
+    path: PathEnd,
     console: &mut Console<O, F>,
 ) -> Result<u8, Trouble> {
     let alloc = rt.alloc();
-    let mut walk = Walk::new(rt, path)?;
+    let mut left = Vec::new(alloc);
     let mut status = 0;
-    for count in 0..u64::MAX {
-        console.show_progress(alloc, count)?;
-        let found = match walk.next_file(rt) {
-            Ok(Some(file)) => fix_below(rt, job, taken, file.as_str(), console),
-            Ok(None) => break,
-            Err(trouble) => Err(trouble),
-        };
-        match found {
-            Ok(other) => status = status.max(other),
-            Err(trouble) if trouble.is_passed_over() => status = console.tell(alloc, &trouble),
-            Err(trouble) => return Err(trouble),
+    for end in path.ends {
+        match end {
+            FileEnd::Fixed(fixed) => {
+                status = do_deed(rt, writing, fixed.deed, console)?.max(status);
+            }
+            FileEnd::LeftOut(trouble) => {
+                status = console.tell(alloc, &Trouble::from(trouble)).max(status);
+            }
+            FileEnd::LeftBehind(path) => left.push(path)?,
         }
     }
-    console.end_progress();
-    tell_left(alloc, walk.left_behind, console);
+    tell_left(alloc, left, console);
     Ok(status)
 }
 
-// Mends a file below a folder.
-fn fix_below<R: System, O: Write + Drop, F: Write + Drop>(
+fn do_deed<R: System, O: Write + Drop, F: Write + Drop>(
     rt: &R,
-    job: &Job<'_>,
-    taken: Taken,
-    path: &str,
+    writing: &mut Writing<'_>,
+    deed: Deed,
     console: &mut Console<O, F>,
 ) -> Result<u8, Trouble> {
-    let form = form_below(taken, path);
-    if form.is_none() && !taken.tags {
-        return Ok(0);
-    }
-    let parts = Parts::Source {
-        form,
-        tags: taken.tags,
-    };
-    fix_file(rt, job, parts, path, console)
-}
-
-// Mends a file, or standard input.
-fn fix_file<R: System, O: Write + Drop, F: Write + Drop>(
-    rt: &R,
-    job: &Job<'_>,
-    parts: Parts,
-    path: &str,
-    console: &mut Console<O, F>,
-) -> Result<u8, Trouble> {
-    if path == "-" {
-        let bytes = input_bytes(rt)?;
-        return fix_input(rt.alloc(), job, parts, &bytes, console);
-    }
-    if !job.is_written {
-        let bytes = bytes_of(rt, path)?;
-        return show_fix(rt.alloc(), job, parts, path, &bytes, console);
-    }
-    if is_special(rt, path)? {
-        return Err(Trouble::Special(String::from_str(rt.alloc(), path)?));
-    }
-    match hold(rt, path) {
-        Ok(held) => write_fix(rt, job, parts, path, &held, console),
-        Err(error) => Err(Trouble::unreadable(rt.alloc(), path, error)),
-    }
-}
-
-// Which expressions of a file are mended.
-#[derive(Clone, Copy)]
-enum Parts {
-    Lines,
-    /// What it declares as a manifest of the form, and what stands behind tags.
-    Source { form: Option<Form>, tags: bool },
-}
-
-impl Parts {
-    const TAGS: Parts = Parts::Source {
-        form: None,
-        tags: true,
-    };
-
-    fn declared(form: Form) -> Parts {
-        Parts::Source {
-            form: Some(form),
-            tags: false,
+    match deed {
+        Deed::Nothing => Ok(0),
+        Deed::Put(text) => {
+            write_all(&mut console.output, &text)?;
+            Ok(0)
         }
-    }
-}
-
-// What becomes of the bytes of a file.
-#[derive(Drop)]
-struct Outcome {
-    // the mended bytes, where something is mended
-    bytes: Option<Vec<u8>>,
-    // whether some expression is still refused
-    is_left: bool,
-}
-
-impl Outcome {
-    fn bytes_or<'b>(&'b self, other: &'b [u8]) -> &'b [u8] {
-        match &self.bytes {
-            Some(bytes) => bytes.as_slice(),
-            None => other,
+        Deed::Replace(new) if writing.replaced.contains(&new.stamp) => {
+            do_again(rt, writing, new, console)
         }
-    }
-
-    fn status(&self) -> u8 {
-        u8::from(self.is_left)
+        Deed::Replace(new) => write(rt, writing, new, console),
     }
 }
 
-// Standard input, mended, or what would mend it.
-fn fix_input<O: Write + Drop, F: Write + Drop>(
-    alloc: Global,
-    job: &Job<'_>,
-    parts: Parts,
-    bytes: &[u8],
-    console: &mut Console<O, F>,
-) -> Result<u8, Trouble> {
-    if !job.is_written {
-        return show_fix(alloc, job, parts, "-", bytes, console);
-    }
-    let outcome = mended_of(alloc, job, parts, "<stdin>", bytes)?;
-    write_all(&mut console.output, outcome.bytes_or(bytes))?;
-    Ok(outcome.status())
-}
-
-// Writes what would mend the bytes of a file.
-fn show_fix<O: Write + Drop, F: Write + Drop>(
-    alloc: Global,
-    job: &Job<'_>,
-    parts: Parts,
-    path: &str,
-    bytes: &[u8],
-    console: &mut Console<O, F>,
-) -> Result<u8, Trouble> {
-    let outcome = mended_of(alloc, job, parts, path, bytes)?;
-    if let Some(new) = &outcome.bytes {
-        let text = diff_of(alloc, path, bytes, new)?;
-        write_all(&mut console.output, &text)?;
-    }
-    Ok(outcome.status())
-}
-
-// Mends a file that holds this.
-fn write_fix<R: System, O: Write + Drop, F: Write + Drop>(
+// Mends a file that this run has replaced already, as it is now.
+fn do_again<R: System, O: Write + Drop, F: Write + Drop>(
     rt: &R,
-    job: &Job<'_>,
-    parts: Parts,
-    path: &str,
-    held: &Held,
+    writing: &mut Writing<'_>,
+    old: Replacement,
+    console: &mut Console<O, F>,
+) -> Result<u8, Trouble> {
+    let manner = Manner {
+        catalogue: writing.catalogue,
+        is_written: true,
+    };
+    let shelf = SystemShelf::new(rt);
+    match file_fixed(rt.alloc(), &shelf, manner, old.parts, old.path.as_str()) {
+        Ok(
+            Fixed {
+                deed: Deed::Replace(new),
+                ..
+            },
+        ) => write(rt, writing, new, console),
+        Ok(_) => Ok(0),
+        Err(trouble) => pass_over(rt, Trouble::from(trouble), console),
+    }
+}
+
+// Puts the mended bytes in the place of the file's.
+fn write<R: System, O: Write + Drop, F: Write + Drop>(
+    rt: &R,
+    writing: &mut Writing<'_>,
+    new: Replacement,
     console: &mut Console<O, F>,
 ) -> Result<u8, Trouble> {
     let alloc = rt.alloc();
-    let outcome = mended_of(alloc, job, parts, path, &held.bytes)?;
-    if let Some(new) = &outcome.bytes {
-        match replace(rt, path, held.stamp, job.breaks_links, new) {
-            Ok(Loss::Nothing) => {}
-            Ok(loss) => {
-                let lost = Trouble::Lost(String::from_str(alloc, path)?, loss);
-                console.tell(alloc, &lost);
-            }
-            Err(obstacle) => return Err(Trouble::kept(alloc, path, obstacle)),
-        }
-    }
-    Ok(outcome.status())
-}
-
-// The bytes with what can be mended, and whether some expression is left that is refused.
-fn mended_of(
-    alloc: Global,
-    job: &Job<'_>,
-    parts: Parts,
-    path: &str,
-    bytes: &[u8],
-) -> Result<Outcome, Trouble> {
-    match parts {
-        Parts::Lines => Ok(outcome_of(fix_lines(alloc, job.catalogue, bytes)?)),
-        Parts::Source { form, tags } => {
-            let declared = declared_of(alloc, job, form, path, bytes)?;
-            if !tags {
-                return Ok(declared);
-            }
-            let text = declared.bytes_or(bytes);
-            let tagged = fix_tags(alloc, job.catalogue, path, text)?;
-            Ok(Outcome {
-                is_left: declared.is_left || tagged.is_left,
-                bytes: tagged.bytes.or(declared.bytes),
-            })
-        }
-    }
-}
-
-// What mends the expressions that a manifest declares, if the file is one.
-fn declared_of(
-    alloc: Global,
-    job: &Job<'_>,
-    form: Option<Form>,
-    path: &str,
-    bytes: &[u8],
-) -> Result<Outcome, Trouble> {
-    let Some(form) = form else {
-        return Ok(Outcome {
-            bytes: None,
-            is_left: false,
-        });
-    };
-    let behind = without_mark(bytes);
-    let manifest = Manifest {
+    let Replacement {
         path,
-        form,
-        bytes: behind,
-    };
-    let FixedManifest {
-        bytes: fixed,
-        is_left,
-    } = match fix_manifest(alloc, job.catalogue, form, behind) {
-        Ok(fixed) => fixed,
-        Err(error) => return Err(trouble_of(alloc, &manifest, error)),
-    };
-    let mark = bytes.len().saturating_sub(behind.len());
-    let bytes = match fixed {
-        Some(mended) => Some(joined(alloc, bytes.get(..mark).unwrap_or(&[]), &mended)?),
-        None => None,
-    };
-    Ok(Outcome { bytes, is_left })
+        stamp,
+        bytes,
+        ..
+    } = new;
+    match replace(rt, path.as_str(), stamp, writing.breaks_links, &bytes) {
+        Ok(loss) => {
+            writing.replaced.push(stamp)?;
+            if loss != Loss::Nothing {
+                console.tell(alloc, &Trouble::Lost(path, loss));
+            }
+            Ok(0)
+        }
+        Err(obstacle) => pass_over(rt, Trouble::kept(alloc, path.as_str(), obstacle), console),
+    }
 }
 
-// One behind the other.
-fn joined(alloc: Global, one: &[u8], other: &[u8]) -> Result<Vec<u8>, AllocError> {
-    let mut bytes = Vec::new(alloc);
-    bytes.extend_from_slice(one)?;
-    bytes.extend_from_slice(other)?;
-    Ok(bytes)
-}
-
-fn outcome_of(fixed: FixedText) -> Outcome {
-    let FixedText { bytes, is_left } = fixed;
-    Outcome { bytes, is_left }
-}
-
-fn diff_of(alloc: Global, path: &str, old: &[u8], new: &[u8]) -> Result<Vec<u8>, Trouble> {
-    let Some(name) = diff_name(path) else {
-        return Err(Trouble::Above(String::from_str(alloc, path)?));
-    };
-    let mut text = Vec::new(alloc);
-    put_diff(alloc, &mut text, name, old, new)?;
-    Ok(text)
-}
-
-// The path as a diff names it, without the slashes at its start; none where it leads above the folder of the diff, for no
-// program applies that.
-fn diff_name(path: &str) -> Option<&str> {
-    let name = path.trim_start_matches('/');
-    if name.split('/').any(|part| part == "..") {
-        None
+// Tells the trouble, if other files are still mended after it.
+fn pass_over<R: System, O: Write + Drop, F: Write + Drop>(
+    rt: &R,
+    trouble: Trouble,
+    console: &mut Console<O, F>,
+) -> Result<u8, Trouble> {
+    if trouble.is_passed_over() {
+        Ok(console.tell(rt.alloc(), &trouble))
     } else {
-        Some(name)
+        Err(trouble)
     }
 }

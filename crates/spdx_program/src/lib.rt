@@ -29,7 +29,6 @@ mod readings;
 mod serve;
 mod simplify;
 mod trouble;
-mod wanted;
 
 pub use crate::console::Screen;
 pub use crate::files::system::System;

@@ -3,6 +3,9 @@
 pub(crate) mod several;
 
 use crate::files::replace::{Loss, Obstacle};
+use check_sources::reason_text;
+use file_fixes::ManifestFault;
+use fix_program::{FixFault, FixTrouble};
 use foreign_text::{Sink, text_for};
 use gate_program::{GateTrouble, PolicyTrouble};
 use line_engine::device::Failed;
@@ -173,6 +176,32 @@ impl From<MeaningTrouble> for Trouble {
             MeaningTrouble::List(trouble) => Trouble::from(trouble),
             MeaningTrouble::Unsaid(Unsaid { text, why }) => Trouble::Unmeant(text, why),
             MeaningTrouble::Memory => Trouble::Memory,
+        }
+    }
+}
+
+impl From<FixFault> for Trouble {
+    fn from(fault: FixFault) -> Trouble {
+        match fault {
+            FixFault::List(trouble) => Trouble::from(trouble),
+            FixFault::Memory => Trouble::Memory,
+        }
+    }
+}
+
+impl From<FixTrouble> for Trouble {
+    fn from(trouble: FixTrouble) -> Trouble {
+        match trouble {
+            FixTrouble::Unreadable(path, error) => Trouble::of_path(path, error),
+            FixTrouble::Special(path) => Trouble::Special(path),
+            FixTrouble::Above(path) => Trouble::Above(path),
+            FixTrouble::Manifest(path, ManifestFault { reason, line }) => {
+                Trouble::Manifest(path, reason_text(reason), line)
+            }
+            FixTrouble::NoManifest(path) => Trouble::NoManifest(path),
+            FixTrouble::Folder(path) => Trouble::Folder(path),
+            FixTrouble::Unnamed(path, count) => Trouble::Unnamed(path, count),
+            FixTrouble::Memory => Trouble::Memory,
         }
     }
 }

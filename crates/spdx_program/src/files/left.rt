@@ -2,28 +2,12 @@
 
 use crate::console::Console;
 use crate::files::system::{System, is_folder};
-use crate::files::walk::below;
 use crate::trouble::Trouble;
+use source_trees::is_beside;
 use std::alloc::Global;
 use std::collections::BTreeSet;
 use std::fs;
 use std::io::Write;
-
-// What the name of a new file begins with, before its digits.
-const BESIDE: &str = ".spdx-";
-
-// How many hexadecimal digits it has.
-const DIGITS: usize = 16;
-
-/// Whether it is the name of a file that `replace` makes beside another one. Only a run that is killed leaves such a file.
-pub(crate) fn is_beside(name: &str) -> bool {
-    match name.strip_prefix(BESIDE) {
-        Some(digits) => {
-            digits.len() == DIGITS && digits.bytes().all(|byte| byte.is_ascii_hexdigit())
-        }
-        None => false,
-    }
-}
 
 /// Tells each of these files, which runs that were killed left. None is removed, since another run may be at work on it.
 pub(crate) fn tell_left<O: Write + Drop, F: Write + Drop>(
@@ -78,4 +62,13 @@ fn left_in<R: System>(rt: &R, folder: &str) -> Result<Vec<String>, Trouble> {
     }
     left.sort()?;
     Ok(left)
+}
+
+// The path of what is in a folder: below `.` its name alone.
+fn below<'p>(folder: &str, path: &'p str) -> &'p str {
+    if folder == "." {
+        path.strip_prefix("./").unwrap_or(path)
+    } else {
+        path
+    }
 }

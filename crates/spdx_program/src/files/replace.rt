@@ -1,8 +1,9 @@
 // A file whose bytes are replaced at once.
 
 use crate::files::system::System;
+use shelves::Stamp;
 use std::fs::{self, Metadata, OpenFile, OpenOptions, Permissions};
-use std::io::{self, ErrorKind, Read, Write};
+use std::io::{self, ErrorKind, Write};
 use std::os::unix::fs::{MetadataExt, OpenOptionsExt, PermissionsExt, chown};
 
 // How many names are tried for the file beside.
@@ -13,23 +14,6 @@ const KEPT: u32 = 0o777;
 
 // The bits that let a file run as its owner or its group.
 const SET_ID: u32 = 0o6000;
-
-/// By what a file is known to be the one that was read, with the bytes that it had then.
-#[derive(Clone, Copy, PartialEq, Eq)]
-pub(crate) struct Stamp {
-    device: u64,
-    node: u64,
-    length: u64,
-    changed: i64,
-    changed_nanos: i64,
-}
-
-/// What a file held, and what it was then.
-#[derive(Drop)]
-pub(crate) struct Held {
-    pub(crate) bytes: Vec<u8>,
-    pub(crate) stamp: Stamp,
-}
 
 /// Why a file is left as it is.
 #[derive(Drop)]
@@ -55,27 +39,6 @@ impl From<io::Error> for Obstacle {
     fn from(error: io::Error) -> Obstacle {
         Obstacle::Failed(error)
     }
-}
-
-impl Stamp {
-    fn of(metadata: &Metadata) -> Stamp {
-        Stamp {
-            device: metadata.dev(),
-            node: metadata.ino(),
-            length: metadata.size(),
-            changed: metadata.ctime(),
-            changed_nanos: metadata.ctime_nsec(),
-        }
-    }
-}
-
-/// What the file holds, and what it is.
-pub(crate) fn hold<R: System>(rt: &R, path: &str) -> io::Result<Held> {
-    let mut file = fs::open(rt, path)?;
-    let stamp = Stamp::of(&file.metadata()?);
-    let mut bytes = Vec::new(rt.alloc());
-    file.read_to_end(&mut bytes)?;
-    Ok(Held { bytes, stamp })
 }
 
 /// Puts the bytes in the place of what the file held when it was read, and keeps its owner, its group and who may read,
