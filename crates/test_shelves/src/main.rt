@@ -1,6 +1,6 @@
 //! The rows of what is read over a shelf of values: which list, which packages, what the gate
 //! says of them, what changed between two lists of them, how two expressions compare, what each line means, what a
-//! list says of names, by what two lists differ, and which files are below a folder.
+//! list says of names, by what two lists differ, which files are below a folder, and what mends files.
 //!
 //! Each part has its rows in a file that lies where the program runs, NAME.rows, and is told behind a line `== PART`: those
 //! that don't hold, then how many do. The head of each module has the form of its rows.
@@ -8,6 +8,7 @@
 
 mod compares;
 mod diffs;
+mod fixes;
 mod gates;
 mod list_diffs;
 mod lists;
@@ -50,6 +51,9 @@ fn start(rt: &HostRuntime) -> io::Result<u8> {
     shown.push_str("== trees\n")?;
     let rows = fs::read_to_string(rt, "trees.rows")?;
     let are_trees_good = trees::try_rows(rt.alloc(), &mut shown, rows.as_str())?;
+    shown.push_str("== fixes\n")?;
+    let rows = fs::read_to_string(rt, "fixes.rows")?;
+    let are_fixes_good = fixes::try_rows(rt.alloc(), &mut shown, rows.as_str())?;
     io::writer(rt).write_all(shown.as_bytes())?;
     let are_good = are_lists_good
         && are_packages_good
@@ -59,7 +63,8 @@ fn start(rt: &HostRuntime) -> io::Result<u8> {
         && are_simplifies_good
         && are_shows_good
         && are_list_diffs_good
-        && are_trees_good;
+        && are_trees_good
+        && are_fixes_good;
     Ok(u8::from(!are_good))
 }
 

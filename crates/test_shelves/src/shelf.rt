@@ -2,7 +2,7 @@
 
 use list_program::Inside;
 use package_files::FileFault;
-use shelves::{Held, HeldFile};
+use shelves::{Entry, Held, HeldFile, HeldFolder, Kind};
 use std::alloc::{AllocError, Global};
 
 /// A few rows of SPDX's list, as a program has them inside.
@@ -27,16 +27,21 @@ pub(crate) fn inside() -> Inside<'static> {
     }
 }
 
-/// The shelf of a text's files: `= PATH`, and behind it the file's lines, each behind `| `. `= -` is the input.
+/// The shelf of a text's files: `= PATH`, and behind it the file's lines, each behind `| `. `= -` is the input, and `= PATH/` a
+/// folder, whose lines are the names in it, those of folders with a slash behind them.
 pub(crate) fn shelf_of(alloc: Global, text: &str) -> Result<Held, AllocError> {
     let mut files = Vec::new(alloc);
+    let mut folders = Vec::new(alloc);
     for part in text.split("\n= ").skip(1) {
-        files.push(file(alloc, part)?)?;
+        match part.lines().next().and_then(|path| path.strip_suffix("/")) {
+            Some(path) => folders.push(folder(alloc, path, part)?)?,
+            None => files.push(file(alloc, part)?)?,
+        }
     }
     let input = input_of(alloc, &files)?;
     Ok(Held {
         files,
-        folders: Vec::new(alloc),
+        folders,
         links: Vec::new(alloc),
         variables: Vec::new(alloc),
         input,
@@ -54,6 +59,22 @@ fn file(alloc: Global, part: &str) -> Result<HeldFile, AllocError> {
         }
     }
     Ok(HeldFile { path, bytes })
+}
+
+fn folder(alloc: Global, path: &str, part: &str) -> Result<HeldFolder, AllocError> {
+    let mut entries = Vec::new(alloc);
+    for line in part.lines() {
+        if let Some(name) = line.strip_prefix("| ") {
+            let (name, kind) = match name.strip_suffix("/") {
+                Some(name) => (name, Kind::Folder),
+                None => (name, Kind::File),
+            };
+            let name = String::from_str(alloc, name)?;
+            entries.push(Entry { name, kind })?;
+        }
+    }
+    let path = String::from_str(alloc, path)?;
+    Ok(HeldFolder { path, entries })
 }
 
 fn input_of(alloc: Global, files: &[HeldFile]) -> Result<Vec<u8>, AllocError> {

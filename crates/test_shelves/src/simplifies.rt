@@ -132,8 +132,8 @@ fn said_by(letter: u8) -> u8 {
     }
 }
 
-// Appends the bytes as a row has them.
-fn put_shown(text: &mut String, bytes: &[u8]) -> Result<(), AllocError> {
+/// Appends the bytes as a row has them.
+pub(crate) fn put_shown(text: &mut String, bytes: &[u8]) -> Result<(), AllocError> {
     for byte in bytes {
         match *byte {
             b'\t' => text.push_str("\\t")?,

@@ -1,0 +1,136 @@
+// What mends files: what is put out, what they are to hold, and why others are left out.
+//
+// The first rows are the shelf's files and folders, as `shelf` reads them. A row `HOW WANTED LIST PATH PATH .. => ANSWER`, where
+// HOW is `diff` or `write`, WANTED is `names`, `tags`, `manifests` or a form's word, and `-` is the list inside, and as a path the
+// input, has the status, and behind a semicolon what comes of each path, its files with commas between; or why there is nothing.
+// `\n` is a newline.
+
+use crate::shelf::{inside, shelf_of};
+use crate::simplifies::put_shown;
+use file_fixes::ManifestFault;
+use fix_program::{
+    Deed, FileEnd, FixFault, FixTrouble, Fixed, Progress, Replacement, Request, Run, fix,
+};
+use shelves::Held;
+use source_trees::Wanted;
+use std::alloc::{AllocError, Global};
+use test_rows::Tally;
+
+// Tells nobody how far a run is.
+#[derive(Drop)]
+struct Quiet {}
+
+impl Progress for Quiet {
+    fn seen(&mut self, _files: u64) -> Result<(), AllocError> {
+        Ok(())
+    }
+
+    fn ended(&mut self) {}
+}
+
+/// Appends the rows that don't hold, and how many do; gives whether all do.
+pub(crate) fn try_rows(alloc: Global, shown: &mut String, text: &str) -> Result<bool, AllocError> {
+    let mut tally = Tally::new();
+    let shelf = shelf_of(alloc, text)?;
+    for row in text.lines() {
+        if let Some((given, wanted)) = row.split_once(" => ") {
+            let answered = answer(alloc, &shelf, given)?;
+            let told = tally.count(alloc, row, wanted.trim(), answered.as_str())?;
+            shown.push_str(told.as_str())?;
+        }
+    }
+    shown.push_str(tally.line(alloc)?.as_str())?;
+    Ok(tally.is_good())
+}
+
+fn answer(alloc: Global, shelf: &Held, given: &str) -> Result<String, AllocError> {
+    let words: Vec<&str> = given.split(' ').collect(alloc)?;
+    let [how, wanted, list, paths @ ..] = words.as_slice() else {
+        return String::from_str(alloc, "no row");
+    };
+    let request = Request {
+        list: if *list == "-" { None } else { Some(*list) },
+        wanted: wanted_by(*wanted),
+        is_written: *how == "write",
+        paths,
+    };
+    match fix(alloc, shelf, inside(), request, &mut Quiet {}) {
+        Ok(run) => told_of(alloc, run),
+        Err(FixFault::List(_)) => String::from_str(alloc, "no list"),
+        Err(FixFault::Memory) => Err(AllocError),
+    }
+}
+
+fn wanted_by<'w>(word: &'w str) -> Wanted<'w> {
+    match word {
+        "names" => Wanted::ByName,
+        "tags" => Wanted::Headers,
+        "manifests" => Wanted::Manifests,
+        form => Wanted::Form(form),
+    }
+}
+
+fn told_of(alloc: Global, run: Run) -> Result<String, AllocError> {
+    let status = run.status();
+    let mut told = format!(in alloc; "{status}")?;
+    for path in run.paths {
+        let mut before = "; ";
+        for end in path.ends {
+            told.push_str(before)?;
+            put_end(alloc, &mut told, end)?;
+            before = ", ";
+        }
+    }
+    Ok(told)
+}
+
+fn put_end(alloc: Global, told: &mut String, end: FileEnd) -> Result<(), AllocError> {
+    match end {
+        FileEnd::Fixed(fixed) => put_fixed(told, fixed),
+        FileEnd::LeftOut(trouble) => told.push_str(trouble_text(alloc, trouble)?.as_str()),
+        FileEnd::LeftBehind(path) => {
+            told.push_str("left behind ")?;
+            told.push_str(path.as_str())
+        }
+    }
+}
+
+fn put_fixed(told: &mut String, fixed: Fixed) -> Result<(), AllocError> {
+    match fixed.deed {
+        Deed::Nothing => told.push_str("stays")?,
+        Deed::Put(text) => {
+            told.push_str("puts ")?;
+            put_quoted(told, &text)?;
+        }
+        Deed::Replace(Replacement { path, bytes, .. }) => {
+            told.push_str(path.as_str())?;
+            told.push_str(" holds ")?;
+            put_quoted(told, &bytes)?;
+        }
+    }
+    if fixed.is_left {
+        told.push_str(" with some left")?;
+    }
+    Ok(())
+}
+
+fn put_quoted(told: &mut String, bytes: &[u8]) -> Result<(), AllocError> {
+    told.push('"')?;
+    put_shown(told, bytes)?;
+    told.push('"')
+}
+
+fn trouble_text(alloc: Global, trouble: FixTrouble) -> Result<String, AllocError> {
+    match trouble {
+        FixTrouble::Unreadable(path, _) => format!(in alloc; "unreadable {path}"),
+        FixTrouble::Special(path) => format!(in alloc; "special {path}"),
+        FixTrouble::Above(path) => format!(in alloc; "above {path}"),
+        FixTrouble::Manifest(path, ManifestFault { line, .. }) => {
+            format!(in alloc; "refused {path}:{line}")
+        }
+        FixTrouble::NoManifest(path) => format!(in alloc; "no manifest {path}"),
+        FixTrouble::Folder(path) => format!(in alloc; "folder {path}"),
+        FixTrouble::Unnamed(path, count) => format!(in alloc; "{count} unnamed in {path}"),
+        FixTrouble::Memory => Err(AllocError),
+    }
+}
