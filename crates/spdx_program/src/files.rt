@@ -1,4 +1,4 @@
-// The files of the system: read, walked over and replaced.
+// The files of the system: read and replaced.
 
 pub(crate) mod left;
 pub(crate) mod replace;
