@@ -264,27 +264,25 @@ fn check_tree<R: System, O: Write + Drop, F: Write + Drop>(
     console: &mut Console<O, F>,
 ) -> Result<(), Trouble> {
     let alloc = rt.alloc();
-    let shelf = SystemShelf::new(rt);
+    let shelf = &SystemShelf::new(rt);
     let mut walk = walk_from(rt, path)?;
     let mut owing = Owing::new(rt, job.texts, path)?;
     let mut left_behind = Vec::new(alloc);
     let mut count: u64 = 0;
     for _ in 0..u64::MAX {
-        let Some(seen) = walk.next(alloc, &shelf)? else {
-            break;
-        };
-        let checked = match seen {
-            Seen::LeftOut(path) => Ok(sums.left_out.push(path)?),
-            Seen::LeftBehind(path) => Ok(left_behind.push(path)?),
-            Seen::File(file) => {
-                console.show_progress(alloc, count)?;
-                count = count.saturating_add(1);
-                check_file(rt, job, taken, file.as_str(), &mut owing, sums, console)
+        match walk.next(alloc, shelf)? {
+            None => break,
+            Some(Seen::LeftOut(path)) => sums.left_out.push(path)?,
+            Some(Seen::LeftBehind(path)) => left_behind.push(path)?,
+            Some(seen) => {
+                if matches!(seen, Seen::File(_)) {
+                    console.show_progress(alloc, count)?;
+                    count = count.saturating_add(1);
+                }
+                if let Err(trouble) = check_seen(rt, job, taken, seen, &mut owing, sums, console) {
+                    pass_over(alloc, trouble, sums, console)?;
+                }
             }
-            other => file_seen(other).map(|_| ()),
-        };
-        if let Err(trouble) = checked {
-            pass_over(alloc, trouble, sums, console)?;
         }
     }
     console.end_progress();
@@ -316,6 +314,22 @@ fn tell_owed<R: System, O: Write + Drop, F: Write + Drop>(
     }
     write_all(&mut console.output, &text)?;
     Ok(())
+}
+
+// Checks what a walk comes to, if it is a file.
+fn check_seen<R: System, O: Write + Drop, F: Write + Drop>(
+    rt: &R,
+    job: &Job<'_>,
+    taken: Taken,
+    seen: Seen,
+    owing: &mut Owing,
+    sums: &mut Sums,
+    console: &mut Console<O, F>,
+) -> Result<(), Trouble> {
+    match file_seen(seen)? {
+        Some(file) => check_file(rt, job, taken, file.as_str(), owing, sums, console),
+        None => Ok(()),
+    }
 }
 
 // Checks a file below a folder: what it declares, if it is a manifest, and then its tags.
