@@ -12,6 +12,7 @@ use line_engine::lines::write_all;
 use shelves::{Stamp, SystemShelf};
 use spdx::Catalogue;
 use spdx_words::FixRequest;
+use std::collections::BTreeSet;
 use std::io::Write;
 
 /// Mends what the request names, and answers the status: 1 where some expression is refused and has no mended text.
@@ -26,7 +27,7 @@ pub(crate) fn fix<R: System, O: Write + Drop, F: Write + Drop>(
     let mut writing = Writing {
         catalogue: &catalogue,
         breaks_links: request.break_links,
-        replaced: Vec::new(rt.alloc()),
+        replaced: BTreeSet::new(rt.alloc()),
     };
     for path in paths {
         status = do_path(rt, &mut writing, path, console)?.max(status);
@@ -60,8 +61,8 @@ fn run_of<R: System, O: Write + Drop, F: Write + Drop>(
 struct Writing<'r> {
     catalogue: &'r Catalogue,
     breaks_links: bool,
-    // by what each was known when it was read
-    replaced: Vec<Stamp>,
+    // the device and the node that each had when it was read
+    replaced: BTreeSet<(u64, u64)>,
 }
 
 // Does and tells what comes of a path, and last what runs that were killed left below it.
@@ -101,11 +102,15 @@ fn do_deed<R: System, O: Write + Drop, F: Write + Drop>(
             write_all(&mut console.output, &text)?;
             Ok(0)
         }
-        Deed::Replace(new) if writing.replaced.contains(&new.stamp) => {
+        Deed::Replace(new) if writing.replaced.contains(&node_of(new.stamp)) => {
             do_again(rt, writing, new, console)
         }
         Deed::Replace(new) => write(rt, writing, new, console),
     }
+}
+
+fn node_of(stamp: Stamp) -> (u64, u64) {
+    (stamp.device, stamp.node)
 }
 
 // Mends a file that this run has replaced already, as it is now.
@@ -148,7 +153,7 @@ fn write<R: System, O: Write + Drop, F: Write + Drop>(
     } = new;
     match replace(rt, path.as_str(), stamp, writing.breaks_links, &bytes) {
         Ok(loss) => {
-            writing.replaced.push(stamp)?;
+            writing.replaced.insert(node_of(stamp))?;
             if loss != Loss::Nothing {
                 console.tell(alloc, &Trouble::Lost(path, loss));
             }
