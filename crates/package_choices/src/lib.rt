@@ -2,8 +2,8 @@
 //! one; and which texts a requirement of a choice needs.
 //!
 //! ```rust
-//! // crates/spdx_program/src/chosen.rt
-//! match own_choices(alloc, expression, accepted) {
+//! // crates/choice_program/src/accepted.rt
+//! match joint_choices(alloc, &expressions, accepted) {
 //! ```
 //!
 //! `accepted` stands on `spdx`, and `allowed` on `spdx_gate`.

@@ -1,0 +1,6 @@
+pub mod Each
+pub mod Unchosen
+pub mod Named
+pub mod Licensees
+pub mod Among
+pub mod Choose
