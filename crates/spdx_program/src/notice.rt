@@ -1,16 +1,14 @@
 // The command `notice`.
 
 pub(crate) mod general;
-pub(crate) mod homes;
 pub(crate) mod sources;
 
 use crate::chosen::{Choice, Chosen, choose};
 use crate::console::Console;
-use crate::files::system::System;
+use crate::files::system::{System, is_folder};
 use crate::list;
 use crate::notice::general::{HeldText, general_texts};
-use crate::notice::homes::check_folder;
-use crate::notice::sources::{ReadFile, own_files};
+use crate::notice::sources::own_files;
 use crate::packages::{AllListed, Listed, Wanted, read_all};
 use crate::trouble::Trouble;
 use license_notice::Requirement;
@@ -20,11 +18,12 @@ use notice_program::{
     GeneralText, Lack, Look, NoticeFault, NoticeText, OwnFile, Package as Noted, all_lacks,
     notice_text, totals_line,
 };
+use notice_run::ReadFile;
 use notice_texts::File;
 use package_sources::Package;
 use spdx_words::{NoticeRequest, OwnTexts, PageForm};
 use std::alloc::{AllocError, Global};
-use std::io::Write;
+use std::io::{self, ErrorKind, Write};
 
 /// Writes the page that the request asks for, and answers the status. Nothing is written unless all of it is there.
 pub(crate) fn notice<R: System, O: Write + Drop, F: Write + Drop>(
@@ -95,6 +94,15 @@ fn read_files<'t, R: System>(
     let choices = requirements(rt.alloc(), &chosen.choices)?;
     let offered = requirements(rt.alloc(), &chosen.offered)?;
     own_files(rt, request, listed, &choices, &offered)
+}
+
+// Whether the folder of all packages is there.
+fn check_folder<R: System>(rt: &R, sources: &str) -> Result<(), Trouble> {
+    if is_folder(rt, sources)? {
+        return Ok(());
+    }
+    let error = io::Error::from(ErrorKind::NotADirectory);
+    Err(Trouble::unreadable(rt.alloc(), sources, error))
 }
 
 // The general texts of what the packages lack, where they have a folder.

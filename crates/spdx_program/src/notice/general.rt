@@ -4,8 +4,8 @@ use crate::files::system::System;
 use crate::files::within::{bytes_within, of_text};
 use crate::trouble::Trouble;
 use crate::trouble::several::Several;
-use foreign_text::{Sink, text_for};
 use notice_program::Lack;
+use notice_run::shown;
 use spdx_words::{NoticeRequest, OwnTexts};
 use std::alloc::{AllocError, Global};
 use std::io::ErrorKind;
@@ -77,17 +77,4 @@ fn unless_empty(alloc: Global, name: &str, path: &str, bytes: Vec<u8>) -> Result
         return Err(Trouble::Text(String::from_str(alloc, name)?, why));
     }
     Ok(bytes)
-}
-
-/// The text as it is, or plain: without what a terminal obeys but newlines: a tab as blanks, what turns the page left out,
-/// and any other such character by its number.
-pub(crate) fn shown(alloc: Global, is_plain: bool, bytes: Vec<u8>) -> Result<Vec<u8>, AllocError> {
-    if !is_plain {
-        return Ok(bytes);
-    }
-    let read = String::from_utf8_lossy(alloc, &bytes)?;
-    let lines = read.as_str().replace(alloc, "\r\n", "\n")?;
-    let paged = lines.as_str().replace(alloc, '\u{c}', "")?;
-    let blank = paged.as_str().replace(alloc, '\t', "    ")?;
-    Ok(text_for(alloc, Sink::Lines, blank.as_str())?.into_bytes())
 }
