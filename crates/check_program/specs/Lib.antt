@@ -2,3 +2,4 @@ pub mod Sums
 pub mod Needs
 pub mod Owed
 pub mod Untagged
+pub mod Counted

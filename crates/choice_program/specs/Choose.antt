@@ -30,7 +30,8 @@ pub record AreUnchosen (c : Rows) (list : List ℕ) (m : ParseMode) (packages : 
   pub licensees : List Requirement
   pub accepted : AllZip (Names c) (names_in list) licensees
   pub lack : AreUnread c m packages lacking
-      ⊎ ((meant : List Meant) × AllZip (IsMeant c m) packages meant × AreUnmet licensees meant lacking)
+      ⊎ ((meant : List Meant) × AllZip (IsMeant c m) packages meant ×
+      AreUnmet licensees meant lacking)
 
 -- each has a choice, and there is none for all of them
 pub record IsNoneAmong (c : Rows) (list : List ℕ) (m : ParseMode) (packages : List Package)

@@ -36,7 +36,8 @@ pub record AreNames (s : Shelved) (folder : List ℕ) (names : List (String Glob
 
 -- some name isn't
 abbrev pub IsUnnamed : Shelved → List ℕ → Type 0
-IsUnnamed s folder = (entries : List Named) × (unnamed : ℕ) × s.Lists folder entries unnamed × (0 < unnamed)
+IsUnnamed s folder = (entries : List Named) × (unnamed : ℕ) ×
+    s.Lists folder entries unnamed × (0 < unnamed)
 
 abbrev pub AreNoNames : Shelved → List ℕ → List ℕ → TextTrouble → Type 0
 AreNoNames s name folder t =

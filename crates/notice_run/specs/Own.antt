@@ -50,7 +50,8 @@ pub record Read : Type 0 where
   pub bytes : List ℕ
 
 abbrev pub read_of : ReadFile → Read
-read_of f = record { path = string_bytes f.path; is_declared = f.is_declared; bytes = f.bytes.items }
+read_of f =
+    record { path = string_bytes f.path; is_declared = f.is_declared; bytes = f.bytes.items }
 
 abbrev pub HasBytesAt : Shelved → Home → Option (List ℕ) → List ℕ → Type 0
 HasBytesAt s h None bytes = ⊥
