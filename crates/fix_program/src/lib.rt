@@ -5,7 +5,7 @@
 //!
 //! ```rust
 //! // crates/spdx_program/src/fix.rt
-//! let run = fix_program::fix(alloc, &SystemShelf::new(rt), inside(), asked, &mut meter)?;
+//! let run = fix_program::fix(alloc, &SystemShelf::new(rt), inside(), asked, console)?;
 //! ```
 //!
 //! It stands on `list_program`, `source_trees`, `file_fixes` and `line_diff`.

@@ -21,7 +21,7 @@ pub trait Progress {
     /// # Errors
     ///
     /// Memory was refused.
-    fn seen(&mut self, files: u64) -> Result<(), AllocError>;
+    fn seen(&mut self, alloc: Global, files: u64) -> Result<(), AllocError>;
 
     /// The folder is at its end.
     fn ended(&mut self);
@@ -78,7 +78,7 @@ fn walked<S: Shelf, P: Progress>(
             progress.ended();
             return Ok(ends);
         };
-        files = shown(files, &seen, progress)?;
+        files = shown(alloc, files, &seen, progress)?;
         add_ends(alloc, shelf, manner, taken, seen, &mut ends)?;
     }
     // so many have no room in memory
@@ -86,12 +86,17 @@ fn walked<S: Shelf, P: Progress>(
 }
 
 // Shows that a file was come to, and answers how many were.
-fn shown<P: Progress>(files: u64, seen: &Seen, progress: &mut P) -> Result<u64, AllocError> {
+fn shown<P: Progress>(
+    alloc: Global,
+    files: u64,
+    seen: &Seen,
+    progress: &mut P,
+) -> Result<u64, AllocError> {
     if !matches!(seen, Seen::File(_)) {
         return Ok(files);
     }
     let files = files.saturating_add(1);
-    progress.seen(files)?;
+    progress.seen(alloc, files)?;
     Ok(files)
 }
 

@@ -102,25 +102,12 @@ impl<O: Write + Drop, F: Write + Drop> Console<O, F> {
     }
 }
 
-/// Shows how far a run of `fix` is.
-#[derive(Drop)]
-pub(crate) struct Meter<'c, O: Drop, F: Drop> {
-    alloc: Global,
-    console: &'c mut Console<O, F>,
-}
-
-impl<'c, O: Write + Drop, F: Write + Drop> Meter<'c, O, F> {
-    pub(crate) fn new(alloc: Global, console: &'c mut Console<O, F>) -> Meter<'c, O, F> {
-        Meter { alloc, console }
-    }
-}
-
-impl<O: Write + Drop, F: Write + Drop> Progress for Meter<'_, O, F> {
-    fn seen(&mut self, files: u64) -> Result<(), AllocError> {
-        self.console.show_progress(self.alloc, files)
+impl<O: Write + Drop, F: Write + Drop> Progress for Console<O, F> {
+    fn seen(&mut self, alloc: Global, files: u64) -> Result<(), AllocError> {
+        self.show_progress(alloc, files)
     }
 
     fn ended(&mut self) {
-        self.console.end_progress();
+        self.end_progress();
     }
 }

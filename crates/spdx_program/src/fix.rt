@@ -1,6 +1,6 @@
 // The command `fix`.
 
-use crate::console::{Console, Meter};
+use crate::console::Console;
 use crate::files::left::{tell_left, tell_left_beside};
 use crate::files::replace::{Loss, replace};
 use crate::files::system::{System, paths_or_input};
@@ -12,6 +12,7 @@ use line_engine::lines::write_all;
 use shelves::{Stamp, SystemShelf};
 use spdx::Catalogue;
 use spdx_words::FixRequest;
+use std::alloc::AllocError;
 use std::collections::BTreeSet;
 use std::io::Write;
 
@@ -51,8 +52,7 @@ fn run_of<R: System, O: Write + Drop, F: Write + Drop>(
         is_written: request.write,
         paths: paths_or_input(&request.paths),
     };
-    let mut meter = Meter::new(alloc, console);
-    let run = fix_program::fix(alloc, &SystemShelf::new(rt), inside(), asked, &mut meter)?;
+    let run = fix_program::fix(alloc, &SystemShelf::new(rt), inside(), asked, console)?;
     Ok(run)
 }
 
@@ -75,10 +75,11 @@ fn do_path<R: System, O: Write + Drop, F: Write + Drop>(
     let alloc = rt.alloc();
     let mut left = Vec::new(alloc);
     let mut status = 0;
-    for end in path.ends {
+    let PathEnd { ends } = path;
+    for end in ends {
         match end {
             FileEnd::Fixed(fixed) => {
-                status = do_deed(rt, writing, fixed.deed, console)?.max(status);
+                status = do_deed(rt, writing, fixed, console)?.max(status);
             }
             FileEnd::LeftOut(trouble) => {
                 status = console.tell(alloc, &Trouble::from(trouble)).max(status);
@@ -93,9 +94,10 @@ fn do_path<R: System, O: Write + Drop, F: Write + Drop>(
 fn do_deed<R: System, O: Write + Drop, F: Write + Drop>(
     rt: &R,
     writing: &mut Writing<'_>,
-    deed: Deed,
+    fixed: Fixed,
     console: &mut Console<O, F>,
 ) -> Result<u8, Trouble> {
+    let Fixed { deed, .. } = fixed;
     match deed {
         Deed::Nothing => Ok(0),
         Deed::Put(text) => {
@@ -126,14 +128,21 @@ fn do_again<R: System, O: Write + Drop, F: Write + Drop>(
     };
     let shelf = SystemShelf::new(rt);
     match file_fixed(rt.alloc(), &shelf, manner, old.parts, old.path.as_str()) {
-        Ok(
-            Fixed {
-                deed: Deed::Replace(new),
-                ..
-            },
-        ) => write(rt, writing, new, console),
-        Ok(_) => Ok(0),
+        Ok(fixed) => write_again(rt, writing, fixed, console),
         Err(trouble) => pass_over(rt, Trouble::from(trouble), console),
+    }
+}
+
+fn write_again<R: System, O: Write + Drop, F: Write + Drop>(
+    rt: &R,
+    writing: &mut Writing<'_>,
+    fixed: Fixed,
+    console: &mut Console<O, F>,
+) -> Result<u8, Trouble> {
+    let Fixed { deed, .. } = fixed;
+    match deed {
+        Deed::Replace(new) => write(rt, writing, new, console),
+        Deed::Nothing | Deed::Put(_) => Ok(0),
     }
 }
 
@@ -154,13 +163,24 @@ fn write<R: System, O: Write + Drop, F: Write + Drop>(
     match replace(rt, path.as_str(), stamp, writing.breaks_links, &bytes) {
         Ok(loss) => {
             writing.replaced.insert(node_of(stamp))?;
-            if loss != Loss::Nothing {
-                console.tell(alloc, &Trouble::Lost(path, loss));
-            }
+            tell_loss(rt, path.as_str(), loss, console)?;
             Ok(0)
         }
         Err(obstacle) => pass_over(rt, Trouble::kept(alloc, path.as_str(), obstacle), console),
     }
+}
+
+fn tell_loss<R: System, O: Write + Drop, F: Write + Drop>(
+    rt: &R,
+    path: &str,
+    loss: Loss,
+    console: &mut Console<O, F>,
+) -> Result<(), AllocError> {
+    if loss != Loss::Nothing {
+        let lost = Trouble::Lost(String::from_str(rt.alloc(), path)?, loss);
+        console.tell(rt.alloc(), &lost);
+    }
+    Ok(())
 }
 
 // Tells the trouble, if other files are still mended after it.

@@ -4,7 +4,6 @@ pub(crate) mod several;
 
 use crate::files::replace::{Loss, Obstacle};
 use check_sources::reason_text;
-use file_fixes::ManifestFault;
 use fix_program::{FixFault, FixTrouble};
 use foreign_text::{Sink, text_for};
 use gate_program::{GateTrouble, PolicyTrouble};
@@ -195,8 +194,8 @@ impl From<FixTrouble> for Trouble {
             FixTrouble::Unreadable(path, error) => Trouble::of_path(path, error),
             FixTrouble::Special(path) => Trouble::Special(path),
             FixTrouble::Above(path) => Trouble::Above(path),
-            FixTrouble::Manifest(path, ManifestFault { reason, line }) => {
-                Trouble::Manifest(path, reason_text(reason), line)
+            FixTrouble::Manifest(path, fault) => {
+                Trouble::Manifest(path, reason_text(fault.reason), fault.line)
             }
             FixTrouble::NoManifest(path) => Trouble::NoManifest(path),
             FixTrouble::Folder(path) => Trouble::Folder(path),

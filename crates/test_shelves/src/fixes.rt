@@ -7,10 +7,7 @@
 
 use crate::shelf::{inside, shelf_of};
 use crate::simplifies::put_shown;
-use file_fixes::ManifestFault;
-use fix_program::{
-    Deed, FileEnd, FixFault, FixTrouble, Fixed, Progress, Replacement, Request, Run, fix,
-};
+use fix_program::{Deed, FileEnd, FixFault, FixTrouble, Fixed, Progress, Request, Run, fix};
 use shelves::Held;
 use source_trees::Wanted;
 use std::alloc::{AllocError, Global};
@@ -21,7 +18,7 @@ use test_rows::Tally;
 struct Quiet {}
 
 impl Progress for Quiet {
-    fn seen(&mut self, _files: u64) -> Result<(), AllocError> {
+    fn seen(&mut self, _alloc: Global, _files: u64) -> Result<(), AllocError> {
         Ok(())
     }
 
@@ -55,7 +52,7 @@ fn answer(alloc: Global, shelf: &Held, given: &str) -> Result<String, AllocError
         paths,
     };
     match fix(alloc, shelf, inside(), request, &mut Quiet {}) {
-        Ok(run) => told_of(alloc, run),
+        Ok(run) => told_of(alloc, &run),
         Err(FixFault::List(_)) => String::from_str(alloc, "no list"),
         Err(FixFault::Memory) => Err(AllocError),
     }
@@ -70,12 +67,12 @@ fn wanted_by<'w>(word: &'w str) -> Wanted<'w> {
     }
 }
 
-fn told_of(alloc: Global, run: Run) -> Result<String, AllocError> {
+fn told_of(alloc: Global, run: &Run) -> Result<String, AllocError> {
     let status = run.status();
     let mut told = format!(in alloc; "{status}")?;
-    for path in run.paths {
+    for path in &run.paths {
         let mut before = "; ";
-        for end in path.ends {
+        for end in &path.ends {
             told.push_str(before)?;
             put_end(alloc, &mut told, end)?;
             before = ", ";
@@ -84,7 +81,7 @@ fn told_of(alloc: Global, run: Run) -> Result<String, AllocError> {
     Ok(told)
 }
 
-fn put_end(alloc: Global, told: &mut String, end: FileEnd) -> Result<(), AllocError> {
+fn put_end(alloc: Global, told: &mut String, end: &FileEnd) -> Result<(), AllocError> {
     match end {
         FileEnd::Fixed(fixed) => put_fixed(told, fixed),
         FileEnd::LeftOut(trouble) => told.push_str(trouble_text(alloc, trouble)?.as_str()),
@@ -95,17 +92,17 @@ fn put_end(alloc: Global, told: &mut String, end: FileEnd) -> Result<(), AllocEr
     }
 }
 
-fn put_fixed(told: &mut String, fixed: Fixed) -> Result<(), AllocError> {
-    match fixed.deed {
+fn put_fixed(told: &mut String, fixed: &Fixed) -> Result<(), AllocError> {
+    match &fixed.deed {
         Deed::Nothing => told.push_str("stays")?,
         Deed::Put(text) => {
             told.push_str("puts ")?;
-            put_quoted(told, &text)?;
+            put_quoted(told, text)?;
         }
-        Deed::Replace(Replacement { path, bytes, .. }) => {
-            told.push_str(path.as_str())?;
+        Deed::Replace(new) => {
+            told.push_str(new.path.as_str())?;
             told.push_str(" holds ")?;
-            put_quoted(told, &bytes)?;
+            put_quoted(told, &new.bytes)?;
         }
     }
     if fixed.is_left {
@@ -120,12 +117,13 @@ fn put_quoted(told: &mut String, bytes: &[u8]) -> Result<(), AllocError> {
     told.push('"')
 }
 
-fn trouble_text(alloc: Global, trouble: FixTrouble) -> Result<String, AllocError> {
+fn trouble_text(alloc: Global, trouble: &FixTrouble) -> Result<String, AllocError> {
     match trouble {
         FixTrouble::Unreadable(path, _) => format!(in alloc; "unreadable {path}"),
         FixTrouble::Special(path) => format!(in alloc; "special {path}"),
         FixTrouble::Above(path) => format!(in alloc; "above {path}"),
-        FixTrouble::Manifest(path, ManifestFault { line, .. }) => {
+        FixTrouble::Manifest(path, fault) => {
+            let line = fault.line;
             format!(in alloc; "refused {path}:{line}")
         }
         FixTrouble::NoManifest(path) => format!(in alloc; "no manifest {path}"),
