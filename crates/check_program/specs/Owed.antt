@@ -1,5 +1,5 @@
--- What is told of files as a whole: license texts that are missing or not needed, and files without a
--- license.
+-- What is told of files as a whole: license texts that are missing or not needed, and files without
+-- a license.
 use Rattle.std.specs.Prelude.{◌≡◌, ℕ, Bool, true, false, List, [], ◌∷◌, ◌++◌, Option, Some, None, codes, flat_map, length, map, string_bytes}
 use Rattle.std.specs.Path.{path_file_name}
 use Rattle.finding_forms.specs.declared.forms.Form.{Form}
@@ -15,7 +15,8 @@ pub record Whole : Type 0 where
   pub reason : List ℕ
 
 abbrev pub whole_of : written.Whole → Whole
-whole_of w = record { path = string_bytes w.path; name = string_bytes w.name; reason = w.reason.now }
+whole_of w =
+    record { path = string_bytes w.path; name = string_bytes w.name; reason = w.reason.now }
 
 -- the last part of a path
 abbrev pub name_in : Option (List ℕ) → List ℕ

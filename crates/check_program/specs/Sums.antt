@@ -17,7 +17,8 @@ pub record IsNew (s : Sums) : Type 0 where
   pub bare : s.bare ≡ 0
   pub untagged : s.untagged ≡ 0
 
--- no expression was refused, no text is missing or not needed, and no file without a license was told
+-- no expression was refused, no text is missing or not needed, and no file without a license was
+-- told
 abbrev pub is_clean : Sums → Bool
 is_clean s = (s.totals.refused == 0) && (s.texts == 0) && (s.bare == 0)
 
@@ -43,7 +44,8 @@ pub record PassesExactly (s : Sums) (status : ℕ) : Type 0 where
 -- how many license texts are missing or not needed, if any are
 unfoldable pub texts_line : ℕ → List ℕ
 texts_line count =
-    if nat_lt 0 count then codes "license texts missing or not needed: " ++ (decimal count ++ codes "\n")
+    if nat_lt 0 count then codes "license texts missing or not needed: " ++
+    (decimal count ++ codes "\n")
     else []
 
 -- how many files are without a license, if any are
@@ -62,7 +64,8 @@ other_paths paths = flat_map (λ path. codes ", " ++ shown_path path) paths
 
 -- how many there are besides three, if there are more
 abbrev pub more_paths : ℕ → List ℕ
-more_paths count = if nat_lt 3 count then codes " and " ++ (decimal (count - 3) ++ codes " more") else []
+more_paths count =
+    if nat_lt 3 count then codes " and " ++ (decimal (count - 3) ++ codes " more") else []
 
 -- a line of paths, the first three of them by name, if there are any
 abbrev pub paths_line : List ℕ → List (List ℕ) → List ℕ

@@ -66,7 +66,8 @@ ReadsTags false c path bytes = Unit {0}
 
 abbrev pub Reads : Rows → Parts → List ℕ → List ℕ → Type 0
 Reads c parts.Lines path bytes = All (IsRead c) (texts_in (marked bytes (line_spans bytes)))
-Reads c (parts.Source form tags) path bytes = ReadsDeclared c form bytes × ReadsTags tags c path bytes
+Reads c (parts.Source form tags) path bytes =
+    ReadsDeclared c form bytes × ReadsTags tags c path bytes
 
 -- the file stays, and nothing is left
 abbrev pub Stays : Outcome → Type 0

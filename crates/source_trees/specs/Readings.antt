@@ -17,7 +17,7 @@ is_all t = t.tags && t.manifests
 abbrev pub taken : Bool → Bool → Taken
 taken tags manifests = record { tags = tags; manifests = manifests }
 
--- what is taken of the files below a folder; nothing says how one would be read as a file of a named form
+-- what is taken of the files below a folder; where the form of one file is named, nothing is
 abbrev pub tree_of : Wanted → Option Taken
 tree_of wanted.ByName = Some (taken true true)
 tree_of wanted.Headers = Some (taken true false)

@@ -45,7 +45,8 @@ folder_visit has_cargo name =
     if is_history name then None else
     if is_made has_cargo name then Some visit.LeftOut else Some visit.Folder
 
--- links, devices and folders of version control aren't looked at; folders that were made are left out
+-- links, devices and folders of version control aren't looked at; folders that were made are left
+-- out
 abbrev pub visit_of : Bool → List ℕ → Kind → Option Visit
 visit_of has_cargo name kind.Other = None
 visit_of has_cargo name kind.File =

@@ -11,8 +11,8 @@ use Rattle.source_trees.specs.declared.walk.Seen.TheVariants as seen
 use Rattle.source_trees.specs.declared.walk.Walk.{Walk}
 use Rattle.source_trees.specs.Stops.{AreStopsIn, below}
 
--- what is seen where a walk comes to each of these in turn: a file is itself, and a folder is followed by
--- what is in it, by ascending paths
+-- what is seen where a walk comes to each of these in turn: a file is itself, and a folder is
+-- followed by what is in it, by ascending paths
 pub data AreSeen (s : Shelved) : List Stop → List Seen → Type 0 where
   none : AreSeen s [] []
   file : {stops : List Stop} {after : List Seen} (stop : Stop) → stop.visit ≡ visit.File →

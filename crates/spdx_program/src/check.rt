@@ -12,8 +12,8 @@ use crate::list::{self, mode_of};
 use crate::manifest::Manifest;
 use crate::readings::{file_seen, reading_at, walk_from};
 use crate::trouble::Trouble;
-use check_program::{Sums, summary_of};
-use check_sources::{Findings, Source, check_manifest, check_tags, is_binary};
+use check_program::{Sums, declared, summary_of, tagged};
+use check_sources::{Source, is_binary};
 use finding_forms::{Form, Style, put_beginning, put_ending};
 use license_tags::{comment_of, tags};
 use line_engine::lines::write_all;
@@ -194,24 +194,10 @@ fn check_declared<O: Write + Drop, F: Write + Drop>(
         path: manifest.path,
         bytes: manifest.bytes,
     };
-    let is_first = sums.is_clean();
-    let found = check_manifest(alloc, &job.check, is_first, manifest.form, source)?;
-    put_findings(&found, sums, console)?;
+    let text = declared(alloc, &job.check, sums, manifest.form, source)?;
+    write_all(&mut console.output, &text)?;
     if manifest.form == ManifestForm::Pyproject && has_license_table(alloc, manifest.bytes)? {
         sums.tables.push(String::from_str(alloc, manifest.path)?)?;
-    }
-    Ok(())
-}
-
-// Writes what was found in a file, and counts it. A file without an expression counts for none.
-fn put_findings<O: Write + Drop, F: Write + Drop>(
-    found: &Findings,
-    sums: &mut Sums,
-    console: &mut Console<O, F>,
-) -> Result<(), Trouble> {
-    if found.summary.lines > 0 {
-        sums.totals.add(found.summary.lines, found.summary.refused);
-        write_all(&mut console.output, &found.text)?;
     }
     Ok(())
 }
@@ -407,6 +393,7 @@ fn check_source<O: Write + Drop, F: Write + Drop>(
     console: &mut Console<O, F>,
 ) -> Result<(), Trouble> {
     let source = Source { path, bytes };
-    let found = check_tags(alloc, &job.check, sums.is_clean(), source)?;
-    put_findings(&found, sums, console)
+    let text = tagged(alloc, &job.check, sums, source)?;
+    write_all(&mut console.output, &text)?;
+    Ok(())
 }
