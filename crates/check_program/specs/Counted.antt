@@ -1,15 +1,9 @@
 -- What is found in a file, written and counted.
-use Rattle.std.specs.Prelude.{◌≡◌, ℕ, Bool, true, List, [], nat_lt, if◌then◌else◌}
+use Rattle.std.specs.Prelude.{◌≡◌, ℕ, List, [], nat_lt, if◌then◌else◌}
 use Rattle.line_engine.specs.declared.lines.Summary.{Summary}
-use Rattle.manifests.specs.declared.form.Form.{Form}
-use Rattle.spdx_check.specs.declared.check.Check.{Check}
 use Rattle.spdx_check.specs.declared.totals.Totals.{Totals}
 use Rattle.spdx_check.specs.Totals.{with_file}
-use Rattle.check_sources.specs.Findings.{ChecksWritten, Source}
-use Rattle.check_sources.specs.Manifests.{ChecksManifest}
-use Rattle.check_sources.specs.Tags.{tagged}
 use Rattle.check_program.specs.declared.sums.Sums.{Sums}
-use Rattle.check_program.specs.Sums.{is_clean}
 
 -- a file without an expression counts for none
 abbrev pub counted : Totals → Summary → Totals
@@ -28,19 +22,3 @@ pub record IsCounted (old new : Sums) (s : Summary) (found text : List ℕ) : Ty
   pub texts : new.texts ≡ old.texts
   pub bare : new.bare ≡ old.bare
   pub untagged : new.untagged ≡ old.untagged
-
--- of the expressions that a manifest declares
-pub record CountsManifest (check : Check) (form : Form) (source : Source) (old new : Sums)
-    (text : List ℕ) : Type 0 where
-  pub found : List ℕ
-  pub summary : Summary
-  pub checks : ChecksManifest check (is_clean old) form source found summary
-  pub counts : IsCounted old new summary found text
-
--- of those behind the tags of a file
-pub record CountsTags (check : Check) (source : Source) (old new : Sums) (text : List ℕ) :
-    Type 0 where
-  pub found : List ℕ
-  pub summary : Summary
-  pub checks : ChecksWritten check (is_clean old) source (tagged source) found summary
-  pub counts : IsCounted old new summary found text

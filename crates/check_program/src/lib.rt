@@ -14,7 +14,7 @@ pub mod owed;
 pub mod sums;
 pub mod untagged;
 
-pub use crate::counted::{declared, tagged};
+pub use crate::counted::counted;
 pub use crate::needs::needed_by;
 pub use crate::owed::{Whole, owed_by, put_wholes, without_license};
 pub use crate::sums::{Sums, summary_of};

@@ -12,8 +12,8 @@ use crate::list::{self, mode_of};
 use crate::manifest::Manifest;
 use crate::readings::{file_seen, reading_at, walk_from};
 use crate::trouble::Trouble;
-use check_program::{Sums, declared, summary_of, tagged};
-use check_sources::{Source, is_binary};
+use check_program::{Sums, counted, summary_of};
+use check_sources::{Source, check_manifest, check_tags, is_binary};
 use finding_forms::{Form, Style, put_beginning, put_ending};
 use license_tags::{comment_of, tags};
 use line_engine::lines::write_all;
@@ -194,8 +194,8 @@ fn check_declared<O: Write + Drop, F: Write + Drop>(
         path: manifest.path,
         bytes: manifest.bytes,
     };
-    let text = declared(alloc, &job.check, sums, manifest.form, source)?;
-    write_all(&mut console.output, &text)?;
+    let found = check_manifest(alloc, &job.check, sums.is_clean(), manifest.form, source)?;
+    write_all(&mut console.output, &counted(sums, found))?;
     if manifest.form == ManifestForm::Pyproject && has_license_table(alloc, manifest.bytes)? {
         sums.tables.push(String::from_str(alloc, manifest.path)?)?;
     }
@@ -393,7 +393,7 @@ fn check_source<O: Write + Drop, F: Write + Drop>(
     console: &mut Console<O, F>,
 ) -> Result<(), Trouble> {
     let source = Source { path, bytes };
-    let text = tagged(alloc, &job.check, sums, source)?;
-    write_all(&mut console.output, &text)?;
+    let found = check_tags(alloc, &job.check, sums.is_clean(), source)?;
+    write_all(&mut console.output, &counted(sums, found))?;
     Ok(())
 }
