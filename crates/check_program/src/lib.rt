@@ -8,13 +8,13 @@
 //! It stands on `check_sources`, `spdx_check`, `source_trees` and `notice_texts`.
 #![tactic(auto)]
 
-pub mod counted;
+pub mod counting;
 pub mod needs;
 pub mod owed;
 pub mod sums;
 pub mod untagged;
 
-pub use crate::counted::counted;
+pub use crate::counting::counted;
 pub use crate::needs::needed_by;
 pub use crate::owed::{Whole, owed_by, put_wholes, without_license};
 pub use crate::sums::{Sums, summary_of};
