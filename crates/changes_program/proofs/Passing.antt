@@ -21,7 +21,7 @@ use Rattle.package_changes.specs.declared.change.LicenseChange.{LicenseChange}
 use Rattle.package_changes.specs.declared.change.LicenseChange.TheVariants as change
 use Rattle.package_changes.specs.Changing.{IsLicenseChange}
 use Rattle.package_changes.specs.Rows.{ChangeRow, Row, came, stayed, went}
-use Rattle.package_changes.specs.declared.forms.Form.{Form}
+use Rattle.package_changes.specs.declared.forms.Format.{Format}
 use Rattle.package_changes.specs.declared.tellings.Telling.{Telling}
 use Rattle.gate_program.specs.Policy.{IsPolicyAt}
 use Rattle.gate_program.specs.Run.{IsAllowed}
@@ -121,12 +121,12 @@ the_policy : (s : Shelved) (heirs : List ℕ) (c : Rows) (path : List ℕ) (o : 
 the_policy s heirs c path None h = absurd h
 the_policy s heirs c path (Some p) h = (p, refl, h)
 
-the_files : (c : Rows) (p : Option Rules) (form : Form) (files : List Listed) (t : Told) → IsToldOfBoth c p form files (Some t)
-    → (f : Listed) × (g : Listed) × (files ≡ f ∷ g ∷ []) × IsTold c p form f.packages.items g.packages.items t
-the_files c p form [] t e = absurd (none-some t (sym e))
-the_files c p form (f ∷ []) t e = absurd (none-some t (sym e))
-the_files c p form (f ∷ g ∷ []) t is = (f, g, refl, is)
-the_files c p form (f ∷ g ∷ h ∷ more) t e = absurd (none-some t (sym e))
+the_files : (c : Rows) (p : Option Rules) (format : Format) (files : List Listed) (t : Told) → IsToldOfBoth c p format files (Some t)
+    → (f : Listed) × (g : Listed) × (files ≡ f ∷ g ∷ []) × IsTold c p format f.packages.items g.packages.items t
+the_files c p format [] t e = absurd (none-some t (sym e))
+the_files c p format (f ∷ []) t e = absurd (none-some t (sym e))
+the_files c p format (f ∷ g ∷ []) t is = (f, g, refl, is)
+the_files c p format (f ∷ g ∷ h ∷ more) t e = absurd (none-some t (sym e))
 
 pub new_ones_pass : (s : Shelved) (inside : InsideBytes) (heirs : List ℕ) (a : Request) (run : Run)
     → IsRun s inside heirs a run → status_of run < 1 → (path : List ℕ) → option_copied a.policy ≡ Some path → NewOnesPass s inside heirs a path
@@ -134,9 +134,9 @@ new_ones_pass s inside heirs a run is lt path named =
     let c = is.catalogue in
     let policy = the_policy s heirs c path is.policy (subst (λ (o : Option (List ℕ)). IsPolicyIf s heirs c o is.policy) named is.policy_is) in
     let told = told_zero run.told lt in
-    let both = the_files c is.policy a.form run.files.items told.0 (subst (λ (o : Option Told). IsToldOfBoth c is.policy a.form run.files.items o) told.1 is.runs.tells) in
-    let is_told : IsTold c (Some policy.0) a.form both.0.packages.items both.1.packages.items told.0 =
-    subst (λ (o : Option Rules). IsTold c o a.form both.0.packages.items both.1.packages.items told.0) policy.1 both.3 in
+    let both = the_files c is.policy a.format run.files.items told.0 (subst (λ (o : Option Told). IsToldOfBoth c is.policy a.format run.files.items o) told.1 is.runs.tells) in
+    let is_told : IsTold c (Some policy.0) a.format both.0.packages.items both.1.packages.items told.0 =
+    subst (λ (o : Option Rules). IsTold c o a.format both.0.packages.items both.1.packages.items told.0) policy.1 both.3 in
     let each = both_listed s a.wanted a.old.now a.new.now both.0 both.1 run.left_out.items
     (subst (λ (files : List Listed). AreListed s a.wanted (a.old.now ∷ a.new.now ∷ []) files run.left_out.items) both.2 is.runs.reads) in
     record {

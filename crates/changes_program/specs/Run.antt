@@ -18,7 +18,7 @@ use Rattle.gate_program.specs.Policy.{IsNoPolicyAt, IsPolicyAt}
 use Rattle.gate_program.specs.Run.{IsAllowed}
 use Rattle.package_changes.specs.Rows.{ChangeRow, Row, came, stayed, went}
 use Rattle.package_changes.specs.Pairing.{changes}
-use Rattle.package_changes.specs.declared.forms.Form.{Form}
+use Rattle.package_changes.specs.declared.forms.Format.{Format}
 use Rattle.package_changes.specs.declared.tellings.How.{How}
 use Rattle.package_changes.specs.declared.tellings.How.TheVariants as how
 use Rattle.package_changes.specs.declared.tellings.Telling.{Telling}
@@ -73,24 +73,24 @@ totals_of before after ts = record {
 -- ---- what is told
 
 -- the changes between the packages of both files, each told with the mark of the policy
-pub record IsTold (c : Rows) (p : Option Rules) (form : Form) (older newer : List Package)
+pub record IsTold (c : Rows) (p : Option Rules) (format : Format) (older newer : List Package)
     (told : Told) : Type 0 where
   pub said : List SaidRow
   pub tellings : List Telling
   pub says : AreSaid c (changes (map row_in older) (map row_in newer)) said
   pub tells : AreTold c p said tellings
-  pub text_is : told.text.items ≡ changes_text form tellings
+  pub text_is : told.text.items ≡ changes_text format tellings
   pub totals_are : told.totals ≡ totals_of (length older) (length newer) tellings
   pub refused_is : told.is_refused ≡ list_any is_refused tellings
 
 -- of two files it is told; where one is left out, nothing is
-abbrev pub IsToldOfBoth : Rows → Option Rules → Form → List Listed → Option Told → Type 0
-IsToldOfBoth c p form (older ∷ newer ∷ []) None = ⊥
-IsToldOfBoth c p form (older ∷ newer ∷ []) (Some told) =
-    IsTold c p form older.packages.items newer.packages.items told
-IsToldOfBoth c p form [] told = told ≡ None
-IsToldOfBoth c p form (f ∷ []) told = told ≡ None
-IsToldOfBoth c p form (f ∷ g ∷ h ∷ more) told = told ≡ None
+abbrev pub IsToldOfBoth : Rows → Option Rules → Format → List Listed → Option Told → Type 0
+IsToldOfBoth c p format (older ∷ newer ∷ []) None = ⊥
+IsToldOfBoth c p format (older ∷ newer ∷ []) (Some told) =
+    IsTold c p format older.packages.items newer.packages.items told
+IsToldOfBoth c p format [] told = told ≡ None
+IsToldOfBoth c p format (f ∷ []) told = told ≡ None
+IsToldOfBoth c p format (f ∷ g ∷ h ∷ more) told = told ≡ None
 
 -- ---- a run
 
@@ -99,7 +99,7 @@ pub record IsRunOver (s : Shelved) (c : Rows) (p : Option Rules) (a : Request)
     (run : Run) : Type 0 where
   pub reads :
       AreListed s a.wanted (a.old.now ∷ a.new.now ∷ []) run.files.items run.left_out.items
-  pub tells : IsToldOfBoth c p a.form run.files.items run.told
+  pub tells : IsToldOfBoth c p a.format run.files.items run.told
 
 -- the policy at the path, where one is named
 abbrev pub IsPolicyIf : Shelved → List ℕ → Rows → Option (List ℕ) → Option Rules → Type 0

@@ -21,7 +21,7 @@ use crate::said::said_of;
 use crate::tellings::told_of;
 use gate_program::{GateTrouble, PolicyTrouble, policy_at};
 use list_program::{Inside, named_list};
-use package_changes::{Form, How, Telling, changes_between, put_changes};
+use package_changes::{Format, How, Telling, changes_between, put_changes};
 use package_files::{AllListed, FileFault, Listed, Wanted, all_listed_at};
 use package_sources::Package;
 use shelves::Shelf;
@@ -42,7 +42,7 @@ pub struct Request<'a> {
     pub old: &'a str,
     /// The path of the newer file.
     pub new: &'a str,
-    pub form: Form,
+    pub format: Format,
 }
 
 /// What comes of a run.
@@ -152,7 +152,7 @@ fn run_over<S: Shelf>(
 {
     let paths = [request.old, request.new];
     let all = all_listed_at(alloc, shelf, request.wanted, &paths)?;
-    let told = told_of_both(alloc, catalogue, policy, request.form, &all.files)?;
+    let told = told_of_both(alloc, catalogue, policy, request.format, &all.files)?;
     let AllListed { files, left_out } = all;
     Ok(Run {
         files,
@@ -166,10 +166,10 @@ fn told_of_both(
     alloc: Global,
     catalogue: &Catalogue,
     policy: &Option<Policy<'_>>,
-    form: Form,
+    format: Format,
     files: &[Listed],
 ) -> Result<Option<Told>, AllocError>
-    ensures { IfOk result (IsToldOfBoth catalogue.now policy.now form files.now) }
+    ensures { IfOk result (IsToldOfBoth catalogue.now policy.now format files.now) }
 {
     let [older, newer] = files else {
         return Ok(None);
@@ -178,7 +178,7 @@ fn told_of_both(
         alloc,
         catalogue,
         policy,
-        form,
+        format,
         &older.packages,
         &newer.packages,
     )?;
@@ -189,11 +189,11 @@ fn told_between(
     alloc: Global,
     catalogue: &Catalogue,
     policy: &Option<Policy<'_>>,
-    form: Form,
+    format: Format,
     older: &[Package],
     newer: &[Package],
 ) -> Result<Told, AllocError>
-    ensures { IfOk result (IsTold catalogue.now policy.now form older.now newer.now) }
+    ensures { IfOk result (IsTold catalogue.now policy.now format older.now newer.now) }
 {
     let before = packages_of(alloc, older)?;
     let now = packages_of(alloc, newer)?;
@@ -201,7 +201,7 @@ fn told_between(
     let said = said_of(alloc, catalogue, &changes)?;
     let tellings = told_of(alloc, catalogue, policy, &said)?;
     let mut text = Vec::new(alloc);
-    put_changes(alloc, &mut text, form, &tellings)?;
+    put_changes(alloc, &mut text, format, &tellings)?;
     Ok(Told {
         text,
         totals: totals_of(older.len(), newer.len(), &tellings),

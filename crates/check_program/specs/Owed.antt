@@ -2,7 +2,7 @@
 -- a license.
 use Rattle.std.specs.Prelude.{◌≡◌, ℕ, Bool, true, false, List, [], ◌∷◌, ◌++◌, Option, Some, None, codes, flat_map, length, map, string_bytes}
 use Rattle.std.specs.Path.{path_file_name}
-use Rattle.finding_forms.specs.declared.forms.Form.{Form}
+use Rattle.finding_forms.specs.declared.forms.Format.{Format}
 use Rattle.finding_forms.specs.Finding.{Told, nothing, seen_alone}
 use Rattle.finding_forms.specs.Forms.{finding_text}
 use Rattle.notice_texts.specs.Lacking.{has_text, is_among, is_needed, missing, unused}
@@ -85,13 +85,13 @@ told_whole w = record {
   seen = seen_alone 1 1 w.name 0 (length w.name);
 }
 
-abbrev pub whole_text : Form → Bool → Whole → List ℕ
-whole_text form is_first w = finding_text form is_first (told_whole w)
+abbrev pub whole_text : Format → Bool → Whole → List ℕ
+whole_text format is_first w = finding_text format is_first (told_whole w)
 
-abbrev pub others_text : Form → List Whole → List ℕ
-others_text form ws = flat_map (whole_text form false) ws
+abbrev pub others_text : Format → List Whole → List ℕ
+others_text format ws = flat_map (whole_text format false) ws
 
 -- the first of them may be the first finding at all
-abbrev pub wholes_text : Form → Bool → List Whole → List ℕ
-wholes_text form is_first [] = []
-wholes_text form is_first (w ∷ ws) = whole_text form is_first w ++ others_text form ws
+abbrev pub wholes_text : Format → Bool → List Whole → List ℕ
+wholes_text format is_first [] = []
+wholes_text format is_first (w ∷ ws) = whole_text format is_first w ++ others_text format ws

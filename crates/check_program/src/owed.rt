@@ -5,7 +5,7 @@ ghost use Rattle.notice_texts.specs.Lacking.{missing, unused};
 ghost use Rattle.check_program.specs.Owed as spec;
 ghost use Rattle.check_program.specs.Owed.{TellsAll, whole_of, whole_names, wholes_text};
 
-use finding_forms::{Finding, Form, Help, Place, put_finding};
+use finding_forms::{Finding, Format, Help, Place, put_finding};
 use notice_texts::owed_texts;
 use std::alloc::{AllocError, Global};
 use std::path::Path;
@@ -171,31 +171,31 @@ fn unused_text(alloc: Global, folder: &str, name: &str) -> Result<Whole, AllocEr
 pub fn put_wholes(
     alloc: Global,
     text: &mut Vec<u8>,
-    form: Form,
+    format: Format,
     is_first: bool,
     wholes: &[Whole],
 ) -> Result<(), AllocError>
     ensures { OnOk result (text.new.items ≡ text.old.items
-        ++ wholes_text form is_first (map whole_of wholes.now)) }
+        ++ wholes_text format is_first (map whole_of wholes.now)) }
 {
     let [first, others @ ..] = wholes else {
         return Ok(());
     };
-    put_whole(alloc, text, form, is_first, first)?;
-    put_others(alloc, text, form, others)
+    put_whole(alloc, text, format, is_first, first)?;
+    put_others(alloc, text, format, others)
 }
 
 fn put_others(
     alloc: Global,
     text: &mut Vec<u8>,
-    form: Form,
+    format: Format,
     wholes: &[Whole],
 ) -> Result<(), AllocError>
     ensures { OnOk result (text.new.items ≡ text.old.items
-        ++ spec.others_text form (map whole_of wholes.now)) }
+        ++ spec.others_text format (map whole_of wholes.now)) }
 {
     for whole in wholes {
-        put_whole(alloc, text, form, false, whole)?;
+        put_whole(alloc, text, format, false, whole)?;
     }
     Ok(())
 }
@@ -203,12 +203,12 @@ fn put_others(
 fn put_whole(
     alloc: Global,
     text: &mut Vec<u8>,
-    form: Form,
+    format: Format,
     is_first: bool,
     whole: &Whole,
 ) -> Result<(), AllocError>
     ensures { OnOk result (text.new.items ≡ text.old.items
-        ++ spec.whole_text form is_first (whole_of whole.now)) }
+        ++ spec.whole_text format is_first (whole_of whole.now)) }
 {
     let finding = Finding {
         place: Place {
@@ -223,5 +223,5 @@ fn put_whole(
         help: Help::Nothing,
         sight: None,
     };
-    put_finding(alloc, text, form, is_first, &finding)
+    put_finding(alloc, text, format, is_first, &finding)
 }

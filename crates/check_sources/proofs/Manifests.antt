@@ -19,7 +19,7 @@ module _ (check : Check) (is_first : Bool) (form : Form) (source : Source) {E : 
   declared sites ordered ws (Err none) are order e h = tt
 
   pub none : (fault : Fault) (r : Result held.Findings E) → IsReason source.bytes fault.reason →
-      IfOk r (λ f. f.text.items ≡ finding_text check.form is_first (told_of_file source fault)) → IfOk r (λ f. f.summary ≡ record { lines = 1; refused = 1 }) →
+      IfOk r (λ f. f.text.items ≡ finding_text check.format is_first (told_of_file source fault)) → IfOk r (λ f. f.summary ≡ record { lines = 1; refused = 1 }) →
       IfOk r (λ f. ChecksManifest check is_first form source f.text.items f.summary)
   none fault (Ok f) is text summary = is_none fault is text summary
   none fault (Err nothing) is text summary = tt

@@ -94,6 +94,6 @@ pub data ChecksManifest (check : Check) (is_first : Bool) (form : Form) (source 
       ChecksWritten (check_in form check) is_first source (map declared_at ordered) text summary →
       ChecksManifest check is_first form source text summary
   is_none : (fault : Fault) → IsReason source.bytes fault.reason →
-      text ≡ finding_text check.form is_first (told_of_file source fault) →
+      text ≡ finding_text check.format is_first (told_of_file source fault) →
       summary ≡ record { lines = 1; refused = 1 } →
       ChecksManifest check is_first form source text summary

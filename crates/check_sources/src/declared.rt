@@ -120,7 +120,7 @@ fn fault_found(
     fault: Fault,
 ) -> Result<Findings, AllocError>
     ensures text { IfOk result (λ found. found.text.items ≡
-        finding_text check.now.form is_first (told_of_file (source_of source.entry) fault)) }
+        finding_text check.now.format is_first (told_of_file (source_of source.entry) fault)) }
     ensures summary { IfOk result (λ found. found.summary ≡
         record { lines = 1; refused = 1 }) }
 {
@@ -134,7 +134,7 @@ fn fault_found(
     };
     let finding = finding_of_file(place, reason_text(fault.reason), shown.sight());
     let mut text = Vec::new(alloc);
-    put_finding(alloc, &mut text, check.form, is_first, &finding)?;
+    put_finding(alloc, &mut text, check.format, is_first, &finding)?;
     Ok(Findings {
         text,
         summary: Summary {

@@ -102,7 +102,7 @@ pub(crate) fn put_written<'f>(
 ) -> Result<bool, AllocError>
     requires { cursor.old.bytes.now ≡ source.bytes.now }
     ensures text { IfOk result (λ _. text.new.items ≡ text.old.items ++
-        found_text check.now.form is_first (source_of source.entry) (stood written.entry)
+        found_text check.now.format is_first (source_of source.entry) (stood written.entry)
         (finding_of check.now.catalogue.now (heirs_in check.now) check.now.mode
         written.entry.text.now)) }
     ensures refuses { IfOk result (λ is_refused. is_refused ≡ is_some
@@ -121,6 +121,6 @@ pub(crate) fn put_written<'f>(
     };
     let shown = shown_part(alloc, *cursor, written.marked(source.bytes, &refusal))?;
     let finding = refusal.finding(place, Some(shown.sight()));
-    put_finding(alloc, text, check.form, is_first, &finding)?;
+    put_finding(alloc, text, check.format, is_first, &finding)?;
     Ok(true)
 }

@@ -2,8 +2,8 @@
 use Rattle.std.specs.Prelude.{◌≡◌, ℕ, List, [], ◌∷◌, ◌++◌, Bool, if◌then◌else◌, codes, decimal}
 use Rattle.foreign_text.specs.declared.sinks.Sink.TheVariants.{Line, Command, Property}
 use Rattle.finding_forms.specs.declared.forms.Style.{Style}
-use Rattle.finding_forms.specs.declared.forms.Form.{Form}
-use Rattle.finding_forms.specs.declared.forms.Form.TheVariants.{Human, Short, Json, Github, Sarif}
+use Rattle.finding_forms.specs.declared.forms.Format.{Format}
+use Rattle.finding_forms.specs.declared.forms.Format.TheVariants.{Human, Short, Json, Github, Sarif}
 use Rattle.foreign_text.specs.Written.{text_for}
 use Rattle.finding_forms.specs.Finding.{Aid, Seen, Told}
 use Rattle.finding_forms.specs.Excerpt.{carets_under, excerpt_line}
@@ -64,7 +64,7 @@ github_text t =
 -- ---- any form
 
 -- what stands before all findings
-abbrev pub beginning : Form → List ℕ → List ℕ
+abbrev pub beginning : Format → List ℕ → List ℕ
 beginning (Human style) version = []
 beginning Short version = []
 beginning Json version = []
@@ -72,7 +72,7 @@ beginning Github version = []
 beginning Sarif version = sarif_beginning version
 
 -- a finding, which may be the first
-abbrev pub finding_text : Form → Bool → Told → List ℕ
+abbrev pub finding_text : Format → Bool → Told → List ℕ
 finding_text (Human style) is_first t = human_text style t
 finding_text Short is_first t = short_text t
 finding_text Json is_first t = json_line t
@@ -80,7 +80,7 @@ finding_text Github is_first t = github_text t
 finding_text Sarif is_first t = (if is_first then [] else 44 ∷ []) ++ sarif_result t
 
 -- what stands behind all findings
-abbrev pub ending : Form → List ℕ
+abbrev pub ending : Format → List ℕ
 ending (Human style) = []
 ending Short = []
 ending Json = []

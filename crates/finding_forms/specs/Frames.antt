@@ -3,8 +3,8 @@
 use Rattle.std.specs.Prelude.{◌≡◌, ℕ, List, [], ◌∷◌, ◌++◌, Bool, true, false, codes, decimal, string_bytes}
 use Rattle.foreign_text.specs.declared.sinks.Sink.TheVariants.{Line}
 use Rattle.finding_forms.specs.declared.forms.Style.{Style}
-use Rattle.finding_forms.specs.declared.forms.Form.{Form}
-use Rattle.finding_forms.specs.declared.forms.Form.TheVariants.{Human, Short, Json, Github, Sarif}
+use Rattle.finding_forms.specs.declared.forms.Format.{Format}
+use Rattle.finding_forms.specs.declared.forms.Format.TheVariants.{Human, Short, Json, Github, Sarif}
 use Rattle.finding_forms.specs.declared.text.frames.Frame.{Frame}
 use Rattle.foreign_text.specs.Written.{text_for}
 use Rattle.finding_forms.specs.Finding.{Told}
@@ -22,12 +22,12 @@ abbrev pub framed : Frame → ℕ → List ℕ
 framed frame line = string_bytes frame.before ++ (decimal line ++ string_bytes frame.behind)
 
 -- with the number of any line in it the frame is the finding's text in that line
-abbrev pub IsFrame : Form → Told → Frame → Type 0
-IsFrame form t frame =
-    (is_first : Bool) (line : ℕ) → finding_text form is_first (on_line t line) ≡ framed frame line
+abbrev pub IsFrame : Format → Told → Frame → Type 0
+IsFrame format t frame =
+    (is_first : Bool) (line : ℕ) → finding_text format is_first (on_line t line) ≡ framed frame line
 
 -- the forms whose findings have a frame
-abbrev pub has_frame : Form → Bool
+abbrev pub has_frame : Format → Bool
 has_frame (Human style) = true
 has_frame Short = true
 has_frame Json = false

@@ -18,9 +18,9 @@ pub enum Style {
     Coloured,
 }
 
-/// In which form findings are written.
+/// How findings are written.
 #[derive(Clone, Copy, PartialEq, Eq, Debug)]
-pub enum Form {
+pub enum Format {
     /// The place and the reason, the expression, carets under the fault, and what helps.
     Human(Style),
     /// A line for each finding.
@@ -41,15 +41,15 @@ pub enum Form {
 pub fn put_beginning(
     alloc: Global,
     text: &mut Vec<u8>,
-    form: Form,
+    format: Format,
     version: &str,
 ) -> Result<(), AllocError>
-    ensures ok { OnOk result (text.new.items ≡ text.old.items ++ beginning form version.now) }
+    ensures ok { OnOk result (text.new.items ≡ text.old.items ++ beginning format version.now) }
     ensures err { OnErr result (text.new.items ≡ text.old.items) }
 {
-    match form {
-        Form::Human(_) | Form::Short | Form::Json | Form::Github => Ok(()),
-        Form::Sarif => put_sarif_beginning(alloc, text, version),
+    match format {
+        Format::Human(_) | Format::Short | Format::Json | Format::Github => Ok(()),
+        Format::Sarif => put_sarif_beginning(alloc, text, version),
     }
 }
 
@@ -61,20 +61,20 @@ pub fn put_beginning(
 pub fn put_finding(
     alloc: Global,
     text: &mut Vec<u8>,
-    form: Form,
+    format: Format,
     is_first: bool,
     finding: &Finding<'_>,
 ) -> Result<(), AllocError>
     ensures ok { OnOk result (
-        text.new.items ≡ text.old.items ++ finding_text form is_first (told finding.now)) }
+        text.new.items ≡ text.old.items ++ finding_text format is_first (told finding.now)) }
     ensures err { OnErr result (text.new.items ≡ text.old.items) }
 {
-    match form {
-        Form::Human(style) => put_human(alloc, text, style, finding),
-        Form::Short => put_short(alloc, text, finding),
-        Form::Json => put_json(alloc, text, finding),
-        Form::Github => put_github(alloc, text, finding),
-        Form::Sarif => put_sarif_result(alloc, text, is_first, finding),
+    match format {
+        Format::Human(style) => put_human(alloc, text, style, finding),
+        Format::Short => put_short(alloc, text, finding),
+        Format::Json => put_json(alloc, text, finding),
+        Format::Github => put_github(alloc, text, finding),
+        Format::Sarif => put_sarif_result(alloc, text, is_first, finding),
     }
 }
 
@@ -83,12 +83,12 @@ pub fn put_finding(
 /// # Errors
 ///
 /// Memory was refused, and the text is as it was.
-pub fn put_ending(text: &mut Vec<u8>, form: Form) -> Result<(), AllocError>
-    ensures ok { OnOk result (text.new.items ≡ text.old.items ++ ending form) }
+pub fn put_ending(text: &mut Vec<u8>, format: Format) -> Result<(), AllocError>
+    ensures ok { OnOk result (text.new.items ≡ text.old.items ++ ending format) }
     ensures err { OnErr result (text.new.items ≡ text.old.items) }
 {
-    match form {
-        Form::Human(_) | Form::Short | Form::Json | Form::Github => Ok(()),
-        Form::Sarif => put_sarif_ending(text),
+    match format {
+        Format::Human(_) | Format::Short | Format::Json | Format::Github => Ok(()),
+        Format::Sarif => put_sarif_ending(text),
     }
 }

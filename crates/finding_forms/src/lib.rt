@@ -12,7 +12,7 @@ mod text;
 mod total_line;
 
 pub use findings::{Finding, Help, Place, Sight};
-pub use forms::{Form, Style, put_beginning, put_ending, put_finding};
+pub use forms::{Format, Style, put_beginning, put_ending, put_finding};
 pub use json_form::put_json;
 pub use sarif_form::{put_sarif_beginning, put_sarif_ending, put_sarif_result};
 pub use text::carets::put_human;

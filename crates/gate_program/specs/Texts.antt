@@ -12,8 +12,8 @@ use Rattle.gate_forms.specs.Report.{is_refused}
 use Rattle.gate_forms.specs.Summary.{summary_text}
 use Rattle.gate_forms.specs.Totals.{unused_text}
 use Rattle.gate_told.specs.Borrowed.{borrowed}
-use Rattle.gate_told.specs.declared.forms.Form.{Form}
-use Rattle.gate_told.specs.declared.forms.Form.TheVariants.{Human, Short, Json, Github, Sarif, Html}
+use Rattle.gate_told.specs.declared.forms.Format.{Format}
+use Rattle.gate_told.specs.declared.forms.Format.TheVariants.{Human, Short, Json, Github, Sarif, Html}
 use Rattle.gate_told.specs.Needs.{summary_of}
 use Rattle.gate_told.specs.Totals.{totals_of}
 use Rattle.gate_told.specs.Unused.{unused_of}
@@ -25,7 +25,7 @@ use Rattle.gate_program.specs.Gated.{known_in, older_in}
 use Rattle.gate_program.specs.Told.{IsToldOf}
 
 -- the forms that people read in lines
-abbrev pub is_for_people : Form → Bool
+abbrev pub is_for_people : Format → Bool
 is_for_people (Human style) = true
 is_for_people Short = true
 is_for_people Json = false
@@ -33,7 +33,7 @@ is_for_people Github = false
 is_for_people (Sarif version) = false
 is_for_people Html = false
 
-abbrev pub is_human : Form → Bool
+abbrev pub is_human : Format → Bool
 is_human (Human style) = true
 is_human Short = false
 is_human Json = false
@@ -42,32 +42,32 @@ is_human (Sarif version) = false
 is_human Html = false
 
 -- the refusals that are known from the older file
-abbrev pub known_part : Form → List ℕ → List forms.Report → List ℕ
-known_part form older told = if is_for_people form then known_text older told else []
+abbrev pub known_part : Format → List ℕ → List forms.Report → List ℕ
+known_part format older told = if is_for_people format then known_text older told else []
 
 -- what would make the packages pass, where they are few enough
-abbrev pub needs_part : Form → Report → List ℕ
-needs_part form report =
-    if is_human form && are_gathered (totals_of report) then summary_text (summary_of report)
+abbrev pub needs_part : Format → Report → List ℕ
+needs_part format report =
+    if is_human format && are_gathered (totals_of report) then summary_text (summary_of report)
     else []
 
-abbrev pub behind_by : Form → Option (List ℕ) → Report → List forms.Report → List ℕ
-behind_by form None report told = needs_part form report
-behind_by form (Some older) report told = known_part form older told
+abbrev pub behind_by : Format → Option (List ℕ) → Report → List forms.Report → List ℕ
+behind_by format None report told = needs_part format report
+behind_by format (Some older) report told = known_part format older told
 
-abbrev pub behind_verdicts : Form → Gated → List forms.Report → List ℕ
-behind_verdicts form gated told = behind_by form (older_in gated) gated.report told
+abbrev pub behind_verdicts : Format → Gated → List forms.Report → List ℕ
+behind_verdicts format gated told = behind_by format (older_in gated) gated.report told
 
 -- what of the policy is of no use, where that is asked for
 abbrev pub unused_part : Look → Rules → List ℕ → Report → List ℕ
 unused_part look p path report =
-    if look.tells_unused && is_for_people look.form
+    if look.tells_unused && is_for_people look.format
     then unused_text path (map borrowed (unused_of p report)) else []
 
 abbrev pub verdicts_part : Look → Rules → List ℕ → Gated → List forms.Report → List ℕ
 verdicts_part look p path gated told =
-    verdicts_text look.form path (totals_of gated.report) told ++
-    (behind_verdicts look.form gated told ++ unused_part look p path gated.report)
+    verdicts_text look.format path (totals_of gated.report) told ++
+    (behind_verdicts look.format gated told ++ unused_part look p path gated.report)
 
 -- the packages of a name are explained, or all verdicts told
 abbrev pub told_by : Option (List ℕ) → Look → Rules → List ℕ → Gated → List forms.Report →

@@ -10,7 +10,7 @@ use crate::tellings::{details_of, shown_of};
 use finding_forms::Style;
 use gate_forms::{Report as Told, put_known};
 use gate_told::{
-    Form, are_gathered, put_all_unused, put_explanations, put_needs, put_verdicts, told_packages,
+    Format, are_gathered, put_all_unused, put_explanations, put_needs, put_verdicts, told_packages,
     told_totals,
 };
 use spdx_catalogue::Catalogue;
@@ -22,7 +22,7 @@ use std::alloc::{AllocError, Global};
 #[derive(Clone, Copy)]
 pub struct Look<'e> {
     /// The form of the verdicts.
-    pub form: Form<'e>,
+    pub format: Format<'e>,
     /// The style in which packages are explained.
     pub style: Style,
     /// The name of the packages that are explained, in the place of all verdicts.
@@ -102,9 +102,9 @@ fn put_told(
         return put_explanations(alloc, text, look.style, name, told);
     }
     let totals = told_totals(&gated.report);
-    put_verdicts(alloc, text, look.form, path, &totals, told)?;
-    put_behind(alloc, text, look.form, gated, told)?;
-    if look.tells_unused && is_for_people(look.form) {
+    put_verdicts(alloc, text, look.format, path, &totals, told)?;
+    put_behind(alloc, text, look.format, gated, told)?;
+    if look.tells_unused && is_for_people(look.format) {
         put_all_unused(alloc, text, path, policy, &gated.report)?;
     }
     Ok(())
@@ -114,30 +114,30 @@ fn put_told(
 fn put_behind(
     alloc: Global,
     text: &mut Vec<u8>,
-    form: Form<'_>,
+    format: Format<'_>,
     gated: &Gated<'_>,
     told: &[Told<'_>],
 ) -> Result<(), AllocError>
     ensures { OnOk result (text.new.items ≡ text.old.items
-        ++ behind_verdicts form.entry gated.now told.now) }
+        ++ behind_verdicts format.entry gated.now told.now) }
 {
     match gated.older_path() {
-        Some(older) => put_all_known(alloc, text, form, older, told),
-        None => put_all_needs(alloc, text, form, &gated.report),
+        Some(older) => put_all_known(alloc, text, format, older, told),
+        None => put_all_needs(alloc, text, format, &gated.report),
     }
 }
 
 fn put_all_known(
     alloc: Global,
     text: &mut Vec<u8>,
-    form: Form<'_>,
+    format: Format<'_>,
     older: &str,
     told: &[Told<'_>],
 ) -> Result<(), AllocError>
     ensures { OnOk result (text.new.items ≡ text.old.items
-        ++ spec.known_part form.entry older.now told.now) }
+        ++ spec.known_part format.entry older.now told.now) }
 {
-    if is_for_people(form) {
+    if is_for_people(format) {
         put_known(alloc, text, older, told)
     } else {
         Ok(())
@@ -147,13 +147,13 @@ fn put_all_known(
 fn put_all_needs(
     alloc: Global,
     text: &mut Vec<u8>,
-    form: Form<'_>,
+    format: Format<'_>,
     report: &Report<'_>,
 ) -> Result<(), AllocError>
     ensures { OnOk result (text.new.items ≡ text.old.items
-        ++ spec.needs_part form.entry report.now) }
+        ++ spec.needs_part format.entry report.now) }
 {
-    if is_human(form) && are_gathered(&told_totals(report)) {
+    if is_human(format) && are_gathered(&told_totals(report)) {
         put_needs(alloc, text, report)
     } else {
         Ok(())
@@ -161,14 +161,14 @@ fn put_all_needs(
 }
 
 // Whether people read it in lines.
-fn is_for_people(form: Form<'_>) -> bool
-    ensures { result ≡ spec.is_for_people form.entry }
+fn is_for_people(format: Format<'_>) -> bool
+    ensures { result ≡ spec.is_for_people format.entry }
 {
-    matches!(form, Form::Human(_) | Form::Short)
+    matches!(format, Format::Human(_) | Format::Short)
 }
 
-fn is_human(form: Form<'_>) -> bool
-    ensures { result ≡ spec.is_human form.entry }
+fn is_human(format: Format<'_>) -> bool
+    ensures { result ≡ spec.is_human format.entry }
 {
-    matches!(form, Form::Human(_))
+    matches!(format, Format::Human(_))
 }

@@ -14,8 +14,8 @@ use Rattle.gate_forms.specs.Lines.{github_line, github_text, short_line, short_t
 use Rattle.gate_forms.specs.Refusals.{also_line, is_same, refusals_from, refusals_text}
 use Rattle.gate_forms.specs.Sarif.{LogReadsBack, result_of}
 use Rattle.gate_forms.specs.Totals.{totals_text}
-use Rattle.gate_told.specs.declared.forms.Form.{Form}
-use Rattle.gate_told.specs.declared.forms.Form.TheVariants.{Human, Short, Json, Github, Sarif, Html}
+use Rattle.gate_told.specs.declared.forms.Format.{Format}
+use Rattle.gate_told.specs.declared.forms.Format.TheVariants.{Human, Short, Json, Github, Sarif, Html}
 use Rattle.gate_told.specs.Verdicts.{IsLog, are_gathered, explanations_text, is_any_named, is_any_refused, is_named, is_of_refusals, is_report_refused, log_line, new_of, people_text, refused_of, verdicts_text}
 
 first_false : (a b : Bool) → (a || b) ≡ false → a ≡ false
@@ -66,7 +66,7 @@ people_none style totals rs e =
     neither (are_gathered totals) (refusals_text style rs) (flat_map (human_text style) rs) (refusals_none style [] rs e)
     (nothing_of (human_text style) (λ r h. ap (λ (b : Bool). if b then refused_lines style r else []) h) rs e)
 
-pub passing : (form : Form) (policy : List ℕ) (totals : Totals) (rs : List Report) → is_of_refusals form ≡ true → is_any_refused rs ≡ false → verdicts_text form policy totals rs ≡ verdicts_text form policy totals []
+pub passing : (format : Format) (policy : List ℕ) (totals : Totals) (rs : List Report) → is_of_refusals format ≡ true → is_any_refused rs ≡ false → verdicts_text format policy totals rs ≡ verdicts_text format policy totals []
 passing (Human style) policy totals rs of e =
     ap (λ (bs : List ℕ). bs ++ totals_text totals) (people_none style totals (new_of rs) (new_none rs e) ∙ sym (people_none style totals [] refl))
 passing Short policy totals rs of e =

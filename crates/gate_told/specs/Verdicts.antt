@@ -16,8 +16,8 @@ use Rattle.gate_forms.specs.Refusals.{refusals_text}
 use Rattle.gate_forms.specs.Report.{is_refused}
 use Rattle.gate_forms.specs.Sarif.{result_of}
 use Rattle.gate_forms.specs.Totals.{totals_text}
-use Rattle.gate_told.specs.declared.forms.Form.{Form}
-use Rattle.gate_told.specs.declared.forms.Form.TheVariants.{Human, Short, Json, Github, Sarif, Html}
+use Rattle.gate_told.specs.declared.forms.Format.{Format}
+use Rattle.gate_told.specs.declared.forms.Format.TheVariants.{Human, Short, Json, Github, Sarif, Html}
 use Rattle.gate_told.specs.declared.forms.Line.{Line}
 use Rattle.gate_told.specs.declared.forms.Line.TheVariants as line
 
@@ -46,7 +46,7 @@ log_line version rs = log_text version (map result_of (refused_of rs)) ++ 10 ∷
 
 -- one behind the other; refusals that are known only for machines and on the page, totals only for
 -- people
-abbrev pub verdicts_text : Form → List ℕ → Totals → List Report → List ℕ
+abbrev pub verdicts_text : Format → List ℕ → Totals → List Report → List ℕ
 verdicts_text (Human style) policy totals rs =
     people_text style totals (new_of rs) ++ totals_text totals
 verdicts_text Short policy totals rs = flat_map short_text (new_of rs) ++ totals_text totals
@@ -61,7 +61,7 @@ abbrev pub is_any_refused : List Report → Bool
 is_any_refused rs = list_any is_report_refused rs
 
 -- the forms that tell of refused packages alone
-abbrev pub is_of_refusals : Form → Bool
+abbrev pub is_of_refusals : Format → Bool
 is_of_refusals (Human style) = true
 is_of_refusals Short = true
 is_of_refusals Json = true
@@ -75,7 +75,7 @@ IsLog version told rs =
     (log : List ℕ) × (told ≡ log ++ 10 ∷ []) ×
     (document log ≡ Some (log_of version (map result_of (refused_of rs))))
 
-abbrev pub IsLogOf : Form → List ℕ → List Report → Type 0
+abbrev pub IsLogOf : Format → List ℕ → List Report → Type 0
 IsLogOf (Sarif version) told rs = IsLog version.now told rs
 IsLogOf (Human style) told rs = Unit {0}
 IsLogOf Short told rs = Unit {0}

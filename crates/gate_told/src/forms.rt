@@ -38,7 +38,7 @@ pub fn are_gathered(totals: &Totals) -> bool
 
 /// How verdicts are written.
 #[derive(Clone, Copy)]
-pub enum Form<'v> {
+pub enum Format<'v> {
     /// The refusals as people read them, and the totals.
     Human(Style),
     /// A line for each refusal, and the totals.
@@ -77,51 +77,51 @@ pub(crate) enum Line {
 pub fn put_verdicts(
     alloc: Global,
     text: &mut Vec<u8>,
-    form: Form<'_>,
+    format: Format<'_>,
     policy: &str,
     totals: &Totals,
     reports: &[Report<'_>],
 ) -> Result<(), AllocError>
     ensures ok { OnOk result (text.new.items ≡ text.old.items
-        ++ verdicts_text form.entry policy.now totals.now reports.now) }
+        ++ verdicts_text format.entry policy.now totals.now reports.now) }
     ensures err { OnErr result (text.new.items ≡ text.old.items) }
-    ensures passed { is_of_refusals form.entry ≡ true → is_any_refused reports.now ≡ false →
-        verdicts_text form.entry policy.now totals.now reports.now
-        ≡ verdicts_text form.entry policy.now totals.now [] }
-    ensures log { OnOk result (IsLogOf form.entry
-        (verdicts_text form.entry policy.now totals.now reports.now) reports.now) }
+    ensures passed { is_of_refusals format.entry ≡ true → is_any_refused reports.now ≡ false →
+        verdicts_text format.entry policy.now totals.now reports.now
+        ≡ verdicts_text format.entry policy.now totals.now [] }
+    ensures log { OnOk result (IsLogOf format.entry
+        (verdicts_text format.entry policy.now totals.now reports.now) reports.now) }
 {
     let mut verdicts = Vec::new(alloc);
-    put_form(alloc, &mut verdicts, form, policy, totals, reports)?;
+    put_format(alloc, &mut verdicts, format, policy, totals, reports)?;
     text.extend_from_slice(verdicts.as_slice())
 }
 
-fn put_form(
+fn put_format(
     alloc: Global,
     text: &mut Vec<u8>,
-    form: Form<'_>,
+    format: Format<'_>,
     policy: &str,
     totals: &Totals,
     reports: &[Report<'_>],
 ) -> Result<(), AllocError>
     ensures ok { OnOk result (text.new.items ≡ text.old.items
-        ++ verdicts_text form.entry policy.now totals.now reports.now) }
-    ensures log { OnOk result (IsLogOf form.entry
-        (verdicts_text form.entry policy.now totals.now reports.now) reports.now) }
+        ++ verdicts_text format.entry policy.now totals.now reports.now) }
+    ensures log { OnOk result (IsLogOf format.entry
+        (verdicts_text format.entry policy.now totals.now reports.now) reports.now) }
 {
-    match form {
-        Form::Human(style) => {
+    match format {
+        Format::Human(style) => {
             put_people(alloc, text, style, totals, &new_among(alloc, reports)?)?;
             put_totals(alloc, text, totals)
         }
-        Form::Short => {
+        Format::Short => {
             put_lines(alloc, text, Line::Short, &new_among(alloc, reports)?)?;
             put_totals(alloc, text, totals)
         }
-        Form::Json => put_lines(alloc, text, Line::Json, reports),
-        Form::Github => put_lines(alloc, text, Line::Github, &new_among(alloc, reports)?),
-        Form::Sarif { version } => put_log(alloc, text, version, reports),
-        Form::Html => put_page(alloc, text, policy, totals, reports),
+        Format::Json => put_lines(alloc, text, Line::Json, reports),
+        Format::Github => put_lines(alloc, text, Line::Github, &new_among(alloc, reports)?),
+        Format::Sarif { version } => put_log(alloc, text, version, reports),
+        Format::Html => put_page(alloc, text, policy, totals, reports),
     }
 }
 

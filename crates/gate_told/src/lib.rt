@@ -25,7 +25,7 @@ mod unused;
 
 pub use crate::details::{Detail, told_verdict};
 pub use crate::entries::entry_text;
-pub use crate::forms::{Form, are_gathered, put_explanations, put_verdicts};
+pub use crate::forms::{Format, are_gathered, put_explanations, put_verdicts};
 pub use crate::needs::put_needs;
 pub use crate::packages::{NamedPackage, told_packages};
 pub use crate::shown::Shown;

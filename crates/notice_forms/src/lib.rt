@@ -27,7 +27,7 @@ pub use crate::errors::PageError;
 use crate::html::put_html;
 use crate::json_form::json_document;
 use crate::markdown::put_markdown;
-pub use crate::pages::{Form, LicenseText, Page};
+pub use crate::pages::{Format, LicenseText, Page};
 use crate::plain::put_plain;
 use std::alloc::Global;
 
@@ -50,36 +50,36 @@ use std::alloc::Global;
 pub fn put_page<'t>(
     alloc: Global,
     page: &mut Vec<u8>,
-    form: Form,
+    format: Format,
     shown: &Page<'_, 't>,
 ) -> Result<(), PageError<'t>>
-    ensures ok { OnOk result (page.new.items ≡ page.old.items ++ page_in form (told shown.now)) }
+    ensures ok { OnOk result (page.new.items ≡ page.old.items ++ page_in format (told shown.now)) }
     ensures err { OnErr result (page.new.items ≡ page.old.items) }
-    ensures refused { IfErr result (IsRefusal form (told shown.now)) }
+    ensures refused { IfErr result (IsRefusal format (told shown.now)) }
     ensures shown { IsShown (told shown.now) }
     ensures head { BeginsPlainly (html_page (told shown.now)) }
     ensures fenced { (text : List ℕ) → StaysFenced text }
-    ensures reads_back { OnOk result (form ≡ Form.Json →
+    ensures reads_back { OnOk result (format ≡ Format.Json →
         document (json_text (told shown.now)) ≡ Some (told_json (told shown.now))) }
     ensures names { NamesItsTexts (told shown.now) }
 {
-    let whole = page_of(alloc, form, shown)?;
+    let whole = page_of(alloc, format, shown)?;
     page.extend_from_slice(&whole)?;
     Ok(())
 }
 
-fn page_of<'t>(alloc: Global, form: Form, shown: &Page<'_, 't>) -> Result<Vec<u8>, PageError<'t>>
-    ensures ok { IfOk result (λ whole. whole.items ≡ page_in form (told shown.now)) }
-    ensures refused { IfErr result (IsRefusal form (told shown.now)) }
-    ensures reads_back { IfOk result (λ whole. form ≡ Form.Json →
+fn page_of<'t>(alloc: Global, format: Format, shown: &Page<'_, 't>) -> Result<Vec<u8>, PageError<'t>>
+    ensures ok { IfOk result (λ whole. whole.items ≡ page_in format (told shown.now)) }
+    ensures refused { IfErr result (IsRefusal format (told shown.now)) }
+    ensures reads_back { IfOk result (λ whole. format ≡ Format.Json →
         document (json_text (told shown.now)) ≡ Some (told_json (told shown.now))) }
 {
     let mut whole = Vec::new(alloc);
-    match form {
-        Form::Text => put_plain(alloc, &mut whole, shown)?,
-        Form::Markdown => put_markdown(alloc, &mut whole, shown)?,
-        Form::Html => put_html(alloc, &mut whole, shown)?,
-        Form::Json => return json_document(alloc, shown),
+    match format {
+        Format::Text => put_plain(alloc, &mut whole, shown)?,
+        Format::Markdown => put_markdown(alloc, &mut whole, shown)?,
+        Format::Html => put_html(alloc, &mut whole, shown)?,
+        Format::Json => return json_document(alloc, shown),
     }
     Ok(whole)
 }

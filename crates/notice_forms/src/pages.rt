@@ -23,9 +23,9 @@ pub struct Page<'r, 't> {
     pub texts: &'r [LicenseText<'r, 't>],
 }
 
-/// In which form a page is written.
+/// How a page is written.
 #[derive(Clone, Copy, PartialEq, Eq, Debug)]
-pub enum Form {
+pub enum Format {
     Text,
     Markdown,
     /// One file, which loads nothing and runs no script.

@@ -9,8 +9,8 @@ use Rattle.license_notice.specs.Once.{AreOnce}
 use Rattle.license_notice.specs.Places.{AreByPackage}
 use Rattle.license_notice.specs.Rows.{Band, Line, Row, all_rows, row_cmp, text_cmp}
 use Rattle.license_notice.specs.Wanted.{chosen_rows}
-use Rattle.notice_forms.specs.declared.pages.Form.{Form}
-use Rattle.notice_forms.specs.declared.pages.Form.TheVariants.{Text, Markdown, Html, Json}
+use Rattle.notice_forms.specs.declared.pages.Format.{Format}
+use Rattle.notice_forms.specs.declared.pages.Format.TheVariants.{Text, Markdown, Html, Json}
 use Rattle.notice_forms.specs.Pages.{page_in}
 use Rattle.notice_forms.specs.Told.{Named, Told}
 use Rattle.notice_texts.specs.Shared.{EachStands, NothingElse, gathered}
@@ -102,23 +102,23 @@ pub record IsNotice (look : Look) (packages : List Package) (general : List Gene
   pub grouped : AreGroups packages bands
   pub by_package : AreByPackage bands turned
   pub texts_are : AreTexts look.marks_general packages (lacks_in packages) general own others
-  pub bytes_are : notice.bytes.items ≡ page_in look.form (told_of bands turned (own ++ others))
+  pub bytes_are : notice.bytes.items ≡ page_in look.format (told_of bands turned (own ++ others))
   pub missing_are : map seen_lack notice.missing.items ≡ missing general (lacks_in packages)
   pub totals_are : AreTotalsOf packages own others (missing general (lacks_in packages))
       notice.totals
 
 -- whether pages of the form are UTF-8
-abbrev pub is_utf8 : Form → Bool
+abbrev pub is_utf8 : Format → Bool
 is_utf8 Text = false
 is_utf8 Markdown = false
 is_utf8 Html = true
 is_utf8 Json = true
 
 -- memory was refused, or pages of the form are UTF-8 and a text of that name isn't
-abbrev pub IsPageFault : Form → List Named → NoticeFault → Type 0
-IsPageFault form texts Memory = ⊤
-IsPageFault form texts (NotUtf8 name) =
-    (is_utf8 form ≡ true)
+abbrev pub IsPageFault : Format → List Named → NoticeFault → Type 0
+IsPageFault format texts Memory = ⊤
+IsPageFault format texts (NotUtf8 name) =
+    (is_utf8 format ≡ true)
     × Any (λ (t : Named). (t.name ≡ string_bytes name) × (¬ (IsUtf8 t.bytes))) texts
 
 -- the same of a page of these packages
@@ -127,4 +127,4 @@ IsNoticeFault look packages general Memory = ⊤
 IsNoticeFault look packages general (NotUtf8 name) =
     (own : List Named) × (others : List Named) ×
     AreTexts look.marks_general packages (lacks_in packages) general own others ×
-    IsPageFault look.form (own ++ others) (NotUtf8 name)
+    IsPageFault look.format (own ++ others) (NotUtf8 name)

@@ -27,7 +27,7 @@ use crate::owns::all_owns;
 use crate::packages::Package;
 use crate::texts::{PageText, general_texts, own_texts, put_views, releases_in, used_of};
 use license_notice::{Group, Package as Noted, Release, each_once, notice_of, packages_in};
-use notice_forms::{Form, LicenseText, Page, PageError, put_page};
+use notice_forms::{Format, LicenseText, Page, PageError, put_page};
 use notice_texts::shared_texts;
 use std::alloc::{AllocError, Global};
 
@@ -37,7 +37,7 @@ pub const TITLE: &str = "Licences";
 /// How a page is written.
 #[derive(Clone, Copy, Debug)]
 pub struct Look {
-    pub form: Form,
+    pub format: Format,
     /// Whether it is said of general texts that they are general ones, and of which packages, as it is where packages have
     /// texts of their own.
     pub marks_general: bool,
@@ -113,7 +113,7 @@ pub fn notice_text<'t>(
     let texts = page_texts(alloc, look.marks_general, packages, &lacks, general)?;
     let groups = groups_of(alloc, packages)?;
     let turned = packages_in(alloc, &groups)?;
-    let bytes = page_bytes(alloc, look.form, &groups, &turned, &texts)?;
+    let bytes = page_bytes(alloc, look.format, &groups, &turned, &texts)?;
     let missing = missing_of(alloc, &lacks, general)?;
     let totals = totals_of(alloc, packages, &texts, &missing)?;
     Ok(NoticeText {
@@ -169,14 +169,14 @@ fn noted_of<'c, 't>(
 
 fn page_bytes<'s>(
     alloc: Global,
-    form: Form,
+    format: Format,
     groups: &[Group<'s>],
     packages: &[Release<'s>],
     texts: &'s PageTexts<'s>,
 ) -> Result<Vec<u8>, NoticeFault>
-    ensures ok { IfOk result (λ v. v.items ≡ page_in form (told_of (bands_of groups.now)
+    ensures ok { IfOk result (λ v. v.items ≡ page_in format (told_of (bands_of groups.now)
         (map line_of packages.now) (texts_in texts.now))) }
-    ensures err { IfErr result (IsPageFault form (texts_in texts.now)) }
+    ensures err { IfErr result (IsPageFault format (texts_in texts.now)) }
 {
     let views = views_of(alloc, texts)?;
     let shown = Page {
@@ -186,7 +186,7 @@ fn page_bytes<'s>(
         texts: &views,
     };
     let mut bytes = Vec::new(alloc);
-    match put_page(alloc, &mut bytes, form, &shown) {
+    match put_page(alloc, &mut bytes, format, &shown) {
         Ok(()) => Ok(bytes),
         Err(PageError::Memory) => Err(NoticeFault::Memory),
         Err(PageError::NotUtf8(name)) => {

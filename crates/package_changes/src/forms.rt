@@ -19,7 +19,7 @@ use std::alloc::{AllocError, Global};
 
 /// How the changes are written.
 #[derive(Clone, Copy, Debug, PartialEq, Eq)]
-pub enum Form {
+pub enum Format {
     /// A line for each.
     Text,
     /// One document, with a member `changes`.
@@ -37,30 +37,30 @@ pub enum Form {
 pub fn put_changes(
     alloc: Global,
     text: &mut Vec<u8>,
-    form: Form,
+    format: Format,
     tellings: &[Telling<'_>],
 ) -> Result<(), AllocError>
     ensures ok { OnOk result (text.new.items
-        ≡ text.old.items ++ changes_text form tellings.now) }
+        ≡ text.old.items ++ changes_text format tellings.now) }
     ensures err { OnErr result (text.new.items ≡ text.old.items) }
-    ensures reads_back { OnOk result (form ≡ Form.Json →
+    ensures reads_back { OnOk result (format ≡ Format.Json →
         document (json_text tellings.now) ≡ Some (json_of_all tellings.now)) }
     ensures inside { (t : List ℕ) → IsInside t }
 {
-    let written = written(alloc, form, tellings)?;
+    let written = written(alloc, format, tellings)?;
     text.extend_from_slice(written.as_slice())
 }
 
-fn written(alloc: Global, form: Form, tellings: &[Telling<'_>]) -> Result<Vec<u8>, AllocError>
-    ensures ok { IfOk result (λ text. text.items ≡ changes_text form tellings.now) }
-    ensures reads_back { IfOk result (λ text. form ≡ Form.Json →
+fn written(alloc: Global, format: Format, tellings: &[Telling<'_>]) -> Result<Vec<u8>, AllocError>
+    ensures ok { IfOk result (λ text. text.items ≡ changes_text format tellings.now) }
+    ensures reads_back { IfOk result (λ text. format ≡ Format.Json →
         document (json_text tellings.now) ≡ Some (json_of_all tellings.now)) }
 {
     let mut text = Vec::new(alloc);
-    match form {
-        Form::Text => put_lines(alloc, &mut text, tellings)?,
-        Form::Markdown => put_table(alloc, &mut text, tellings)?,
-        Form::Json => return json_document(alloc, tellings),
+    match format {
+        Format::Text => put_lines(alloc, &mut text, tellings)?,
+        Format::Markdown => put_table(alloc, &mut text, tellings)?,
+        Format::Json => return json_document(alloc, tellings),
     }
     Ok(text)
 }

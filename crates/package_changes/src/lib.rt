@@ -21,6 +21,6 @@ mod tellings;
 pub use crate::change::reading::Untold;
 pub use crate::change::{LicenseChange, license_change};
 pub use crate::changes::changes_between;
-pub use crate::forms::{Form, put_changes};
+pub use crate::forms::{Format, put_changes};
 pub use crate::package::{Change, Package};
 pub use crate::tellings::{How, Reason, Release, Telling};

@@ -5,7 +5,7 @@ use Rattle.std.specs.Char.{is_ascii_whitespace}
 use Rattle.package_items.specs.Rows.{Fault, PackageRow, row_of}
 use Rattle.package_sources.specs.declared.form.Form.{Form}
 use Rattle.package_sources.specs.declared.form.Form.TheVariants as form
-use Rattle.package_sources.specs.Guess.{form_of}
+use Rattle.package_sources.specs.Guess.{guessed_form}
 use Rattle.shelves.specs.Shelf.{Shelved}
 use Rattle.package_files.specs.declared.listed.Listed.{Listed}
 use Rattle.package_files.specs.declared.listed.Source.{Source}
@@ -63,7 +63,7 @@ source_for (Ok form.Verdicts) how = source.Auto
 source_for found how = how
 
 abbrev pub source_before : Source → List ℕ → Source
-source_before how bytes = source_for (form_of bytes) how
+source_before how bytes = source_for (guessed_form bytes) how
 
 -- an empty file, or one of blanks, lists none
 abbrev pub read_before : Source → List ℕ → List ℕ → Result (Option Form × List PackageRow) Fault

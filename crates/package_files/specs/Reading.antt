@@ -5,7 +5,7 @@ use Rattle.std.specs.Path.{rsplit_once}
 use Rattle.package_items.specs.Members.{on_ok}
 use Rattle.package_items.specs.Rows.{Fault, PackageRow}
 use Rattle.package_sources.specs.declared.form.Form.{Form}
-use Rattle.package_sources.specs.Guess.{form_of}
+use Rattle.package_sources.specs.Guess.{guessed_form}
 use Rattle.package_sources.specs.Sources.{packages, packages_at}
 use Rattle.package_files.specs.declared.listed.Source.{Source}
 use Rattle.package_files.specs.declared.listed.Source.TheVariants as source
@@ -22,7 +22,7 @@ read_as form path bytes =
 -- the same of the form that its shape tells, and that form
 abbrev pub read_by_shape : List ℕ → List ℕ → Result (Option Form × List PackageRow) Fault
 read_by_shape path bytes =
-    on_ok (form_of bytes) (λ form.
+    on_ok (guessed_form bytes) (λ form.
     on_ok (packages form (folder_of path) bytes) (λ rows. Ok (Some form, rows)))
 
 -- the packages of a file, as its source says that it is read; and the form, if the shape told it

@@ -26,7 +26,7 @@ ghost use Rattle.package_files.specs.Faults.{
 
 use crate::fault::FileFault;
 use crate::reading::read;
-use package_sources::{Form, Package, Pointers, SourceError, form_of};
+use package_sources::{Form, Package, Pointers, SourceError, guessed_form};
 use shelves::Shelf;
 use std::alloc::{AllocError, Global};
 
@@ -171,7 +171,7 @@ fn source_before<'w>(
 ) -> Result<Source<'w>, AllocError>
     ensures { IfOk result (λ found. found ≡ spec.source_before source.entry bytes.now) }
 {
-    match form_of(alloc, bytes) {
+    match guessed_form(alloc, bytes) {
         Ok(Form::Verdicts) => Ok(Source::Auto),
         Ok(_) | Err(SourceError::Refused(_)) => Ok(source),
         Err(SourceError::NoMemory) => Err(AllocError),

@@ -6,7 +6,7 @@ ghost use Rattle.package_items.specs.Rows.{Says, row_of};
 ghost use Rattle.package_files.specs.Reading as spec;
 
 use crate::listed::Source;
-use package_sources::{Form, Package, SourceError, form_of, packages, packages_at};
+use package_sources::{Form, Package, SourceError, guessed_form, packages, packages_at};
 use std::alloc::Global;
 
 /// The packages, and the form that the shape of the bytes told if none was named.
@@ -43,7 +43,7 @@ fn guessed(alloc: Global, path: &str, bytes: &[u8]) -> Result<FileRead, SourceEr
         ≡ Ok (read.guessed, map row_of read.packages.items)) }
     ensures err { IfErr result (Says (λ f. spec.read_by_shape path.now bytes.now ≡ Err f)) }
 {
-    let form = form_of(alloc, bytes)?;
+    let form = guessed_form(alloc, bytes)?;
     Ok(FileRead {
         guessed: Some(form),
         packages: packages(alloc, form, folder_of(path), bytes)?,

@@ -103,5 +103,5 @@ guess bytes =
     else if list_any (λ b. b == 9) bytes then Ok (form.Tsv false) else Ok form.Lines
 
 -- the form that a file is of
-abbrev pub form_of : List ℕ → Result Form Fault
-form_of bytes = guess (without_mark bytes)
+abbrev pub guessed_form : List ℕ → Result Form Fault
+guessed_form bytes = guess (without_mark bytes)

@@ -235,9 +235,9 @@ fn guess(alloc: Global, bytes: &[u8]) -> Result<Form, SourceError>
 /// # Errors
 ///
 /// That JSON is of no form that is known, or that what begins as JSON is none; or that memory was refused.
-pub fn form_of(alloc: Global, bytes: &[u8]) -> Result<Form, SourceError>
-    ensures ok { IfOk result (λ f. spec.form_of bytes.now ≡ Ok f) }
-    ensures err { IfErr result (Says (λ f. spec.form_of bytes.now ≡ Err f)) }
+pub fn guessed_form(alloc: Global, bytes: &[u8]) -> Result<Form, SourceError>
+    ensures ok { IfOk result (λ f. spec.guessed_form bytes.now ≡ Ok f) }
+    ensures err { IfErr result (Says (λ f. spec.guessed_form bytes.now ≡ Err f)) }
 {
     guess(alloc, without_mark(bytes))
 }

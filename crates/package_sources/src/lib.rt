@@ -14,6 +14,6 @@ pub mod sources;
 mod texts;
 
 pub use crate::form::{Form, Pointers};
-pub use crate::guess::form_of;
+pub use crate::guess::guessed_form;
 pub use crate::sources::{packages, packages_at};
 pub use package_items::{Found, License, Package, SourceError, SourceFault, Spot};

@@ -16,7 +16,7 @@ use Rattle.line_engine.specs.Lines.{lines_of}
 use Rattle.line_engine.specs.Output.{capped}
 use Rattle.line_engine.specs.Progress.{HasRunBehind}
 use Rattle.line_engine.specs.Rule.{Rule}
-use Rattle.finding_forms.specs.declared.forms.Form.{Form}
+use Rattle.finding_forms.specs.declared.forms.Format.{Format}
 use Rattle.spdx_check.specs.Finding.{Wrong}
 use Rattle.spdx_check.specs.Checking.{blank_count, expression_of, is_blank, is_white, finding_in_line, found_text, found_in, spot_behind, rule_by, LeavesOutWhite}
 
@@ -55,9 +55,9 @@ module _ (finding : List ℕ → Option Wrong) where
       ∙ ap (λ (o : Option Wrong). found_in finding front ++ cons_option o (found_in finding back)) (finding-by line true e)
       ∙ sym (filter_map-append (finding_in_line finding) front back)
 
-  pub leaves_out_white : (form : Form) (is_first : Bool) (file : List ℕ) → LeavesOutWhite finding (rule_by finding form is_first file)
-  leaves_out_white form is_first file = record {
-    text = λ before line e. ap (found_text form _ (spot_behind file before)) (finding-by line true e);
+  pub leaves_out_white : (format : Format) (is_first : Bool) (file : List ℕ) → LeavesOutWhite finding (rule_by finding format is_first file)
+  leaves_out_white format is_first file = record {
+    text = λ before line e. ap (found_text format _ (spot_behind file before)) (finding-by line true e);
     refuses = λ line e. ap is_some (finding-by line true e);
     found = found-white;
     others = λ line e. finding-by line false e;

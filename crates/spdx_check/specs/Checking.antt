@@ -14,7 +14,7 @@ use Rattle.spdx_list.specs.Files.{InsteadRow}
 use Rattle.spdx_list.specs.Shown.{instead_of}
 use Rattle.finding_forms.specs.declared.findings.Place.{Place}
 use Rattle.finding_forms.specs.declared.findings.Sight.{Sight}
-use Rattle.finding_forms.specs.declared.forms.Form.{Form}
+use Rattle.finding_forms.specs.declared.forms.Format.{Format}
 use Rattle.finding_forms.specs.Finding.{Seen, Told, seen_alone, seen_of}
 use Rattle.finding_forms.specs.Forms.{finding_text}
 use Rattle.spdx_check.specs.declared.check.Check.{Check}
@@ -64,9 +64,9 @@ seen_by spot wrong None = seen_there spot wrong
 seen_by spot wrong (Some sight) = seen_of sight
 
 -- nothing is written where nothing is wrong
-abbrev pub found_text : Form → Bool → Spot → Option Wrong → List ℕ
-found_text form is_first spot None = []
-found_text form is_first spot (Some wrong) = finding_text form is_first (told_at spot wrong)
+abbrev pub found_text : Format → Bool → Spot → Option Wrong → List ℕ
+found_text format is_first spot None = []
+found_text format is_first spot (Some wrong) = finding_text format is_first (told_at spot wrong)
 
 -- ---- line by line
 
@@ -94,10 +94,10 @@ abbrev pub have_finding : (List ℕ → Option Wrong) → List (List ℕ) → Bo
 have_finding finding lines = list_any (λ line. is_some (finding_in_line finding line)) lines
 
 -- each line gives its finding, if it has one; nothing stands behind them all
-abbrev pub rule_by : (List ℕ → Option Wrong) → Form → Bool → List ℕ → Rule
-rule_by finding form is_first file = record {
+abbrev pub rule_by : (List ℕ → Option Wrong) → Format → Bool → List ℕ → Rule
+rule_by finding format is_first file = record {
   text =
-      λ before line. found_text form (is_first && not (have_finding finding before))
+      λ before line. found_text format (is_first && not (have_finding finding before))
       (spot_behind file before) (finding_in_line finding line);
   refuses = λ line. is_some (finding_in_line finding line);
   closing = λ lines. [];
@@ -143,8 +143,8 @@ pub record ChecksLines (check : Check) (is_first : Bool) (file : List ℕ) (d : 
   pub finding : List ℕ → Option Wrong
   pub findings : (bytes : List ℕ) →
       IsTheFinding check.catalogue.now (heirs_in check) check.mode bytes (finding bytes)
-  pub runs : Runs (rule_by finding check.form is_first file) d (summary_in result)
-  pub blank : LeavesOutWhite finding (rule_by finding check.form is_first file)
+  pub runs : Runs (rule_by finding check.format is_first file) d (summary_in result)
+  pub blank : LeavesOutWhite finding (rule_by finding check.format is_first file)
   pub counts : IfOk result
-      (λ (c : Checked). HasRunBehind (rule_by finding check.form is_first file)
+      (λ (c : Checked). HasRunBehind (rule_by finding check.format is_first file)
       (λ lines. c.blanks ≡ capped (count_by is_white lines)) d c.summary)

@@ -41,4 +41,4 @@ finding_of c heirs m bytes =
 -- the rule of a check
 abbrev pub rule_of : Check → Bool → List ℕ → Rule
 rule_of check is_first file =
-    rule_by (finding_of check.catalogue.now (heirs_in check) check.mode) check.form is_first file
+    rule_by (finding_of check.catalogue.now (heirs_in check) check.mode) check.format is_first file

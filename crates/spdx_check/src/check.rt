@@ -7,7 +7,7 @@ ghost use Rattle.spdx_check.specs.Checking.{spot_of, told_at};
 ghost use Rattle.spdx_check.specs.Refusals.{wrong_of};
 
 use crate::refusals::Refusal;
-use finding_forms::{Finding, Form, Place, put_finding};
+use finding_forms::{Finding, Format, Place, put_finding};
 use spdx_catalogue::Catalogue;
 use spdx_lexer::token::ParseMode;
 use spdx_list::Instead;
@@ -22,23 +22,23 @@ pub struct Check<'c> {
     /// How they are read.
     pub mode: ParseMode,
     /// How findings are written.
-    pub form: Form,
+    pub format: Format,
 }
 
 /// Appends what is wrong with an expression that stands there.
 pub(crate) fn put_refusal<'t>(
     alloc: Global,
-    form: Form,
+    format: Format,
     is_first: bool,
     place: Place<'t>,
     refusal: &'t Refusal<'_>,
     text: &mut Vec<u8>,
 ) -> Result<(), AllocError>
     ensures ok { OnOk result (text.new.items ≡ text.old.items ++
-        finding_text form is_first (told_at (spot_of place.entry) (wrong_of refusal.now))) }
+        finding_text format is_first (told_at (spot_of place.entry) (wrong_of refusal.now))) }
     ensures err { OnErr result (text.new.items ≡ text.old.items) }
 {
-    put_finding(alloc, text, form, is_first, &finding_at(place, refusal))
+    put_finding(alloc, text, format, is_first, &finding_at(place, refusal))
 }
 
 /// What is wrong with an expression, told of one that stands there.

@@ -7,7 +7,7 @@ ghost use Rattle.spdx_check.specs.Refusals.{wrong_of};
 
 use crate::check::{finding_at, put_refusal};
 use crate::refusals::Refusal;
-use finding_forms::{Form, Frame, Place, frame_of};
+use finding_forms::{Format, Frame, Place, frame_of};
 use std::alloc::{AllocError, Global};
 
 /// An expression's finding in any line of a file, if it has one.
@@ -24,11 +24,11 @@ pub(crate) enum Known<'c> {
 /// What there is to know of an expression of that file, of which this was found.
 pub(crate) fn known_of<'c>(
     alloc: Global,
-    form: Form,
+    format: Format,
     file: &str,
     found: Option<Refusal<'c>>,
 ) -> Result<Known<'c>, AllocError>
-    ensures { IfOk result (Tells form file.now (option_map wrong_of found.entry)) }
+    ensures { IfOk result (Tells format file.now (option_map wrong_of found.entry)) }
 {
     let Some(refusal) = found else {
         return Ok(Known::Accepted);
@@ -38,7 +38,7 @@ pub(crate) fn known_of<'c>(
         line: 1,
         column: 1,
     };
-    match frame_of(alloc, form, &finding_at(place, &refusal))? {
+    match frame_of(alloc, format, &finding_at(place, &refusal))? {
         Some(frame) => Ok(Known::Framed(frame)),
         None => Ok(Known::Refused(refusal)),
     }
@@ -47,14 +47,14 @@ pub(crate) fn known_of<'c>(
 /// Appends what is written of an expression that stands there, and says whether it is refused.
 pub(crate) fn put_known<'t>(
     alloc: Global,
-    form: Form,
+    format: Format,
     is_first: bool,
     place: Place<'t>,
     known: &'t Known<'_>,
     text: &mut Vec<u8>,
 ) -> Result<bool, AllocError>
     ensures text { OnOk result (text.new.items ≡
-        text.old.items ++ known_text form is_first (spot_of place.entry) known.now) }
+        text.old.items ++ known_text format is_first (spot_of place.entry) known.now) }
     ensures refuses { IfOk result (λ refused. refused ≡ is_refused known.now) }
 {
     match known {
@@ -64,7 +64,7 @@ pub(crate) fn put_known<'t>(
             Ok(true)
         }
         Known::Refused(refusal) => {
-            put_refusal(alloc, form, is_first, place, refusal, text)?;
+            put_refusal(alloc, format, is_first, place, refusal, text)?;
             Ok(true)
         }
     }

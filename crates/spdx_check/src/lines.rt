@@ -71,7 +71,7 @@ fn put_line<'c>(
 ) -> Result<bool, AllocError>
     ensures text { AreHeld check.now file.now remembered.old.slots.items →
         OnOk result (text.new.items ≡ text.old.items ++
-        found_text check.now.form is_first (spot_in file.now line)
+        found_text check.now.format is_first (spot_in file.now line)
         (finding_of check.now.catalogue.now (heirs_in check.now) check.now.mode expression.now)) }
     ensures refuses { AreHeld check.now file.now remembered.old.slots.items →
         IfOk result (λ is_refused. is_refused ≡
@@ -86,11 +86,11 @@ fn put_line<'c>(
         column: 1,
     };
     if let Some(known) = remembered.find(expression) {
-        return put_known(alloc, check.form, is_first, place, known, text);
+        return put_known(alloc, check.format, is_first, place, known, text);
     }
     let found = refusal_in(alloc, check, expression)?;
-    let known = known_of(alloc, check.form, file, found)?;
-    let is_refused = put_known(alloc, check.form, is_first, place, &known, text)?;
+    let known = known_of(alloc, check.format, file, found)?;
+    let is_refused = put_known(alloc, check.format, is_first, place, &known, text)?;
     remembered.keep(alloc, expression, known);
     Ok(is_refused)
 }

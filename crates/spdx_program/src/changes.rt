@@ -7,10 +7,10 @@ use crate::packages::{read_as, tell_forms};
 use crate::trouble::Trouble;
 use changes_program::{Request, Run, Totals};
 use line_engine::lines::write_all;
-use package_changes::Form;
+use package_changes::Format;
 use package_files::Wanted;
 use shelves::SystemShelf;
-use spdx_words::{ChangesForm, ChangesRequest};
+use spdx_words::{ChangesFormat, ChangesRequest};
 use std::alloc::{AllocError, Global};
 use std::io::Write;
 
@@ -58,10 +58,10 @@ fn asked<'r>(request: &'r ChangesRequest<'r>) -> Request<'r> {
         },
         old: request.old,
         new: request.new,
-        form: match request.form {
-            ChangesForm::Text => Form::Text,
-            ChangesForm::Json => Form::Json,
-            ChangesForm::Markdown => Form::Markdown,
+        format: match request.format {
+            ChangesFormat::Text => Format::Text,
+            ChangesFormat::Json => Format::Json,
+            ChangesFormat::Markdown => Format::Markdown,
         },
     }
 }

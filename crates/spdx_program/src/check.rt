@@ -14,15 +14,15 @@ use crate::readings::{file_seen, reading_at, walk_from};
 use crate::trouble::Trouble;
 use check_program::{Sums, counted, summary_of};
 use check_sources::{Source, check_manifest, check_tags, is_binary};
-use finding_forms::{Form, Style, put_beginning, put_ending};
+use finding_forms::{Format, Style, put_beginning, put_ending};
 use license_tags::{comment_of, tags};
 use line_engine::lines::write_all;
 use line_engine::stream::Input as Lines;
-use manifests::{Form as ManifestForm, has_license_table};
+use manifests::{Form, has_license_table};
 use shelves::SystemShelf;
 use source_trees::{Reading, Seen, Taken, form_below};
 use spdx_check::{Check, check_lines};
-use spdx_words::{CheckRequest, Form as AskedForm, Wanted};
+use spdx_words::{CheckRequest, FindingFormat, Wanted};
 use std::alloc::{AllocError, Global};
 use std::fs;
 use std::io::Write;
@@ -54,7 +54,7 @@ pub(crate) fn check<R: System, O: Write + Drop, F: Write + Drop>(
         catalogue: &catalogue,
         heirs: extras.instead.as_slice(),
         mode: mode_of(request.is_lax),
-        form: form_of(request.form, console.screen.colours),
+        format: format_of(request.format, console.screen.colours),
     };
     let job = Job {
         check,
@@ -63,7 +63,7 @@ pub(crate) fn check<R: System, O: Write + Drop, F: Write + Drop>(
         untagged: request.untagged,
     };
     let sums = check_all(rt, &job, &request.paths, console)?;
-    if request.summary && matches!(job.check.form, Form::Human(_) | Form::Short) {
+    if request.summary && matches!(job.check.format, Format::Human(_) | Format::Short) {
         let text = summary_of(rt.alloc(), &sums)?;
         write_all(&mut console.output, &text)?;
     }
@@ -72,14 +72,14 @@ pub(crate) fn check<R: System, O: Write + Drop, F: Write + Drop>(
     Ok(sums.status())
 }
 
-fn form_of(form: AskedForm, colours: bool) -> Form {
-    match form {
-        AskedForm::Human if colours => Form::Human(Style::Coloured),
-        AskedForm::Human => Form::Human(Style::Plain),
-        AskedForm::Short => Form::Short,
-        AskedForm::Json => Form::Json,
-        AskedForm::Github => Form::Github,
-        AskedForm::Sarif => Form::Sarif,
+fn format_of(format: FindingFormat, colours: bool) -> Format {
+    match format {
+        FindingFormat::Human if colours => Format::Human(Style::Coloured),
+        FindingFormat::Human => Format::Human(Style::Plain),
+        FindingFormat::Short => Format::Short,
+        FindingFormat::Json => Format::Json,
+        FindingFormat::Github => Format::Github,
+        FindingFormat::Sarif => Format::Sarif,
     }
 }
 
@@ -93,7 +93,7 @@ fn check_all<R: System, O: Write + Drop, F: Write + Drop>(
 ) -> Result<Sums, Trouble> {
     let alloc = rt.alloc();
     let mut text = Vec::new(alloc);
-    put_beginning(alloc, &mut text, job.check.form, VERSION)?;
+    put_beginning(alloc, &mut text, job.check.format, VERSION)?;
     write_all(&mut console.output, &text)?;
     let mut sums = Sums::new(alloc);
     for path in paths_or_input(paths) {
@@ -102,7 +102,7 @@ fn check_all<R: System, O: Write + Drop, F: Write + Drop>(
         }
     }
     text.clear();
-    put_ending(&mut text, job.check.form)?;
+    put_ending(&mut text, job.check.format)?;
     write_all(&mut console.output, &text)?;
     Ok(sums)
 }
@@ -168,7 +168,7 @@ fn check_tagged<R: System, O: Write + Drop, F: Write + Drop>(
 fn check_named<R: System, O: Write + Drop, F: Write + Drop>(
     rt: &R,
     job: &Job<'_>,
-    form: ManifestForm,
+    form: Form,
     path: &str,
     sums: &mut Sums,
     console: &mut Console<O, F>,
@@ -196,7 +196,7 @@ fn check_declared<O: Write + Drop, F: Write + Drop>(
     };
     let found = check_manifest(alloc, &job.check, sums.is_clean(), manifest.form, source)?;
     write_all(&mut console.output, &counted(sums, found))?;
-    if manifest.form == ManifestForm::Pyproject && has_license_table(alloc, manifest.bytes)? {
+    if manifest.form == Form::Pyproject && has_license_table(alloc, manifest.bytes)? {
         sums.tables.push(String::from_str(alloc, manifest.path)?)?;
     }
     Ok(())

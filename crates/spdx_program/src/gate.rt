@@ -8,11 +8,11 @@ use crate::packages::{read_as, tell_forms, tell_shared};
 use crate::trouble::Trouble;
 use finding_forms::Style;
 use gate_program::{End, GateText, Look, Request, Run};
-use gate_told::Form;
+use gate_told::Format;
 use line_engine::lines::write_all;
 use package_files::{FileFault, Listed, Wanted};
 use shelves::SystemShelf;
-use spdx_words::{GateForm, GateRequest};
+use spdx_words::{GateFormat, GateRequest};
 use std::alloc::{AllocError, Global};
 use std::io::Write;
 
@@ -67,7 +67,7 @@ fn asked<'r>(request: &'r GateRequest<'r>, colours: bool) -> Request<'r> {
         paths: paths_or_input(&request.paths),
         baseline: request.baseline,
         look: Look {
-            form: form_of(request.form, style),
+            format: format_of(request.format, style),
             style,
             explain: request.explain,
             tells_unused: request.tells_unused,
@@ -102,13 +102,13 @@ fn write<O: Write + Drop, F: Write + Drop>(
 }
 
 // The form that was asked for, in this style where it has one.
-fn form_of(form: GateForm, style: Style) -> Form<'static> {
-    match form {
-        GateForm::Human => Form::Human(style),
-        GateForm::Short => Form::Short,
-        GateForm::Json => Form::Json,
-        GateForm::Github => Form::Github,
-        GateForm::Sarif => Form::Sarif { version: VERSION },
-        GateForm::Html => Form::Html,
+fn format_of(format: GateFormat, style: Style) -> Format<'static> {
+    match format {
+        GateFormat::Human => Format::Human(style),
+        GateFormat::Short => Format::Short,
+        GateFormat::Json => Format::Json,
+        GateFormat::Github => Format::Github,
+        GateFormat::Sarif => Format::Sarif { version: VERSION },
+        GateFormat::Html => Format::Html,
     }
 }

@@ -13,7 +13,7 @@ use crate::packages::{AllListed, Listed, Wanted, read_all};
 use crate::trouble::Trouble;
 use license_notice::Requirement;
 use line_engine::lines::write_all;
-use notice_forms::Form;
+use notice_forms::Format;
 use notice_program::{
     GeneralText, Lack, Look, NoticeFault, NoticeText, OwnFile, Package as Noted, all_lacks,
     notice_text, totals_line,
@@ -21,7 +21,7 @@ use notice_program::{
 use notice_run::ReadFile;
 use notice_texts::File;
 use package_sources::Package;
-use spdx_words::{NoticeRequest, OwnTexts, PageForm};
+use spdx_words::{NoticeRequest, OwnTexts, PageFormat};
 use std::alloc::{AllocError, Global};
 use std::io::{self, ErrorKind, Write};
 
@@ -140,7 +140,7 @@ fn noticed<'t>(
     let noted = noted(alloc, packages, &choices, &offered, &files)?;
     let general = general_of(alloc, held)?;
     let look = Look {
-        form: form_of(request.form),
+        format: format_of(request.format),
         marks_general: request.own != OwnTexts::Left,
     };
     match notice_text(alloc, look, &noted, &general) {
@@ -256,11 +256,11 @@ fn general_of<'t>(alloc: Global, held: &'t [HeldText]) -> Result<Vec<GeneralText
     Ok(general)
 }
 
-fn form_of(form: PageForm) -> Form {
-    match form {
-        PageForm::Text => Form::Text,
-        PageForm::Markdown => Form::Markdown,
-        PageForm::Html => Form::Html,
-        PageForm::Json => Form::Json,
+fn format_of(format: PageFormat) -> Format {
+    match format {
+        PageFormat::Text => Format::Text,
+        PageFormat::Markdown => Format::Markdown,
+        PageFormat::Html => Format::Html,
+        PageFormat::Json => Format::Json,
     }
 }

@@ -116,7 +116,7 @@ pub(crate) fn command<'a>(alloc: Global, version: &'a str) -> Result<Command<'a>
 }
 
 fn check<'a>(alloc: Global) -> Result<Command<'a>, AllocError> {
-    let form = Arg::new(alloc, "format")
+    let format = Arg::new(alloc, "format")
         .long("format")
         .value_name("FORM")
         .value_parser(["human", "short", "json", "github", "sarif"].as_slice())
@@ -125,7 +125,7 @@ fn check<'a>(alloc: Global) -> Result<Command<'a>, AllocError> {
     Command::new(alloc, "check")
         .about("Tells which expressions are refused, where, and what to write")
         .after_help(CHECK_EXAMPLE)
-        .arg(form)?
+        .arg(format)?
         .arg(flag(alloc, "strict", "Reads as SPDX has it; this is the default").conflicts_with(
             "lax",
         )?)?

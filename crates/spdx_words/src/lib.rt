@@ -20,7 +20,7 @@ pub use crate::packages_request::{
     PageForm, Source, SourceForm,
 };
 pub use crate::request::{
-    CheckRequest, CompareRequest, DiffRequest, FixRequest, Form, MakeRequest, Request, ShowRequest,
+    CheckRequest, CompareRequest, DiffRequest, FindingFormat, FixRequest, MakeRequest, Request, ShowRequest,
     SimplifyRequest, Wanted,
 };
 pub use crate::words::read;

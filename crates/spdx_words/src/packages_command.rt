@@ -33,7 +33,7 @@ pub(crate) fn gate<'a>(alloc: Global) -> Result<Command<'a>, AllocError> {
         "What is allowed and what is denied",
     )
     .required(true);
-    let form = Arg::new(alloc, "format")
+    let format = Arg::new(alloc, "format")
         .long("format")
         .value_name("FORM")
         .value_parser(["human", "short", "json", "github", "sarif", "html"].as_slice())
@@ -49,7 +49,7 @@ pub(crate) fn gate<'a>(alloc: Global) -> Result<Command<'a>, AllocError> {
         .about("Tells which packages a policy refuses, why, and what would help")
         .after_help(GATE_EXAMPLE)
         .arg(policy)?
-        .arg(form)?
+        .arg(format)?
         .arg(option(
             alloc,
             "baseline",
@@ -87,7 +87,7 @@ pub(crate) fn notice<'a>(alloc: Global) -> Result<Command<'a>, AllocError> {
         "FILE",
         "A policy that says what is allowed",
     );
-    let form = Arg::new(alloc, "format")
+    let format = Arg::new(alloc, "format")
         .long("format")
         .value_name("FORM")
         .value_parser(["text", "markdown", "html", "json"].as_slice())
@@ -132,7 +132,7 @@ pub(crate) fn notice<'a>(alloc: Global) -> Result<Command<'a>, AllocError> {
             "one-for-all",
             "Makes one choice for all packages together",
         ))?
-        .arg(form)?;
+        .arg(format)?;
     sources(alloc, notice)?
         .arg(list_file(alloc))?
         .arg(paths(alloc))
@@ -162,7 +162,7 @@ fn installed<'a>(alloc: Global) -> Result<Arg<'a>, AllocError> {
 
 /// The command `diff`.
 pub(crate) fn diff<'a>(alloc: Global) -> Result<Command<'a>, AllocError> {
-    let form = Arg::new(alloc, "format")
+    let format = Arg::new(alloc, "format")
         .long("format")
         .value_name("FORM")
         .value_parser(["text", "json", "markdown"].as_slice())
@@ -173,7 +173,7 @@ pub(crate) fn diff<'a>(alloc: Global) -> Result<Command<'a>, AllocError> {
             "Tells which packages came and went between two files, and whose license changed, and how",
         )
         .after_help(DIFF_EXAMPLE)
-        .arg(form)?
+        .arg(format)?
         .arg(option(
             alloc,
             "policy",

@@ -40,7 +40,7 @@ pub enum SourceForm {
 
 /// How the verdicts of a gate are written.
 #[derive(Clone, Copy, PartialEq, Eq, Debug)]
-pub enum GateForm {
+pub enum GateFormat {
     Human,
     Short,
     Json,
@@ -51,7 +51,7 @@ pub enum GateForm {
 
 /// How changes are written.
 #[derive(Clone, Copy, PartialEq, Eq, Debug)]
-pub enum ChangesForm {
+pub enum ChangesFormat {
     Text,
     Json,
     Markdown,
@@ -59,7 +59,7 @@ pub enum ChangesForm {
 
 /// How a page is written.
 #[derive(Clone, Copy, PartialEq, Eq, Debug)]
-pub enum PageForm {
+pub enum PageFormat {
     Text,
     Markdown,
     Html,
@@ -84,7 +84,7 @@ pub struct GateRequest<'w> {
     pub list: Option<&'w str>,
     pub policy: &'w str,
     pub source: Source<'w>,
-    pub form: GateForm,
+    pub format: GateFormat,
     /// A file whose refusals are known: what is refused there too is no failure.
     pub baseline: Option<&'w str>,
     /// The name of a package that is explained.
@@ -108,7 +108,7 @@ pub struct ChangesRequest<'w> {
     /// A policy that marks what it refuses of what came or changed.
     pub policy: Option<&'w str>,
     pub source: Source<'w>,
-    pub form: ChangesForm,
+    pub format: ChangesFormat,
     /// Whether a file that lists no package passes.
     pub allow_empty: bool,
     /// Whether packages of one's own project are left out.
@@ -148,6 +148,6 @@ pub struct NoticeRequest<'w> {
     pub one_for_all: bool,
     /// Whether packages of one's own project are left out.
     pub exclude_own: bool,
-    pub form: PageForm,
+    pub format: PageFormat,
     pub paths: Vec<&'w str>,
 }

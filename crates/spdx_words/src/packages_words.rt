@@ -1,8 +1,8 @@
 // Words to requests of the commands over packages.
 
 use crate::packages_request::{
-    Accepted, ChangesForm, ChangesRequest, GateForm, GateRequest, NoticeRequest, OwnTexts,
-    PageForm, Source, SourceForm,
+    Accepted, ChangesFormat, ChangesRequest, GateFormat, GateRequest, NoticeRequest, OwnTexts,
+    PageFormat, Source, SourceForm,
 };
 use crate::request::Request;
 use crate::words::{no_file, refused, texts};
@@ -22,7 +22,7 @@ pub(crate) fn gate_request<'w>(
         list: matches.get_str("list"),
         policy,
         source: source(alloc, matches)?,
-        form: gate_form(matches.get_str("format")),
+        format: gate_format(matches.get_str("format")),
         baseline: matches.get_str("baseline"),
         explain: matches.get_str("explain"),
         quiet: matches.get_flag("quiet"),
@@ -61,7 +61,7 @@ pub(crate) fn notice_request<'w>(
         plain: matches.get_flag("plain"),
         one_for_all: matches.get_flag("one-for-all"),
         exclude_own: matches.get_flag("exclude-own"),
-        form: page_form(matches.get_str("format")),
+        format: page_format(matches.get_str("format")),
         paths: texts(alloc, matches, "PATH")?,
     }))
 }
@@ -86,7 +86,7 @@ pub(crate) fn changes_request<'w>(
         list: matches.get_str("list"),
         policy: matches.get_str("policy"),
         source: source(alloc, matches)?,
-        form: changes_form(matches.get_str("format")),
+        format: changes_format(matches.get_str("format")),
         allow_empty: matches.get_flag("allow-empty"),
         exclude_own: matches.get_flag("exclude-own"),
         tells_totals: !matches.get_flag("no-summary"),
@@ -155,30 +155,30 @@ fn other_source<'w>(name: Option<&str>) -> Source<'w> {
     }
 }
 
-fn gate_form(name: Option<&str>) -> GateForm {
+fn gate_format(name: Option<&str>) -> GateFormat {
     match name {
-        Some("short") => GateForm::Short,
-        Some("json") => GateForm::Json,
-        Some("github") => GateForm::Github,
-        Some("sarif") => GateForm::Sarif,
-        Some("html") => GateForm::Html,
-        _ => GateForm::Human,
+        Some("short") => GateFormat::Short,
+        Some("json") => GateFormat::Json,
+        Some("github") => GateFormat::Github,
+        Some("sarif") => GateFormat::Sarif,
+        Some("html") => GateFormat::Html,
+        _ => GateFormat::Human,
     }
 }
 
-fn changes_form(name: Option<&str>) -> ChangesForm {
+fn changes_format(name: Option<&str>) -> ChangesFormat {
     match name {
-        Some("json") => ChangesForm::Json,
-        Some("markdown") => ChangesForm::Markdown,
-        _ => ChangesForm::Text,
+        Some("json") => ChangesFormat::Json,
+        Some("markdown") => ChangesFormat::Markdown,
+        _ => ChangesFormat::Text,
     }
 }
 
-fn page_form(name: Option<&str>) -> PageForm {
+fn page_format(name: Option<&str>) -> PageFormat {
     match name {
-        Some("markdown") => PageForm::Markdown,
-        Some("html") => PageForm::Html,
-        Some("json") => PageForm::Json,
-        _ => PageForm::Text,
+        Some("markdown") => PageFormat::Markdown,
+        Some("html") => PageFormat::Html,
+        Some("json") => PageFormat::Json,
+        _ => PageFormat::Text,
     }
 }

@@ -29,7 +29,7 @@ pub enum Request<'w> {
 
 /// How findings are written.
 #[derive(Clone, Copy, PartialEq, Eq, Debug)]
-pub enum Form {
+pub enum FindingFormat {
     Human,
     Short,
     Json,
@@ -55,7 +55,7 @@ pub enum Wanted<'w> {
 pub struct CheckRequest<'w> {
     /// The list's file or folder; the list inside the program where there is none.
     pub list: Option<&'w str>,
-    pub form: Form,
+    pub format: FindingFormat,
     pub is_lax: bool,
     pub wanted: Wanted<'w>,
     /// The folder of the license texts that folders owe; `LICENSES` in each of them where there is none.

@@ -3,7 +3,7 @@
 use crate::command::command;
 use crate::packages_words::{changes_request, gate_request, notice_request};
 use crate::request::{
-    CheckRequest, CompareRequest, DiffRequest, FixRequest, Form, MakeRequest, Request, ShowRequest,
+    CheckRequest, CompareRequest, DiffRequest, FindingFormat, FixRequest, MakeRequest, Request, ShowRequest,
     SimplifyRequest, Wanted,
 };
 use clap::error::ErrorKind;
@@ -62,7 +62,7 @@ fn check_request<'w>(
 ) -> Result<CheckRequest<'w>, AllocError> {
     Ok(CheckRequest {
         list: matches.get_str("list"),
-        form: form_of(matches.get_str("format")),
+        format: finding_format(matches.get_str("format")),
         is_lax: matches.get_flag("lax"),
         wanted: wanted_of(matches),
         texts: matches.get_str("texts"),
@@ -86,13 +86,13 @@ fn wanted_of<'w>(matches: &ArgMatches<'w>) -> Wanted<'w> {
     }
 }
 
-fn form_of(name: Option<&str>) -> Form {
+fn finding_format(name: Option<&str>) -> FindingFormat {
     match name {
-        Some("short") => Form::Short,
-        Some("json") => Form::Json,
-        Some("github") => Form::Github,
-        Some("sarif") => Form::Sarif,
-        _ => Form::Human,
+        Some("short") => FindingFormat::Short,
+        Some("json") => FindingFormat::Json,
+        Some("github") => FindingFormat::Github,
+        Some("sarif") => FindingFormat::Sarif,
+        _ => FindingFormat::Human,
     }
 }
 

@@ -7,7 +7,7 @@
 // totals.
 
 use finding_forms::{
-    Finding, Form, Help, Place, Sight, Style, put_beginning, put_ending, put_finding, put_totals,
+    Finding, Format, Help, Place, Sight, Style, put_beginning, put_ending, put_finding, put_totals,
 };
 use std::alloc::{AllocError, Global};
 
@@ -84,14 +84,14 @@ fn put_lines(alloc: Global, shown: &mut Vec<u8>, row: &Row) -> Result<(), AllocE
     let names = names_of(alloc, row)?;
     let finding = finding_of(row, names.as_slice());
     let forms = [
-        Form::Human(Style::Plain),
-        Form::Human(Style::Coloured),
-        Form::Short,
-        Form::Json,
-        Form::Github,
+        Format::Human(Style::Plain),
+        Format::Human(Style::Coloured),
+        Format::Short,
+        Format::Json,
+        Format::Github,
     ];
-    for form in forms {
-        put_finding(alloc, shown, form, true, &finding)?;
+    for format in forms {
+        put_finding(alloc, shown, format, true, &finding)?;
     }
     shown.push(b'\n')?;
     Ok(())
@@ -99,13 +99,13 @@ fn put_lines(alloc: Global, shown: &mut Vec<u8>, row: &Row) -> Result<(), AllocE
 
 // Appends the findings of the rows as one log.
 fn put_log(alloc: Global, shown: &mut Vec<u8>, rows: &[Row]) -> Result<(), AllocError> {
-    put_beginning(alloc, shown, Form::Sarif, "0.1 \"rows\"")?;
+    put_beginning(alloc, shown, Format::Sarif, "0.1 \"rows\"")?;
     for (at, row) in rows.iter().enumerate() {
         let names = names_of(alloc, row)?;
         let finding = finding_of(row, names.as_slice());
-        put_finding(alloc, shown, Form::Sarif, at == 0, &finding)?;
+        put_finding(alloc, shown, Format::Sarif, at == 0, &finding)?;
     }
-    put_ending(shown, Form::Sarif)
+    put_ending(shown, Format::Sarif)
 }
 
 // Appends some lines of totals.

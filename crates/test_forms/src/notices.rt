@@ -6,7 +6,7 @@ mod texts;
 
 use crate::notices::texts::text_of;
 use license_notice::{Package, Release, Requirement, notice_of, packages_in};
-use notice_forms::{Form, LicenseText, Page, put_page};
+use notice_forms::{Format, LicenseText, Page, put_page};
 use std::alloc::{AllocError, Global};
 
 /// Appends the page of the packages in each form.
@@ -120,10 +120,10 @@ fn put_all(alloc: Global, page: &mut Vec<u8>, wants: &[String]) -> Result<(), Al
             choice: &choices[5..],
         },
     ];
-    for form in [Form::Text, Form::Markdown, Form::Html] {
-        put_shown(alloc, page, form, &packages, &[])?;
+    for format in [Format::Text, Format::Markdown, Format::Html] {
+        put_shown(alloc, page, format, &packages, &[])?;
     }
-    put_shown(alloc, page, Form::Json, &packages, &HOLDERS)?;
+    put_shown(alloc, page, Format::Json, &packages, &HOLDERS)?;
     put_without_texts(alloc, page, &packages)
 }
 
@@ -165,7 +165,7 @@ fn put_without_texts(
         packages: turned.as_slice(),
         texts: &[],
     };
-    match put_page(alloc, page, Form::Html, &shown) {
+    match put_page(alloc, page, Format::Html, &shown) {
         Ok(()) => Ok(()),
         Err(_) => Err(AllocError),
     }
@@ -174,7 +174,7 @@ fn put_without_texts(
 fn put_shown(
     alloc: Global,
     page: &mut Vec<u8>,
-    form: Form,
+    format: Format,
     packages: &[Package<'_, '_>],
     holders: &[Release<'static>],
 ) -> Result<(), AllocError> {
@@ -194,7 +194,7 @@ fn put_shown(
         packages: turned.as_slice(),
         texts: texts.as_slice(),
     };
-    match put_page(alloc, page, form, &shown) {
+    match put_page(alloc, page, format, &shown) {
         Ok(()) => Ok(()),
         Err(_) => Err(AllocError),
     }

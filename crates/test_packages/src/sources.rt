@@ -6,7 +6,7 @@
 
 use document_references::shared_references;
 use package_sources::{
-    Form, License, Package, Pointers, SourceError, Spot, form_of, packages, packages_at,
+    Form, License, Package, Pointers, SourceError, Spot, guessed_form, packages, packages_at,
 };
 use std::alloc::{AllocError, Global};
 
@@ -87,7 +87,7 @@ fn form_of_word(word: &str) -> Form {
 fn read(alloc: Global, file: &File) -> Result<Vec<Package>, SourceError> {
     let bytes = file.bytes.as_slice();
     match file.words.as_slice() {
-        [word] if word.as_str() == "shape" => packages(alloc, form_of(alloc, bytes)?, "", bytes),
+        [word] if word.as_str() == "shape" => packages(alloc, guessed_form(alloc, bytes)?, "", bytes),
         [_, each, name, license] => at_pointers(alloc, [each, name, license], None, bytes),
         [_, each, name, license, version] => {
             at_pointers(alloc, [each, name, license], Some(version.as_str()), bytes)
@@ -118,7 +118,7 @@ fn at_pointers(
 fn put_shape(alloc: Global, shown: &mut String, file: &File) -> Result<(), AllocError> {
     if let [word] = file.words.as_slice()
         && word.as_str() == "shape"
-        && let Ok(form) = form_of(alloc, file.bytes.as_slice())
+        && let Ok(form) = guessed_form(alloc, file.bytes.as_slice())
     {
         let line = format!(in alloc; "as {form:?}\n")?;
         shown.push_str(line.as_str())?;

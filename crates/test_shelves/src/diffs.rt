@@ -8,9 +8,9 @@
 use crate::shelf::{HEIRS, inside, lines_of, shelf_of, told_faults};
 use changes_program::{Request, Run, changes};
 use gate_program::{GateTrouble, PolicyTrouble};
-use package_changes::Form;
+use package_changes::Format;
 use package_files::{Source, Wanted};
-use package_sources::Form as SourceForm;
+use package_sources::Form;
 use shelves::Held;
 use std::alloc::{AllocError, Global};
 use test_rows::Tally;
@@ -37,13 +37,13 @@ fn answer(alloc: Global, shelf: &Held, given: &str) -> Result<String, AllocError
         list: None,
         policy: if policy == "-" { None } else { Some(policy) },
         wanted: Wanted {
-            source: Source::Named(SourceForm::Tsv { header: false }),
+            source: Source::Named(Form::Tsv { header: false }),
             allow_empty: false,
             exclude_own: false,
         },
         old,
         new,
-        form: Form::Text,
+        format: Format::Text,
     };
     match changes(alloc, shelf, inside(), HEIRS.as_bytes(), request) {
         Ok(run) => told(alloc, &run),

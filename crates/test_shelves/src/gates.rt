@@ -8,9 +8,9 @@
 use crate::shelf::{HEIRS, inside, lines_of, shelf_of, told_fault, told_faults};
 use finding_forms::Style;
 use gate_program::{End, GateTrouble, Look, PolicyTrouble, Request, Run, gate};
-use gate_told::Form;
+use gate_told::Format;
 use package_files::{Source, Wanted};
-use package_sources::Form as SourceForm;
+use package_sources::Form;
 use shelves::Held;
 use std::alloc::{AllocError, Global};
 use test_rows::Tally;
@@ -51,14 +51,14 @@ fn request<'r>(paths: &'r [&'r str], policy: &'r str, words: &'r str) -> Request
         list: words.strip_prefix("list "),
         policy,
         wanted: Wanted {
-            source: Source::Named(SourceForm::Lines),
+            source: Source::Named(Form::Lines),
             allow_empty: words == "empty",
             exclude_own: false,
         },
         paths,
         baseline: words.strip_prefix("before "),
         look: Look {
-            form: Form::Short,
+            format: Format::Short,
             style: Style::Plain,
             explain: words.strip_prefix("explain "),
             tells_unused: false,

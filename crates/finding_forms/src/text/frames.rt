@@ -5,7 +5,7 @@ ghost use Rattle.finding_forms.specs.Finding.{told};
 ghost use Rattle.finding_forms.specs.Frames.{framed, has_frame, IsFrame};
 
 use crate::findings::Finding;
-use crate::forms::Form;
+use crate::forms::Format;
 use crate::text::carets::human_frame;
 use crate::text::line_forms::short_frame;
 use itoa::Buffer;
@@ -57,15 +57,15 @@ impl Frame {
 /// Memory was refused.
 pub fn frame_of(
     alloc: Global,
-    form: Form,
+    format: Format,
     finding: &Finding<'_>,
 ) -> Result<Option<Frame>, AllocError>
-    ensures text { IfOk result (λ found. IfSome found (IsFrame form (told finding.now))) }
-    ensures is { IfOk result (λ found. is_some found ≡ has_frame form) }
+    ensures text { IfOk result (λ found. IfSome found (IsFrame format (told finding.now))) }
+    ensures is { IfOk result (λ found. is_some found ≡ has_frame format) }
 {
-    match form {
-        Form::Human(style) => Ok(Some(human_frame(alloc, style, finding)?)),
-        Form::Short => Ok(Some(short_frame(alloc, finding)?)),
-        Form::Json | Form::Github | Form::Sarif => Ok(None),
+    match format {
+        Format::Human(style) => Ok(Some(human_frame(alloc, style, finding)?)),
+        Format::Short => Ok(Some(short_frame(alloc, finding)?)),
+        Format::Json | Format::Github | Format::Sarif => Ok(None),
     }
 }

@@ -151,7 +151,7 @@ pub(crate) fn put_owed<R: System>(
     let files = files_in(rt, folder.as_str())?;
     let alloc = rt.alloc();
     let wholes = owed_by(alloc, folder.as_str(), &owing.used, &files)?;
-    put_wholes(alloc, text, check.form, is_first, &wholes)?;
+    put_wholes(alloc, text, check.format, is_first, &wholes)?;
     Ok(wholes.len() as u64)
 }
 
@@ -180,6 +180,6 @@ pub(crate) fn put_untagged(
     text: &mut Vec<u8>,
 ) -> Result<u64, AllocError> {
     let wholes = without_license(alloc, paths)?;
-    put_wholes(alloc, text, check.form, is_first, &wholes)?;
+    put_wholes(alloc, text, check.format, is_first, &wholes)?;
     Ok(wholes.len() as u64)
 }

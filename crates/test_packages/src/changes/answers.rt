@@ -2,7 +2,7 @@
 
 use crate::changes::licenses::license;
 use package_changes::{
-    Change, Form, How, Package, Reason, Release, Telling, changes_between, put_changes,
+    Change, Format, How, Package, Reason, Release, Telling, changes_between, put_changes,
 };
 use spdx_catalogue::Catalogue;
 use std::alloc::{AllocError, Global};
@@ -17,9 +17,9 @@ pub(crate) fn answer(
     match word {
         "changes" => changes(alloc, rest),
         "license" => license(alloc, catalogue, rest),
-        "text" => written(alloc, Form::Text, rest),
-        "json" => written(alloc, Form::Json, rest),
-        "markdown" => written(alloc, Form::Markdown, rest),
+        "text" => written(alloc, Format::Text, rest),
+        "json" => written(alloc, Format::Json, rest),
+        "markdown" => written(alloc, Format::Markdown, rest),
         _ => String::from_str(alloc, "no such row"),
     }
 }
@@ -76,13 +76,13 @@ fn put_package(
     shown.push_str(text.as_str())
 }
 
-fn written(alloc: Global, form: Form, told: &str) -> Result<String, AllocError> {
+fn written(alloc: Global, format: Format, told: &str) -> Result<String, AllocError> {
     let mut tellings = Vec::new(alloc);
     if !told.is_empty() {
         tellings.push(telling_of(told))?;
     }
     let mut text = Vec::new(alloc);
-    put_changes(alloc, &mut text, form, &tellings)?;
+    put_changes(alloc, &mut text, format, &tellings)?;
     let mut shown = String::new(alloc);
     for piece in String::from_utf8_lossy(alloc, &text)?.as_str().chars() {
         shown.push(if piece == '\n' { '~' } else { piece })?;

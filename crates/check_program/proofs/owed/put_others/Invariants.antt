@@ -4,4 +4,4 @@ use Rattle.check_program.proofs.owed.put_others.Given as goal
 
 abbrev pub invariant-loop-whole : goal.invariant-loop-whole
 invariant-loop-whole l = l.text.items
-    ≡ l.initial.text.items ++ others_text l.form (map whole_of (take l.whole-index l.wholes))
+    ≡ l.initial.text.items ++ others_text l.format (map whole_of (take l.whole-index l.wholes))

@@ -17,7 +17,7 @@ returns c =
     let ws = map stood c.args.all.now in
     let none : drop c.loop-written.written-index c.args.all.now ≡ [] = drop_of_length-le c.args.all.now (omega arith) in
     let ended = rw none at c.loop-written.invariant in
-    let written : c.loop-written.text.items ≡ findings_text finding check.form c.args.is_first source ws = sym (append-nil _) ∙ ended.0 in
+    let written : c.loop-written.text.items ≡ findings_text finding check.format c.args.is_first source ws = sym (append-nil _) ∙ ended.0 in
     let nobody : refused_count finding [] ≡ 0 = refl in
     let refused : c.loop-written.refused ≡ refused_count finding ws = omega (arith, ended.1, nobody) in
     record {
@@ -26,6 +26,6 @@ returns c =
       written = written;
       lines = sym (length-map c.args.all.now stood);
       refused = refused;
-      tells = tells finding check.form source c.args.is_first ws _ written;
-      clean = λ h. written ∙ clean finding check.form source c.args.is_first ws (sym refused ∙ h);
+      tells = tells finding check.format source c.args.is_first ws _ written;
+      clean = λ h. written ∙ clean finding check.format source c.args.is_first ws (sym refused ∙ h);
     }

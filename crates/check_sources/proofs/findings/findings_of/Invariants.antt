@@ -12,7 +12,7 @@ invariant-loop-written l =
     let finding = finding_of check.catalogue.now (heirs_in check) check.mode in
     let source = source_of l.source in
     let rest = map stood (drop l.written-index l.all) in
-    (l.text.items ++ findings_text finding check.form (is_next l.is_first l.refused) source rest ≡ findings_text finding check.form l.is_first source (map stood l.all))
+    (l.text.items ++ findings_text finding check.format (is_next l.is_first l.refused) source rest ≡ findings_text finding check.format l.is_first source (map stood l.all))
     × (l.refused + refused_count finding rest ≡ refused_count finding (map stood l.all))
     × (l.refused ≤ l.written-index)
     × (l.cursor.bytes.now ≡ l.source.bytes.now)

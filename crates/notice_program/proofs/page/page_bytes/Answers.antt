@@ -12,5 +12,5 @@ pub returns-clause-err : goal.returns-clause-err
 returns-clause-err c =
     let name = c.in-Err-NotUtf8.name in
     let seen : map named c.deref.result.now ≡ texts_in c.args.texts.now = ap (λ ts. map named ts) c.deref.ensures.value ∙ c.in_ok-views.ensures in
-    let found = of_fault c.args.form _ c.in-Err-NotUtf8.field-0 name c.in-Err-NotUtf8.field-0-is c.in-Err-NotUtf8.ensures.refused in
+    let found = of_fault c.args.format _ c.in-Err-NotUtf8.field-0 name c.in-Err-NotUtf8.field-0-is c.in-Err-NotUtf8.ensures.refused in
     (found.0, subst (λ (n : List ℕ). Has n (texts_in c.args.texts.now)) (sym c.in_ok-from_str-in-Err-NotUtf8.ensures.ok) (subst (Has name.now) seen found.1))

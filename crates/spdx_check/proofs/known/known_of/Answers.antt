@@ -11,5 +11,5 @@ pub returns-in-Some-2 : goal.returns-in-Some-2
 returns-in-Some-2 c =
     let frame = c.in-Some-2.frame in
     let is = rw c.in-Some-2.is at c.in_ok-frame.ensures.text in
-    let tells = framed_tells c.args.form c.args.file.now (wrong_of c.in-Some.refusal) frame (told c.finding_at.result) c.finding_at.ensures is in
-    subst (λ found. Tells c.args.form c.args.file.now (option_map wrong_of found) (Framed frame)) (sym c.in-Some.is) tells
+    let tells = framed_tells c.args.format c.args.file.now (wrong_of c.in-Some.refusal) frame (told c.finding_at.result) c.finding_at.ensures is in
+    subst (λ found. Tells c.args.format c.args.file.now (option_map wrong_of found) (Framed frame)) (sym c.in-Some.is) tells

@@ -12,7 +12,7 @@ returns g c = record {
   finding = finding_of c.args.check.now.catalogue.now (heirs_in c.args.check.now) c.args.check.now.mode;
   findings = the_finding c.args.check.now.catalogue.now (heirs_in c.args.check.now) c.args.check.now.mode;
   runs = subst (Runs _ _) c.in_ok-summary.was c.run.ensures.runs;
-  blank = leaves_out_white (finding_of c.args.check.now.catalogue.now (heirs_in c.args.check.now) c.args.check.now.mode) c.args.check.now.form c.args.is_first c.args.file.now;
+  blank = leaves_out_white (finding_of c.args.check.now.catalogue.now (heirs_in c.args.check.now) c.args.check.now.mode) c.args.check.now.format c.args.is_first c.args.file.now;
   counts = counts_white _ _ _ _ c.in_ok-summary.ensures.closed;
 }
 
@@ -21,7 +21,7 @@ returns-in_err-summary g c = record {
   finding = finding_of c.args.check.now.catalogue.now (heirs_in c.args.check.now) c.args.check.now.mode;
   findings = the_finding c.args.check.now.catalogue.now (heirs_in c.args.check.now) c.args.check.now.mode;
   runs = let p = err_from_is_err_and c.from_residual.result c.from_residual.ensures.1 in rw (p.1, p.2) c.in_err-summary.ensures.runs;
-  blank = leaves_out_white (finding_of c.args.check.now.catalogue.now (heirs_in c.args.check.now) c.args.check.now.mode) c.args.check.now.form c.args.is_first c.args.file.now;
+  blank = leaves_out_white (finding_of c.args.check.now.catalogue.now (heirs_in c.args.check.now) c.args.check.now.mode) c.args.check.now.format c.args.is_first c.args.file.now;
   counts = let p = err_from_is_err_and c.from_residual.result c.from_residual.ensures.1 in rw (p.1) tt;
 }
 

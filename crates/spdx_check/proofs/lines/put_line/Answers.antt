@@ -16,4 +16,4 @@ returns-in-Some-clause-refuses c =
 pub returns-clause-known : goal.returns-clause-known
 returns-clause-known c =
     λ held. c.keep.ensures c.args.check.now c.args.file.now held
-    (subst (λ found. Tells c.args.check.now.form c.args.file.now found c.in_ok-known.known) c.in_ok-found.ensures c.in_ok-known.ensures)
+    (subst (λ found. Tells c.args.check.now.format c.args.file.now found c.in_ok-known.known) c.in_ok-found.ensures c.in_ok-known.ensures)
