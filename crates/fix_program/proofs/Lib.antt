@@ -1,4 +1,5 @@
 pub mod Slashes
+pub mod Stamped
 pub mod Untouched
 pub mod Walked
 pub mod Runs

@@ -5,6 +5,7 @@ use Rattle.std.specs.declared.io.Error.{Error}
 use Rattle.shelves.specs.Shelf.{Shelved}
 use Rattle.shelves.specs.declared.shelf.Kind.{Kind}
 use Rattle.shelves.specs.declared.shelf.Kind.TheVariants as kind
+use Rattle.shelves.specs.declared.shelf.Stamp.{Stamp}
 use Rattle.spdx_requirement.specs.Rows.{Rows}
 use Rattle.line_diff.specs.Diff.{diff_of, rows_of}
 use Rattle.fix_program.specs.Diffs.{diff_name}
@@ -49,6 +50,11 @@ IsWritable false input s path = Unit {0}
 pub record IsRead (s : Shelved) (is_written : Bool) (path bytes : List ℕ) : Type 0 where
   pub content : IsContentBy (is_input path) s path bytes
   pub writable : IsWritable is_written (is_input path) s path
+
+-- by what the file at the path is known; standard input is known by nothing
+abbrev pub IsKnown : Bool → Shelved → List ℕ → Stamp → Type 0
+IsKnown true s path stamp = Unit {0}
+IsKnown false s path stamp = s.Stamps path stamp
 
 -- it can't be read, as it is told; nothing is said of memory
 abbrev pub IsUnreadAs : List ℕ → (Error → Type 0) → FixTrouble → Type 0
@@ -113,6 +119,17 @@ IsDeedBy false input p path old new d = IsDiff path old new d
 IsDeedBy true true p path old new d = Puts (bytes_after old new) d
 IsDeedBy true false p path old new d = IsReplacement p path new d
 
+-- what is to take a file's place has this stamp; nothing takes the place of standard input
+abbrev pub IsStampedBy : Bool → Stamp → Deed → Type 0
+IsStampedBy true stamp (deed.Replace r) = ⊥
+IsStampedBy false stamp (deed.Replace r) = r.stamp ≡ stamp
+IsStampedBy input stamp d = Unit {0}
+
+-- what is to take the file's place is known by what the file was known by
+abbrev pub IsStamped : Shelved → List ℕ → Deed → Type 0
+IsStamped s path (deed.Replace r) = s.Stamps path r.stamp
+IsStamped s path d = Unit {0}
+
 -- what is done where these bytes, mended, are the new ones
 abbrev pub IsDeed : Bool → Parts → List ℕ → List ℕ → Option (Vec ℕ) → Deed → Type 0
 IsDeed is_written p path old new d = IsDeedBy is_written (is_input path) p path old new d
@@ -138,6 +155,7 @@ pub record IsFixedAt (s : Shelved) (c : Rows) (is_written : Bool) (p : Parts) (p
   pub reads : IsRead s is_written path bytes
   pub mends : IsMended c p (read_as is_written path) bytes outcome
   pub does : IsDeed is_written p path bytes outcome.bytes fixed.deed
+  pub stamped : IsStamped s path fixed.deed
   pub left_is : fixed.is_left ≡ outcome.is_left
 
 -- what is read is no manifest of its form

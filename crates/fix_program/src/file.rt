@@ -1,12 +1,13 @@
 // What is done with a file, over a shelf.
 
-ghost use Rattle.std.specs.Prelude.{◌≡◌, IfErr, IfOk, OnOk, codes};
+ghost use Rattle.std.specs.Prelude.{◌≡◌, Bool, IfErr, IfOk, OnOk, codes};
 ghost use Rattle.fix_program.specs.Files as spec;
 ghost use Rattle.fix_program.specs.Files.{
   AreAllRead,
   IsDeed,
   IsDiff,
   IsFixedAt,
+  IsKnown,
   IsNoDeed,
   IsNoDiff,
   IsNotFixed,
@@ -14,12 +15,15 @@ ghost use Rattle.fix_program.specs.Files.{
   IsRead,
   IsRegular,
   IsReplacement,
+  IsStampedBy,
   IsUnread,
   IsUnreadAs,
   IsUnmendedAs,
   IsUntouched,
+  is_input,
 };
 ghost use Rattle.file_fixes.specs.Mended.{IsMended};
+ghost use Rattle.shelves.specs.declared.shelf.Stamp.{Stamp};
 
 use crate::diffs::{diff_name, diff_text};
 use crate::trouble::FixTrouble;
@@ -89,6 +93,7 @@ pub fn file_fixed<S: Shelf>(
     Ok(fixed)
 }
 
+#[tactic(auto, using(crate::proofs::Stamped::stamped))]
 fn fixed_at<S: Shelf>(
     alloc: Global,
     shelf: &S,
@@ -155,6 +160,8 @@ fn read_at<S: Shelf>(
 ) -> Result<Stamped, FixTrouble>
     ensures ok { IfOk result (λ file.
         IsRead (S.told shelf.now) is_written path.now file.bytes.items) }
+    ensures known { IfOk result (λ file.
+        IsKnown (is_input path.now) (S.told shelf.now) path.now file.stamp) }
     ensures err { IfErr result (IsUnread (S.told shelf.now) is_written path.now) }
 {
     if path == "-" {
@@ -181,6 +188,7 @@ fn input<S: Shelf>(alloc: Global, shelf: &S) -> Result<Stamped, FixTrouble>
 
 fn regular_file<S: Shelf>(alloc: Global, shelf: &S, path: &str) -> Result<Stamped, FixTrouble>
     ensures ok { IfOk result (λ file. (S.told shelf.now).Holds path.now file.bytes.items) }
+    ensures stamp { IfOk result (λ file. (S.told shelf.now).Stamps path.now file.stamp) }
     ensures regular { OnOk result (IsRegular (S.told shelf.now) path.now) }
     ensures err { IfErr result (IsNotRegular (S.told shelf.now) path.now) }
 {
@@ -193,6 +201,7 @@ fn regular_file<S: Shelf>(alloc: Global, shelf: &S, path: &str) -> Result<Stampe
 
 fn file<S: Shelf>(alloc: Global, shelf: &S, path: &str) -> Result<Stamped, FixTrouble>
     ensures ok { IfOk result (λ file. (S.told shelf.now).Holds path.now file.bytes.items) }
+    ensures stamp { IfOk result (λ file. (S.told shelf.now).Stamps path.now file.stamp) }
     ensures err { IfErr result (IsUnreadAs path.now ((S.told shelf.now).Fails path.now)) }
 {
     match shelf.read_stamped(alloc, path) {
@@ -211,6 +220,7 @@ fn deed_of(
     new: Option<Vec<u8>>,
 ) -> Result<Deed, FixTrouble>
     ensures ok { IfOk result (IsDeed is_written parts path.now read.bytes.items new) }
+    ensures stamp { IfOk result (IsStampedBy (is_input path.now) read.stamp) }
     ensures err { IfErr result (IsNoDeed is_written path.now new) }
 {
     let Stamped { bytes, stamp } = read;
@@ -225,6 +235,7 @@ fn deed_of(
 
 fn shown(alloc: Global, path: &str, old: &[u8], new: Option<Vec<u8>>) -> Result<Deed, FixTrouble>
     ensures ok { IfOk result (IsDiff path.now old.now new) }
+    ensures stays { (input : Bool) (stamp : Stamp) → IfOk result (IsStampedBy input stamp) }
     ensures err { IfErr result (IsNoDiff path.now new) }
 {
     let Some(new) = new else {
@@ -243,7 +254,8 @@ fn replaced(
     stamp: Stamp,
     new: Option<Vec<u8>>,
 ) -> Result<Deed, AllocError>
-    ensures { IfOk result (IsReplacement parts path.now new) }
+    ensures ok { IfOk result (IsReplacement parts path.now new) }
+    ensures stamp { IfOk result (IsStampedBy false stamp) }
 {
     match new {
         Some(bytes) => Ok(Deed::Replace(Replacement {

@@ -68,7 +68,11 @@ pub fn put_page<'t>(
     Ok(())
 }
 
-fn page_of<'t>(alloc: Global, format: Format, shown: &Page<'_, 't>) -> Result<Vec<u8>, PageError<'t>>
+fn page_of<'t>(
+    alloc: Global,
+    format: Format,
+    shown: &Page<'_, 't>,
+) -> Result<Vec<u8>, PageError<'t>>
     ensures ok { IfOk result (λ whole. whole.items ≡ page_in format (told shown.now)) }
     ensures refused { IfErr result (IsRefusal format (told shown.now)) }
     ensures reads_back { IfOk result (λ whole. format ≡ Format.Json →

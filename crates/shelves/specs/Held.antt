@@ -1,5 +1,5 @@
 -- What a shelf of values tells: what stands in it.
-use Rattle.std.specs.Prelude.{◌≡◌, ◌⊎◌, ℕ, Bool, true, false, List, Option, None, Some, map, option_map, find, bytes_eq, string_bytes}
+use Rattle.std.specs.Prelude.{◌≡◌, ◌⊎◌, ℕ, Bool, true, false, List, Option, None, Some, map, option_map, find, bytes_eq, string_bytes, length}
 use Rattle.std.specs.List.{list_any}
 use Rattle.std.specs.IoError.{error_kind}
 use Rattle.std.specs.declared.io.Error.{Error}
@@ -10,6 +10,7 @@ use Rattle.shelves.specs.declared.held.HeldFolder.{HeldFolder}
 use Rattle.shelves.specs.declared.held.HeldVariable.{HeldVariable}
 use Rattle.shelves.specs.declared.held.HeldLink.{HeldLink}
 use Rattle.shelves.specs.declared.shelf.Kind.{Kind}
+use Rattle.shelves.specs.declared.shelf.Stamp.{Stamp}
 use Rattle.shelves.specs.declared.shelf.Kind.TheVariants as kind
 use Rattle.shelves.specs.Shelf.{Named, Shelved, entry_of}
 
@@ -56,9 +57,14 @@ abbrev pub IsFault : Option (List ℕ) → Option (List Named) → Error → Typ
 IsFault bytes entries error = (error_kind error ≡ OutOfMemory) ⊎
     ((error_kind error ≡ NotFound) × ((bytes ≡ None) ⊎ (entries ≡ None)))
 
+-- a file is known by its length alone
+abbrev pub IsStamp : Option (List ℕ) → Stamp → Type 0
+IsStamp bytes stamp = option_map length bytes ≡ Some stamp.length
+
 abbrev pub shelved : Held → Shelved
 shelved shelf = record {
   Holds = λ path bytes. bytes_at shelf.files.items path ≡ Some bytes;
+  Stamps = λ path stamp. IsStamp (bytes_at shelf.files.items path) stamp;
   IsFolder = λ path is. has_folder shelf.folders.items path ≡ is;
   IsOf = λ path kind. kind_at shelf path ≡ Some kind;
   Lists = λ path entries unnamed.

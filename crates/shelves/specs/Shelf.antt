@@ -3,6 +3,7 @@ use Rattle.std.specs.Prelude.{ℕ, Bool, List, Option, string_bytes}
 use Rattle.std.specs.declared.io.Error.{Error}
 use Rattle.shelves.specs.declared.shelf.Entry.{Entry}
 use Rattle.shelves.specs.declared.shelf.Kind.{Kind}
+use Rattle.shelves.specs.declared.shelf.Stamp.{Stamp}
 
 -- a name in a folder, and what it stands for
 pub record Named : Type 0 where
@@ -12,10 +13,12 @@ pub record Named : Type 0 where
 abbrev pub entry_of : Entry → Named
 entry_of e = record { name = string_bytes e.name; kind = e.kind }
 
--- which bytes the file at a path holds, what is there, what is in a folder, what a variable says, and
+-- which bytes the file at a path holds and by what it is known, what is there, what is in a folder, what a variable says, and
 -- which bytes the input has; and of each why it isn't told
 pub record Shelved : Type 1 where
   pub Holds : List ℕ → List ℕ → Type 0
+  -- the file at the path is known by this
+  pub Stamps : List ℕ → Stamp → Type 0
   pub IsFolder : List ℕ → Bool → Type 0
   -- this stands at the path, or where the link there leads
   pub IsOf : List ℕ → Kind → Type 0
@@ -35,6 +38,7 @@ pub record Shelved : Type 1 where
 abbrev pub silent : Shelved
 silent = record {
   Holds = λ path bytes. Unit {0};
+  Stamps = λ path stamp. Unit {0};
   IsFolder = λ path is. Unit {0};
   IsOf = λ path kind. Unit {0};
   Lists = λ path entries unnamed. Unit {0};

@@ -1,6 +1,6 @@
 // A shelf of values.
 
-ghost use Rattle.std.specs.Prelude.{◌≡◌, IfErr, IfOk, find, map, option_map, bytes_eq, string_bytes};
+ghost use Rattle.std.specs.Prelude.{◌≡◌, IfErr, IfOk, find, length, map, option_map, bytes_eq, string_bytes};
 ghost use Rattle.std.specs.IoError.{error_kind};
 ghost use Rattle.std.specs.declared.io.ErrorKind.TheVariants.{OutOfMemory};
 ghost use Rattle.std.specs.Option.{option_copied};
@@ -140,6 +140,19 @@ fn text_of(alloc: Global, text: &str) -> io::Result<String>
     }
 }
 
+// A file of a shelf of values is known by its length alone.
+fn stamp_of(bytes: &[u8]) -> Stamp
+    ensures { result.length ≡ length bytes.now }
+{
+    Stamp {
+        device: 0,
+        node: 0,
+        length: bytes.len() as u64,
+        changed: 0,
+        changed_nanos: 0,
+    }
+}
+
 fn entries_of(alloc: Global, entries: &[Entry]) -> io::Result<Vec<Entry>>
     ensures ok { IfOk result (λ copy. map entry_of copy.items ≡ map entry_of entries.now) }
     ensures err { IfErr result (λ error. error_kind error ≡ OutOfMemory) }
@@ -174,11 +187,13 @@ impl Shelf for Held {
     }
 
     fn read_stamped(&self, alloc: Global, path: &str) -> io::Result<Stamped> {
-        let bytes = self.read(alloc, path)?;
-        Ok(Stamped {
-            bytes,
-            stamp: Stamp::default(),
-        })
+        match bytes_at(&self.files, path) {
+            Some(bytes) => Ok(Stamped {
+                bytes: copy_of(alloc, bytes)?,
+                stamp: stamp_of(bytes),
+            }),
+            None => Err(io::Error::from(ErrorKind::NotFound)),
+        }
     }
 
     fn is_folder(&self, path: &str) -> io::Result<bool> {

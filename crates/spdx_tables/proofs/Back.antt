@@ -1,5 +1,5 @@
 -- What is written of rows is read back as the same rows, each with its place as its index.
-use Rattle.std.proofs.Common.{◌≡◌, ℕ, suc, ◌≤◌, Bool, true, false, ◌&&◌, List, [], ◌∷◌, Option, Some, Ok, map, refl, ap, arith}
+use Rattle.std.proofs.Common.{◌≡◌, ℕ, suc, ◌≤◌, Bool, true, false, ◌&&◌, List, [], ◌∷◌, Option, None, Some, Ok, map, refl, ap, arith, codes}
 use Rattle.std.specs.List.{list_all}
 use Rattle.std.specs.Str.{is_utf8}
 use Rattle.serde_json.specs.Data.{Data, depth, items_depth}
@@ -7,8 +7,8 @@ use Rattle.serde_json.specs.Read.{read, max_depth}
 use Rattle.serde_json.specs.View.{items_of}
 use Rattle.serde_json.specs.Written.{has_float, items_have_float}
 use Rattle.spdx_requirement.specs.Rows.{Rows, LicenseRow, ExceptionRow, ImpreciseRow}
-use Rattle.spdx_tables.specs.Shape.{license_row, exception_row, imprecise_row, rows_from, tables}
-use Rattle.spdx_tables.specs.TableReading.{tables_in}
+use Rattle.spdx_tables.specs.Shape.{license_row, exception_row, imprecise_row, rows_from, tables, text_at}
+use Rattle.spdx_tables.specs.TableReading.{date_in, tables_in}
 use Rattle.spdx_tables.specs.Places.{license_at, exception_at, numbered, renumbered}
 use Rattle.spdx_tables.specs.Written.{license_data, exception_data, imprecise_data, tables_data, license_fits, exception_fits, imprecise_fits, Fit}
 
@@ -53,23 +53,37 @@ pub all_fit : (rs : List ImpreciseRow) → list_all imprecise_fits rs ≡ true
 all_fit [] = refl
 all_fit (r ∷ rs) = all_fit rs
 
-tables_back : (c : Rows) → Fit c → tables (tables_data c) ≡ Ok (renumbered c)
-tables_back c fit =
+tables_back : (c : Rows) (date : Option (List ℕ)) → Fit c → tables (tables_data c date) ≡ Ok (renumbered c)
+tables_back c date fit =
     let licenses = rows_back license_row license_at license_data license_fits license_back c.licenses 0 fit.licenses in
     let exceptions = rows_back exception_row exception_at exception_data exception_fits exception_back c.exceptions 0 fit.exceptions in
     let imprecise = rows_back imprecise_row (λ (_ : ℕ) (r : ImpreciseRow). r) imprecise_data imprecise_fits imprecise_back c.imprecise 0 (all_fit c.imprecise) in
     rw (licenses, exceptions, imprecise, none_left c.imprecise 0)
 
-no_float : (c : Rows) → has_float (tables_data c) ≡ false
-no_float c = rw (plain exception_data (λ r. refl) c.exceptions, plain imprecise_data (λ r. refl) c.imprecise, plain license_data (λ r. refl) c.licenses)
+no_float : (c : Rows) (date : Option (List ℕ)) → has_float (tables_data c date) ≡ false
+no_float c None = rw (plain exception_data (λ r. refl) c.exceptions, plain imprecise_data (λ r. refl) c.imprecise, plain license_data (λ r. refl) c.licenses)
+no_float c (Some date) = rw (plain exception_data (λ r. refl) c.exceptions, plain imprecise_data (λ r. refl) c.imprecise, plain license_data (λ r. refl) c.licenses)
 
-pub shallow : (c : Rows) → depth (tables_data c) ≤ max_depth
-shallow c =
+pub shallow : (c : Rows) (date : Option (List ℕ)) → depth (tables_data c date) ≤ max_depth
+shallow c None =
+    let a = flat exception_data (λ r. refl) c.exceptions in
+    let b = flat imprecise_data (λ r. refl) c.imprecise in
+    let d = flat license_data (λ r. refl) c.licenses in
+    omega (arith, a, b, d)
+shallow c (Some date) =
     let a = flat exception_data (λ r. refl) c.exceptions in
     let b = flat imprecise_data (λ r. refl) c.imprecise in
     let d = flat license_data (λ r. refl) c.licenses in
     omega (arith, a, b, d)
 
 -- a text that reads as the value of tables holds them
-pub text_back : (text : List ℕ) (c : Rows) → Fit c → is_utf8 text ≡ true → read text ≡ Some (tables_data c) → tables_in text ≡ Ok (renumbered c)
-text_back text c fit utf8 reads = rw (utf8, reads, no_float c, tables_back c fit)
+pub text_back : (text : List ℕ) (c : Rows) (date : Option (List ℕ)) → Fit c → is_utf8 text ≡ true → read text ≡ Some (tables_data c date) → tables_in text ≡ Ok (renumbered c)
+text_back text c date fit utf8 reads = rw (utf8, reads, no_float c date, tables_back c date fit)
+
+date_at : (c : Rows) (date : Option (List ℕ)) → text_at (codes "version_date") (tables_data c date) ≡ date
+date_at c None = refl
+date_at c (Some date) = refl
+
+-- and it has the date that was written
+pub date_back : (text : List ℕ) (c : Rows) (date : Option (List ℕ)) → is_utf8 text ≡ true → read text ≡ Some (tables_data c date) → date_in text ≡ date
+date_back text c date utf8 reads = rw (utf8, reads, date_at c date)

@@ -1,5 +1,5 @@
 -- A text whose tokens are those of tables as they are written holds these tables.
-use Rattle.std.proofs.Common.{◌≡◌, ℕ, suc, ◌≤◌, Bool, true, List, [], ◌∷◌, ◌++◌, Option, Some, option_and_then, decimal, map, flat_map, nat_le, refl, sym, ap, ◌∙◌, subst, arith, append_assoc, append-nil}
+use Rattle.std.proofs.Common.{◌≡◌, ℕ, suc, ◌≤◌, Bool, true, List, [], ◌∷◌, ◌++◌, Option, None, Some, option_and_then, decimal, map, flat_map, nat_le, refl, sym, ap, ◌∙◌, subst, arith, append_assoc, append-nil}
 use Rattle.std.proofs.lemmas.Bool.{leb-true}
 use Rattle.std.specs.List.{list_all}
 use Rattle.json.specs.Token.{Token}
@@ -37,8 +37,13 @@ module _ {A : Type 0} (row_data : A → Data) (fits : A → Bool) where
   rows_read each [] all = refl
   rows_read each (r ∷ rs) all = rw (each r (front (fits r) (list_all fits rs) all), rows_read each rs (back (fits r) (list_all fits rs) all))
 
-tables_read : (c : Rows) → Fit c → of_json (outline (tables_data c)) ≡ Some (tables_data c)
-tables_read c fit =
+tables_read : (c : Rows) (date : Option (List ℕ)) → Fit c → of_json (outline (tables_data c date)) ≡ Some (tables_data c date)
+tables_read c None fit =
+    let licenses = rows_read license_data license_fits license_reads c.licenses fit.licenses in
+    let exceptions = rows_read exception_data exception_fits exception_reads c.exceptions fit.exceptions in
+    let imprecise = rows_read imprecise_data imprecise_fits imprecise_reads c.imprecise (all_fit c.imprecise) in
+    rw (exceptions, imprecise, licenses)
+tables_read c (Some date) fit =
     let licenses = rows_read license_data license_fits license_reads c.licenses fit.licenses in
     let exceptions = rows_read exception_data exception_fits exception_reads c.exceptions fit.exceptions in
     let imprecise = rows_read imprecise_data imprecise_fits imprecise_reads c.imprecise (all_fit c.imprecise) in
@@ -65,10 +70,10 @@ abbrev whole : Option (json.Json × List Token) → Option Data
 whole o = option_and_then of_json (option_and_then (λ p. json.if_last p.0 p.1) o)
 
 -- the text of the tokens of tables reads as their data
-pub read_written : (text : List ℕ) (c : Rows) → Fit c → tokens text ≡ data_tokens (tables_data c) → read text ≡ Some (tables_data c)
-read_written text c fit same =
-    let shallow_json : tree.depth (outline (tables_data c)) ≤ max_depth = subst (λ (n : ℕ). n ≤ max_depth) (sym (depth_outline (tables_data c))) (shallow c) in
-    ap whole (ap (json.value max_depth) (same ∙ sym (append-nil _)) ∙ value-json_tokens (outline (tables_data c)) max_depth [] shallow_json) ∙ tables_read c fit
+pub read_written : (text : List ℕ) (c : Rows) (date : Option (List ℕ)) → Fit c → tokens text ≡ data_tokens (tables_data c date) → read text ≡ Some (tables_data c date)
+read_written text c date fit same =
+    let shallow_json : tree.depth (outline (tables_data c date)) ≤ max_depth = subst (λ (n : ℕ). n ≤ max_depth) (sym (depth_outline (tables_data c date))) (shallow c date) in
+    ap whole (ap (json.value max_depth) (same ∙ sym (append-nil _)) ∙ value-json_tokens (outline (tables_data c date)) max_depth [] shallow_json) ∙ tables_read c date fit
 
 -- ---- rows one after another, and the bracket that closes their array
 

@@ -16,4 +16,4 @@ mod values;
 mod written;
 
 pub use crate::error::{Field, TableFault};
-pub use crate::tables::Tables;
+pub use crate::tables::{Tables, version_date};

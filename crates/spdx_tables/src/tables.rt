@@ -1,12 +1,12 @@
 // The tables of a catalogue, before their rows are checked.
 
-ghost use Rattle.std.specs.Prelude.{◌≡◌, Ok, Err, IfOk, IfErr};
+ghost use Rattle.std.specs.Prelude.{◌≡◌, Ok, Err, IfOk, IfErr, option_map, string_bytes};
 ghost use Rattle.std.specs.Result.{result_map_both};
 ghost use Rattle.serde_json.specs.View.{view};
 ghost use Rattle.spdx_requirement.specs.Failures.{IfRefused};
 ghost use Rattle.spdx_tables.specs.Shape as shape;
 ghost use Rattle.spdx_tables.specs.declared.error.TableFault.TheVariants.{Shape};
-ghost use Rattle.spdx_tables.specs.TableReading.{rows_of, tables_in};
+ghost use Rattle.spdx_tables.specs.TableReading.{date_in, rows_of, tables_in};
 
 use crate::error::{Field, TableFault};
 use crate::table_row::rows_at;
@@ -15,7 +15,7 @@ use crate::written::written_tables;
 use serde_json::Value;
 use spdx_requirement::failure::Failure;
 use spdx_requirement::row::{Exception, ImpreciseName, License};
-use std::alloc::Global;
+use std::alloc::{AllocError, Global};
 
 /// The tables that the JSON of a catalogue holds.
 #[derive(Drop)]
@@ -52,6 +52,22 @@ impl Tables {
             return Err(Failure::Refused(TableFault::Float));
         }
         from_value(alloc, &value)
+    }
+}
+
+/// The date of the version, which stands at the key `version_date`; none where the bytes are no JSON, or have no such text. It
+/// reads all of the bytes.
+pub fn version_date(alloc: Global, bytes: &[u8]) -> Result<Option<String>, AllocError>
+    ensures { IfOk result (λ date. option_map string_bytes date ≡ date_in bytes.now) }
+{
+    let value = match value_of(alloc, bytes) {
+        Ok(value) => value,
+        Err(Failure::Refused(_)) => return Ok(None),
+        Err(Failure::Memory(error)) => return Err(error),
+    };
+    match text_at(&value, "version_date") {
+        Some(date) => Ok(Some(String::from_str(alloc, date)?)),
+        None => Ok(None),
     }
 }
 

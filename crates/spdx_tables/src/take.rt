@@ -1,6 +1,8 @@
 // What a text in the form of `spdx list make` holds next, taken from its tokens.
 
-ghost use Rattle.std.specs.Prelude.{◌≡◌, ◌∷◌, [], OnOk, IfOk, IfSome, decimal};
+ghost use Rattle.std.specs.Prelude.{◌≡◌, ◌∷◌, ◌++◌, [], OnOk, IfOk, IfSome, decimal};
+ghost use Rattle.std.specs.Option.{option_copied};
+ghost use Rattle.spdx_tables.specs.Written.{last_tokens};
 ghost use Rattle.json.specs.Token.{begin_object, end_object, begin_array, key as key_token, string, number};
 
 use itoa::Buffer;
@@ -27,6 +29,32 @@ pub(crate) fn take_end_object(reader: &mut Reader<'_>) -> Result<(), Failure<Oth
 {
     match reader.next() {
         Some(Token::EndObject) => Ok(()),
+        _ => Err(Failure::Refused(OtherForm)),
+    }
+}
+
+/// The date of the version, if it is written, and the brace behind it.
+pub(crate) fn take_date<'a>(reader: &mut Reader<'a>) -> Result<Option<&'a str>, Failure<OtherForm>>
+    ensures { IfOk result (λ date.
+        reader.old ≡ last_tokens (option_copied date) ++ reader.new) }
+{
+    match reader.next() {
+        Some(Token::EndObject) => Ok(None),
+        Some(Token::Key(found)) if found == "version_date" => Ok(Some(take_last(reader)?)),
+        _ => Err(Failure::Refused(OtherForm)),
+    }
+}
+
+// A text, and the brace behind it.
+fn take_last<'a>(reader: &mut Reader<'a>) -> Result<&'a str, Failure<OtherForm>>
+    ensures { IfOk result (λ text.
+        reader.old ≡ string text.now ∷ end_object ∷ reader.new) }
+{
+    match reader.next() {
+        Some(Token::String(text)) => {
+            take_end_object(reader)?;
+            Ok(text)
+        }
         _ => Err(Failure::Refused(OtherForm)),
     }
 }

@@ -96,16 +96,41 @@ const EXAMPLES: &str = "Examples:
                                      which of two expressions asks for more
   spdx list show Apache-2.0          what the list says of a name";
 
-/// The command `spdx`. `version` is what `--version` prints.
-pub(crate) fn command<'a>(alloc: Global, version: &'a str) -> Result<Command<'a>, AllocError> {
-    Command::new(alloc, "spdx")
-        .bin_name("spdx")?
-        .about("Checks and mends SPDX license expressions, and judges packages by them")
-        .version(version)
-        .subcommand_required(true)
-        .arg_required_else_help(true)
-        .after_help(EXAMPLES)
-        .subcommand(check(alloc)?)?
+/// The command `spdx`, where this is the first word behind its name. `version` is what `--version` prints. Where the word is
+/// a command's, that one alone is made: to make all of them takes longer than to check a line.
+pub(crate) fn command<'a>(
+    alloc: Global,
+    version: &'a str,
+    word: &str,
+) -> Result<Command<'a>, AllocError> {
+    let spdx = bare(alloc, version)?;
+    match word {
+        "check" => spdx.subcommand(check(alloc)?),
+        "fix" => spdx.subcommand(fix(alloc)?),
+        "gate" => spdx.subcommand(gate(alloc)?),
+        "notice" => spdx.subcommand(notice(alloc)?),
+        "diff" => spdx.subcommand(diff(alloc)?),
+        "compare" => spdx.subcommand(compare(alloc)?),
+        "simplify" => spdx.subcommand(simplify(alloc)?),
+        "list" => spdx.subcommand(list(alloc)?),
+        _ => with_all(alloc, spdx),
+    }
+}
+
+fn bare<'a>(alloc: Global, version: &'a str) -> Result<Command<'a>, AllocError> {
+    Ok(
+        Command::new(alloc, "spdx")
+            .bin_name("spdx")?
+            .about("Checks and mends SPDX license expressions, and judges packages by them")
+            .version(version)
+            .subcommand_required(true)
+            .arg_required_else_help(true)
+            .after_help(EXAMPLES),
+    )
+}
+
+fn with_all<'a>(alloc: Global, spdx: Command<'a>) -> Result<Command<'a>, AllocError> {
+    spdx.subcommand(check(alloc)?)?
         .subcommand(fix(alloc)?)?
         .subcommand(gate(alloc)?)?
         .subcommand(notice(alloc)?)?

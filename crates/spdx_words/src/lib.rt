@@ -16,11 +16,11 @@ pub mod request;
 mod words;
 
 pub use crate::packages_request::{
-    Accepted, ChangesForm, ChangesRequest, GateForm, GateRequest, NoticeRequest, OwnTexts,
-    PageForm, Source, SourceForm,
+    Accepted, ChangesFormat, ChangesRequest, GateFormat, GateRequest, NoticeRequest, OwnTexts,
+    PageFormat, Source, SourceForm,
 };
 pub use crate::request::{
-    CheckRequest, CompareRequest, DiffRequest, FindingFormat, FixRequest, MakeRequest, Request, ShowRequest,
-    SimplifyRequest, Wanted,
+    CheckRequest, CompareRequest, DiffRequest, FindingFormat, FixRequest, MakeRequest, Request,
+    ShowRequest, SimplifyRequest, Wanted,
 };
 pub use crate::words::read;

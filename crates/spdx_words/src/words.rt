@@ -3,8 +3,8 @@
 use crate::command::command;
 use crate::packages_words::{changes_request, gate_request, notice_request};
 use crate::request::{
-    CheckRequest, CompareRequest, DiffRequest, FindingFormat, FixRequest, MakeRequest, Request, ShowRequest,
-    SimplifyRequest, Wanted,
+    CheckRequest, CompareRequest, DiffRequest, FindingFormat, FixRequest, MakeRequest, Request,
+    ShowRequest, SimplifyRequest, Wanted,
 };
 use clap::error::ErrorKind;
 use clap::{ArgMatches, Command, Error};
@@ -21,7 +21,11 @@ pub fn read<'w>(
     version: &'w str,
     words: &'w [String],
 ) -> Result<Request<'w>, Error> {
-    let matches = command(alloc, version)?.try_get_matches_from(words)?;
+    let word = match words.get(1) {
+        Some(word) => word.as_str(),
+        None => "",
+    };
+    let matches = command(alloc, version, word)?.try_get_matches_from(words)?;
     match matches.subcommand() {
         Some(("check", matches)) => Ok(Request::Check(check_request(alloc, matches)?)),
         Some(("fix", matches)) => Ok(Request::Fix(fix_request(alloc, matches)?)),

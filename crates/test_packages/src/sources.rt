@@ -87,7 +87,12 @@ fn form_of_word(word: &str) -> Form {
 fn read(alloc: Global, file: &File) -> Result<Vec<Package>, SourceError> {
     let bytes = file.bytes.as_slice();
     match file.words.as_slice() {
-        [word] if word.as_str() == "shape" => packages(alloc, guessed_form(alloc, bytes)?, "", bytes),
+        [word] if word.as_str() == "shape" => packages(
+            alloc,
+            guessed_form(alloc, bytes)?,
+            "",
+            bytes,
+        ),
         [_, each, name, license] => at_pointers(alloc, [each, name, license], None, bytes),
         [_, each, name, license, version] => {
             at_pointers(alloc, [each, name, license], Some(version.as_str()), bytes)
