@@ -10,6 +10,7 @@ use Rattle.shelves.specs.Shelf.{Shelved}
 use Rattle.list_program.specs.declared.trouble.ListTrouble.{ListTrouble}
 use Rattle.list_program.specs.declared.trouble.ListTrouble.TheVariants as trouble
 use Rattle.list_program.specs.Named.{InsideBytes, IsListAt, IsNamedList}
+use Rattle.list_program.specs.Dated.{IsDateAt, IsNamedDate}
 use Rattle.list_program.specs.Troubles.{IsPartOf, itself, its_licenses, its_exceptions, IsUnreadable, AreNoExtras, IsNoListAt, IsNoListNamed, IsNoNamedList}
 use Rattle.list_program.specs.Written.{MadePaths, IsOneOf, of_licenses, of_exceptions, of_extras, AreRead, AreExtrasAt, IsNoListOf, bad_extras, bad_files, IsNoText, IsUnwritten}
 
@@ -52,6 +53,9 @@ at_named s extras path trouble.Output u = u
 
 pub list_by_variable : (s : Shelved) (inside : InsideBytes) (path : List ℕ) (c : Rows) → s.Says (codes "SPDX_LIST") (Some path) → IsListAt s inside.extras path c → IsNamedList s inside None c
 list_by_variable s inside path c says is = (Some path, says, is)
+
+pub date_by_variable : (s : Shelved) (inside : InsideBytes) (path : List ℕ) (date : Option (List ℕ)) → s.Says (codes "SPDX_LIST") (Some path) → IsDateAt s path date → IsNamedDate s inside None date
+date_by_variable s inside path date says is = (Some path, says, is)
 
 pub none_by_variable : (s : Shelved) (inside : InsideBytes) (path : List ℕ) (t : ListTrouble) → s.Says (codes "SPDX_LIST") (Some path) → IsNoListNamed s inside.extras path t → IsNoNamedList s inside None t
 none_by_variable s inside path trouble.Memory says why = tt

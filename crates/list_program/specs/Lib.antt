@@ -1,3 +1,4 @@
 pub mod Named
+pub mod Dated
 pub mod Troubles
 pub mod Written

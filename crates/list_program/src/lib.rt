@@ -8,10 +8,12 @@
 //! It stands on `shelves`, `spdx_list`, `spdx_catalogue` and `line_engine`.
 #![tactic(auto)]
 
+pub mod dated;
 pub mod made;
 pub mod named;
 pub mod trouble;
 
+pub use crate::dated::named_date;
 pub use crate::made::{MadeOf, put_made_list};
 pub use crate::named::{Inside, extras_inside, list_at, named_list};
 pub use crate::trouble::ListTrouble;

@@ -114,7 +114,8 @@ pub fn list_at<S: Shelf>(
     }
 }
 
-fn is_folder<S: Shelf>(alloc: Global, shelf: &S, path: &str) -> Result<bool, ListTrouble>
+// Whether a folder is at the path.
+pub(crate) fn is_folder<S: Shelf>(alloc: Global, shelf: &S, path: &str) -> Result<bool, ListTrouble>
     ensures ok { IfOk result (λ is. (S.told shelf.now).IsFolder path.now is) }
     ensures err { IfErr result (IsUnreadable (S.told shelf.now) path.now) }
 {
@@ -211,7 +212,8 @@ pub fn extras_inside(alloc: Global, bytes: &[u8]) -> Result<Extras, ListTrouble>
     }
 }
 
-fn bytes_below<S: Shelf>(
+// The bytes of the file of this name in the folder.
+pub(crate) fn bytes_below<S: Shelf>(
     alloc: Global,
     shelf: &S,
     folder: &str,

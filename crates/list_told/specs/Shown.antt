@@ -1,5 +1,5 @@
 -- What `list show` writes.
-use Rattle.std.specs.Prelude.{◌≡◌, ◌↔◌, ◌⊎◌, ℕ, List, [], ◌∷◌, Ok, All, filter, map}
+use Rattle.std.specs.Prelude.{◌≡◌, ◌↔◌, ◌⊎◌, ℕ, List, [], ◌∷◌, Option, None, Ok, All, filter, map}
 use Rattle.std.specs.Option.{option_copied}
 use Rattle.shelves.specs.Shelf.{Shelved}
 use Rattle.spdx_requirement.specs.Rows.{Rows}
@@ -8,6 +8,7 @@ use Rattle.spdx_list.specs.Files.{ExtraRows, extras_in}
 use Rattle.list_program.specs.declared.trouble.ListTrouble.{ListTrouble}
 use Rattle.list_program.specs.declared.trouble.ListTrouble.TheVariants as trouble
 use Rattle.list_program.specs.Named.{InsideBytes, IsNamedList}
+use Rattle.list_program.specs.Dated.{IsNamedDate}
 use Rattle.list_program.specs.Troubles.{AreNoExtras, IsNoNamedList}
 use Rattle.list_told.specs.declared.shown.Asked.{Asked}
 use Rattle.list_told.specs.declared.shown.Shown.{Shown}
@@ -23,21 +24,30 @@ pub record AreShown (c : Rows) (x : ExtraRows) (names : List (List ℕ)) (shown 
       map unlisted_row shown.unlisted.items ≡ map (unlisted_by c) (filter (is_unlisted c) names)
 
 -- without names, all of them
-pub record AreAllShown (c : Rows) (shown : Shown) : Type 0 where
-  pub text_is : shown.text.items ≡ names_text c
+pub record AreAllShown (c : Rows) (day : Option (List ℕ)) (shown : Shown) : Type 0 where
+  pub text_is : shown.text.items ≡ names_text c day
   pub unlisted_are : shown.unlisted.items ≡ []
 
-abbrev pub IsShownBy : Rows → List ℕ → List (List ℕ) → Shown → Type 0
-IsShownBy c heirs [] shown = AreAllShown c shown
-IsShownBy c heirs (name ∷ names) shown =
+abbrev pub IsShownBy :
+    Rows → Option (List ℕ) → List ℕ → List (List ℕ) → Shown → Type 0
+IsShownBy c day heirs [] shown = AreAllShown c day shown
+IsShownBy c day heirs (name ∷ names) shown =
     (x : ExtraRows) × (extras_in heirs ≡ Ok x) × AreShown c x (name ∷ names) shown
+
+-- the day of the list is told without names alone
+abbrev pub IsDayFor :
+    Shelved → InsideBytes → Option (List ℕ) → List (List ℕ) → Option (List ℕ) → Type 0
+IsDayFor s inside list [] day = IsNamedDate s inside list day
+IsDayFor s inside list (name ∷ names) day = day ≡ None
 
 -- by the list that is named, or else is inside
 pub record IsShown (s : Shelved) (inside : InsideBytes) (heirs : List ℕ) (a : Asked)
     (shown : Shown) : Type 0 where
   pub catalogue : Rows
+  pub day : Option (List ℕ)
   pub list_is : IsNamedList s inside (option_copied a.list) catalogue
-  pub shown_is : IsShownBy catalogue heirs (nows a.names.now) shown
+  pub day_is : IsDayFor s inside (option_copied a.list) (nows a.names.now) day
+  pub shown_is : IsShownBy catalogue day heirs (nows a.names.now) shown
 
 -- why nothing is told by a list: the heirs, for which nobody asks without names, aren't readable
 abbrev pub AreNoHeirs : List ℕ → List (List ℕ) → ListTrouble → Type 0

@@ -12,12 +12,17 @@ use Rattle.list_told.specs.Heirs.{IsHeirIf}
 abbrev pub name_line : List ℕ → List ℕ
 name_line name = name ++ codes "\n"
 
--- the version, and each name a line
-unfoldable pub names_text : Rows → List ℕ
-names_text c =
-    codes "SPDX license list " ++ (c.version ++ (codes "\n" ++
+-- the day of the version, where it is known
+abbrev pub day_text : Option (List ℕ) → List ℕ
+day_text None = []
+day_text (Some day) = codes " of " ++ day
+
+-- the version with its day, and each name a line
+unfoldable pub names_text : Rows → Option (List ℕ) → List ℕ
+names_text c day =
+    codes "SPDX license list " ++ (c.version ++ (day_text day ++ (codes "\n" ++
     (flat_map name_line (map license_name c.licenses) ++
-    flat_map name_line (map exception_name c.exceptions))))
+    flat_map name_line (map exception_name c.exceptions)))))
 
 -- ---- of a name
 

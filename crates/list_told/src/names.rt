@@ -1,6 +1,6 @@
 // All names of a list.
 
-ghost use Rattle.std.specs.Prelude.{◌≡◌, ◌++◌, IfOk, OnOk, flat_map, map};
+ghost use Rattle.std.specs.Prelude.{◌≡◌, ◌++◌, IfOk, OnOk, flat_map, map, option_map, string_bytes};
 ghost use Rattle.spdx_requirement.specs.Rows.{exception_name, exception_of, license_name, row_of};
 ghost use Rattle.list_told.specs.Told as spec;
 
@@ -8,18 +8,37 @@ use spdx_catalogue::Catalogue;
 use spdx_requirement::row::{Exception, License};
 use std::alloc::{AllocError, Global};
 
-// The version of the list, and each name of it, a line each.
+// The version of the list with its day, where it is known, and each name of it, a line each.
 #[tactic(auto, unfolding(crate::specs::Told::names_text))]
-pub(crate) fn names_text(alloc: Global, catalogue: &Catalogue) -> Result<Vec<u8>, AllocError>
-    ensures { IfOk result (λ text. text.items ≡ spec.names_text catalogue.now) }
+pub(crate) fn names_text(
+    alloc: Global,
+    catalogue: &Catalogue,
+    day: &Option<String>,
+) -> Result<Vec<u8>, AllocError>
+    ensures { IfOk result (λ text. text.items
+        ≡ spec.names_text catalogue.now (option_map string_bytes day.now)) }
 {
     let mut text = Vec::new(alloc);
     text.extend_from_slice(b"SPDX license list ")?;
     text.extend_from_slice(catalogue.license_version().as_bytes())?;
+    put_day(&mut text, day)?;
     text.extend_from_slice(b"\n")?;
     put_licenses(&mut text, catalogue.licenses())?;
     put_exceptions(&mut text, catalogue.exceptions())?;
     Ok(text)
+}
+
+fn put_day(text: &mut Vec<u8>, day: &Option<String>) -> Result<(), AllocError>
+    ensures { OnOk result (text.new.items
+        ≡ text.old.items ++ spec.day_text (option_map string_bytes day.now)) }
+{
+    match day {
+        Some(day) => {
+            text.extend_from_slice(b" of ")?;
+            text.extend_from_slice(day.as_bytes())
+        }
+        None => Ok(()),
+    }
 }
 
 fn put_licenses(text: &mut Vec<u8>, rows: &[License]) -> Result<(), AllocError>

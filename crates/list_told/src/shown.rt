@@ -1,14 +1,16 @@
 //! What a list says of names, as it is told.
 
-ghost use Rattle.std.specs.Prelude.{◌≡◌, IfErr, IfOk};
+ghost use Rattle.std.specs.Prelude.{◌≡◌, IfErr, IfOk, option_map, string_bytes};
+ghost use Rattle.std.specs.Option.{option_copied};
 ghost use Rattle.spdx_list.specs.Diff.{nows};
 ghost use Rattle.spdx_list.specs.Shown.{shown_extras};
 ghost use Rattle.list_program.specs.Named.{inside_of};
-ghost use Rattle.list_told.specs.Shown as spec;
+ghost use Rattle.list_program.specs.Troubles.{IsNoNamedList};
 ghost use Rattle.list_told.specs.Shown.{
   AreAllShown,
   AreNoHeirs,
   AreShown,
+  IsDayFor,
   IsNotShown,
   IsShown,
   IsShownBy,
@@ -19,7 +21,7 @@ ghost use Rattle.list_told.specs.Shown.{
 use crate::names::names_text;
 use crate::rows::rows_text;
 use crate::unlisted::{Unlisted, unlisted_among};
-use list_program::{Inside, ListTrouble, extras_inside, named_list};
+use list_program::{Inside, ListTrouble, extras_inside, named_date, named_list};
 use shelves::Shelf;
 use spdx_catalogue::Catalogue;
 use spdx_list::Extras;
@@ -53,7 +55,7 @@ impl Shown {
 }
 
 /// Tells what the list that is named says of the names, in whatever case its own are written; without names, its version
-/// and all of its names. What to write in place of deprecated names is said by `heirs`, where they can't be mended.
+/// with its day, where the list has it, and all of its names. What to write in place of deprecated names is said by `heirs`, where they can't be mended.
 ///
 /// # Errors
 ///
@@ -73,23 +75,47 @@ pub fn show<S: Shelf>(
         (inside_of inside.entry.list.now inside.entry.extras.now) asked.entry) }
 {
     let catalogue = named_list(alloc, shelf, inside, asked.list)?;
-    let shown = shown_by(alloc, &catalogue, heirs, asked.names)?;
+    let day = day_for(alloc, shelf, inside, asked)?;
+    let shown = shown_by(alloc, &catalogue, &day, heirs, asked.names)?;
     Ok(shown)
+}
+
+// The day of the list, which is told without names alone.
+fn day_for<S: Shelf>(
+    alloc: Global,
+    shelf: &S,
+    inside: Inside<'_>,
+    asked: Asked<'_>,
+) -> Result<Option<String>, ListTrouble>
+    ensures ok { IfOk result (λ day. IsDayFor (S.told shelf.now)
+        (inside_of inside.entry.list.now inside.entry.extras.now)
+        (option_copied asked.entry.list) (nows asked.entry.names.now)
+        (option_map string_bytes day)) }
+    ensures err { IfErr result (IsNoNamedList (S.told shelf.now)
+        (inside_of inside.entry.list.now inside.entry.extras.now)
+        (option_copied asked.entry.list)) }
+{
+    match asked.names {
+        [] => named_date(alloc, shelf, inside, asked.list),
+        [_, ..] => Ok(None),
+    }
 }
 
 // What this list says of them.
 fn shown_by(
     alloc: Global,
     catalogue: &Catalogue,
+    day: &Option<String>,
     heirs: &[u8],
     names: &[&str],
 ) -> Result<Shown, ListTrouble>
-    ensures ok { IfOk result (IsShownBy catalogue.now heirs.now (nows names.now)) }
+    ensures ok { IfOk result (IsShownBy catalogue.now (option_map string_bytes day.now)
+        heirs.now (nows names.now)) }
     ensures err { IfErr result (AreNoHeirs heirs.now (nows names.now)) }
 {
     match names {
         [] => {
-            let shown = all_shown(alloc, catalogue)?;
+            let shown = all_shown(alloc, catalogue, day)?;
             Ok(shown)
         }
         [_, ..] => {
@@ -100,11 +126,15 @@ fn shown_by(
     }
 }
 
-fn all_shown(alloc: Global, catalogue: &Catalogue) -> Result<Shown, AllocError>
-    ensures { IfOk result (AreAllShown catalogue.now) }
+fn all_shown(
+    alloc: Global,
+    catalogue: &Catalogue,
+    day: &Option<String>,
+) -> Result<Shown, AllocError>
+    ensures { IfOk result (AreAllShown catalogue.now (option_map string_bytes day.now)) }
 {
     Ok(Shown {
-        text: names_text(alloc, catalogue)?,
+        text: names_text(alloc, catalogue, day)?,
         unlisted: Vec::new(alloc),
     })
 }

@@ -1,6 +1,7 @@
 pub mod Faults
 pub mod Items
 pub mod Files
+pub mod Dates
 pub mod Shown
 pub mod Made
 pub mod Names

@@ -10,6 +10,8 @@ use Rattle.spdx_catalogue.specs.Reading.{catalogue_in}
 use Rattle.spdx_list.specs.declared.error.ListFault.{ListFault}
 use Rattle.spdx_list.specs.declared.error.ListFault.TheVariants as fault
 use Rattle.spdx_list.specs.Files.{ExtraRows, gathered}
+use Rattle.spdx_tables.specs.TableReading.{date_in}
+use Rattle.spdx_list.specs.Dates.{released_in}
 use Rattle.spdx_list.specs.Forms.{with_forms}
 
 -- the same rows, rearranged so that no name is less, by bytes, than the one before; each with its
@@ -41,7 +43,8 @@ IsRefused licenses exceptions extras f =
     ⊎ ((made : Rows) × Makes licenses exceptions extras made ×
     (option_map fault.Catalogue (first_fault made) ≡ Some f))
 
--- the text reads back as the rows that the files make
+-- the text reads back as the rows that the files make, and has the date that they tell
 abbrev pub IsTextOf : List ℕ → List ℕ → ExtraRows → List ℕ → Type 0
 IsTextOf licenses exceptions extras text =
-    (made : Rows) × Makes licenses exceptions extras made × (catalogue_in text ≡ Ok made)
+    (made : Rows) × Makes licenses exceptions extras made × (catalogue_in text ≡ Ok made) ×
+    (date_in text ≡ released_in licenses)

@@ -1,6 +1,7 @@
 //! A catalogue made of SPDX's own two files, and a catalogue written as JSON.
 #![tactic(auto)]
 
+mod date;
 pub mod diff;
 pub mod error;
 pub mod extras;
@@ -12,6 +13,7 @@ mod order;
 pub mod tables;
 pub mod text;
 
+pub use crate::date::release_date;
 pub use crate::diff::{Listed, RowChange, RowDifferences, differences};
 pub use crate::error::{File, ListFault, Member, Table};
 pub use crate::extras::{Extras, Instead};

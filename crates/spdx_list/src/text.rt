@@ -1,17 +1,18 @@
 // Tables written as JSON.
 
-ghost use Rattle.std.specs.Prelude.{◌≡◌, Bool, true, Ok, IfOk, IfErr, map, string_bytes};
+ghost use Rattle.std.specs.Prelude.{◌≡◌, Bool, true, Ok, IfOk, IfErr, map, option_map, string_bytes};
 ghost use Rattle.std.specs.List.{list_all};
 ghost use Rattle.serde_json.specs.Data.{Data};
 ghost use Rattle.serde_json.specs.View.{view};
 ghost use Rattle.spdx_requirement.specs.Rows.{LicenseRow, ExceptionRow, ImpreciseRow, row_of, exception_of, imprecise_of};
-ghost use Rattle.spdx_tables.specs.TableReading.{rows_of, tables_in};
+ghost use Rattle.spdx_tables.specs.TableReading.{date_in, rows_of, tables_in};
 ghost use Rattle.spdx_tables.specs.Places.{renumbered};
 ghost use Rattle.spdx_tables.specs.Written.{license_data, exception_data, imprecise_data, tables_data, license_fits, exception_fits, imprecise_fits, Fit};
 ghost use Rattle.spdx_list.specs.Made.{IsRefused, IsTextOf};
 ghost use Rattle.spdx_requirement.specs.Failures.{IfRefused};
 ghost use Rattle.spdx_list.specs.Shown.{shown_extras};
 
+use crate::date::release_date;
 use crate::error::ListFault;
 use crate::extras::Extras;
 use crate::tables::tables_of;
@@ -98,31 +99,45 @@ fn values_of<R: Written>(alloc: Global, rows: &[R]) -> Result<Vec<Value>, AllocE
     Ok(values)
 }
 
-fn value_of(alloc: Global, tables: &Tables) -> Result<Value, AllocError>
-    ensures value { IfOk result (λ v. view v ≡ tables_data (rows_of tables.now)) }
+fn value_of(alloc: Global, tables: &Tables, date: &Option<String>) -> Result<Value, AllocError>
+    ensures value { IfOk result (λ v.
+        view v ≡ tables_data (rows_of tables.now) (option_map string_bytes date.now)) }
     ensures fit { IfOk result (λ _. Fit (rows_of tables.now)) }
 {
     let exceptions = values_of(alloc, &tables.exceptions)?;
     let imprecise = values_of(alloc, &tables.imprecise)?;
     let licenses = values_of(alloc, &tables.licenses)?;
     let version = tables.version.as_str();
-    json!(in alloc; {
-        "exceptions": exceptions, "imprecise": imprecise, "licenses": licenses, "version": version
-    })
+    match date {
+        Some(date) => {
+            let date = date.as_str();
+            json!(in alloc; {
+                "exceptions": exceptions, "imprecise": imprecise, "licenses": licenses,
+                "version": version, "version_date": date
+            })
+        }
+        None => json!(in alloc; {
+            "exceptions": exceptions, "imprecise": imprecise, "licenses": licenses,
+            "version": version
+        }),
+    }
 }
 
 /// The tables as JSON, as `Tables::from_json` reads them: the same rows, each with its place as its
-/// index.
-pub fn text_of(alloc: Global, tables: &Tables) -> Result<String, AllocError>
-    ensures { IfOk result (λ text.
+/// index; and the date of their version, as `version_date` reads it.
+pub fn text_of(alloc: Global, tables: &Tables, date: &Option<String>) -> Result<String, AllocError>
+    ensures tables { IfOk result (λ text.
         tables_in (string_bytes text) ≡ Ok (renumbered (rows_of tables.now))) }
+    ensures date { IfOk result (λ text.
+        date_in (string_bytes text) ≡ option_map string_bytes date.now) }
 {
-    let value = value_of(alloc, tables)?;
+    let value = value_of(alloc, tables, date)?;
     value.to_string_pretty(alloc)
 }
 
 /// The catalogue that SPDX's files make, as JSON: `Catalogue::from_json` reads it back as the
-/// catalogue that `catalogue_of` makes of them.
+/// catalogue that `catalogue_of` makes of them, and `version_date` the day on which the licences were
+/// released, if they tell it.
 ///
 /// # Errors
 ///
@@ -139,7 +154,8 @@ pub fn list_text(
         IsRefused licenses.now exceptions.now (shown_extras extras.now))) }
 {
     let tables = tables_of(alloc, licenses, exceptions, extras)?;
-    let text = text_of(alloc, &tables)?;
+    let date = release_date(alloc, licenses)?;
+    let text = text_of(alloc, &tables, &date)?;
     match Catalogue::new(
         tables.version,
         tables.licenses,
