@@ -66,6 +66,9 @@ none_by_variable s inside path (trouble.NotMade n f) says why = inr (Some path, 
 none_by_variable s inside path (trouble.NoExtras f) says why = inr (Some path, says, why)
 none_by_variable s inside path trouble.Output says why = inr (Some path, says, why)
 
+pub none_said : (s : Shelved) (inside : InsideBytes) (path : List ℕ) (t : ListTrouble) → s.Says (codes "SPDX_LIST") (Some path) → ((extras : List ℕ) → IsNoListNamed s extras path t) → IsNoNamedList s inside None t
+none_said s inside path t says why = none_by_variable s inside path t says (why inside.extras)
+
 pub no_text : (s : Shelved) (inside : InsideBytes) → s.IsNoText (codes "SPDX_LIST") → IsNoNamedList s inside None trouble.Nameless
 no_text s inside is = inl (is, refl)
 

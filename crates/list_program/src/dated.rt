@@ -26,7 +26,7 @@ use std::alloc::Global;
 /// # Errors
 ///
 /// The file can't be read, or memory was refused.
-#[tactic(auto, using(crate::proofs::Causes::date_by_variable, crate::proofs::Causes::none_by_variable, crate::proofs::Causes::no_text))]
+#[tactic(auto, using(crate::proofs::Causes::date_by_variable, crate::proofs::Causes::none_said, crate::proofs::Causes::no_text))]
 pub fn named_date<S: Shelf>(
     alloc: Global,
     shelf: &S,
