@@ -1,0 +1,84 @@
+// The list that lines are.
+
+ghost use Rattle.std.specs.Prelude.{◌≡◌, None, Some, IfErr, IfOk, map, option_map, string_bytes};
+ghost use Rattle.spdx_requirement.specs.Rows.{row_of, exception_of, imprecise_of};
+ghost use Rattle.spdx_requirement.specs.Failures.{IfRefused};
+ghost use Rattle.list_lines.specs.Lines as spec;
+ghost use Rattle.list_lines.specs.Reading.{IsListOf, IsNoListOf, tables_shown};
+
+use crate::cells::at_feed;
+use crate::rows::rows_of;
+use spdx_catalogue::{Catalogue, CatalogueError};
+use spdx_requirement::failure::Failure;
+use spdx_requirement::row::{Exception, ImpreciseName, License};
+use std::alloc::{AllocError, Global};
+
+/// Why lines are no list.
+#[derive(Clone, Copy, PartialEq, Eq, Debug)]
+pub enum LinesFault {
+    /// Form feeds or tabs are missing, or flags are no single byte.
+    NotLines,
+    /// The rows break this rule of a catalogue first.
+    Catalogue(CatalogueError),
+}
+
+// The tables that lines have.
+#[derive(Drop)]
+struct Tables {
+    version: String,
+    licenses: Vec<License>,
+    exceptions: Vec<Exception>,
+    imprecise: Vec<ImpreciseName>,
+}
+
+fn tables_of(alloc: Global, text: &str) -> Result<Option<Tables>, AllocError>
+    ensures { IfOk result (λ o. option_map tables_shown o ≡ spec.list_in text.now) }
+{
+    let Some((version, behind)) = at_feed(text) else {
+        return Ok(None);
+    };
+    let Some((exceptions, behind)) = at_feed(behind) else {
+        return Ok(None);
+    };
+    let Some((licenses, imprecise)) = at_feed(behind) else {
+        return Ok(None);
+    };
+    let Some(exceptions) = rows_of(alloc, exceptions)? else {
+        return Ok(None);
+    };
+    let Some(licenses) = rows_of(alloc, licenses)? else {
+        return Ok(None);
+    };
+    let Some(imprecise) = rows_of(alloc, imprecise)? else {
+        return Ok(None);
+    };
+    Ok(Some(Tables {
+        version: String::from_str(alloc, version)?,
+        licenses,
+        exceptions,
+        imprecise,
+    }))
+}
+
+/// The catalogue that the text is, in time n log n of its rows.
+///
+/// # Errors
+///
+/// The first `LinesFault` that applies, or that memory was refused.
+pub fn catalogue_in_lines(alloc: Global, text: &str) -> Result<Catalogue, Failure<LinesFault>>
+    ensures ok { IfOk result (IsListOf text.now) }
+    ensures err { IfErr result (IfRefused (IsNoListOf text.now)) }
+{
+    let Some(tables) = tables_of(alloc, text)? else {
+        return Err(Failure::Refused(LinesFault::NotLines));
+    };
+    match Catalogue::new(
+        tables.version,
+        tables.licenses,
+        tables.exceptions,
+        tables.imprecise,
+    ) {
+        Ok(catalogue) => Ok(catalogue),
+        Err(fault) => Err(Failure::Refused(LinesFault::Catalogue(fault))),
+    }
+}

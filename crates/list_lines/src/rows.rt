@@ -1,0 +1,120 @@
+// Rows, a line each.
+
+ghost use Rattle.std.specs.Prelude.{◌≡◌, ℕ, List, Option, IfOk, map, option_map};
+ghost use Rattle.std.specs.Str.Lines.{lines};
+ghost use Rattle.spdx_requirement.specs.Rows.{LicenseRow, ExceptionRow, ImpreciseRow, row_of, exception_of, imprecise_of};
+ghost use Rattle.list_lines.specs.Lines as spec;
+
+use crate::cells::{at_tab, flags_in};
+use spdx_requirement::row::{Exception, ImpreciseName, License};
+use std::alloc::{AllocError, Global};
+
+/// A row that is written as a line.
+pub(crate) trait LineRow: Drop {
+    ghost Shown: { Type 0 };
+
+    ghost shown: { Self → Shown };
+
+    ghost row_at: { ℕ → List ℕ → Option Shown };
+
+    /// The row that the line is, at its index.
+    fn read(alloc: Global, line: &str, index: usize) -> Result<Option<Self>, AllocError>
+        ensures { IfOk result (λ o. option_map shown o ≡ row_at index line.now) };
+}
+
+impl LineRow for License {
+    ghost Shown = { LicenseRow };
+
+    ghost shown = { row_of };
+
+    ghost row_at = { spec.license_line };
+
+    fn read(alloc: Global, line: &str, index: usize) -> Result<Option<License>, AllocError> {
+        let Some((flags, names)) = at_tab(line) else {
+            return Ok(None);
+        };
+        let Some((name, full_name)) = at_tab(names) else {
+            return Ok(None);
+        };
+        let Some(flags) = flags_in(flags) else {
+            return Ok(None);
+        };
+        Ok(Some(License {
+            name: String::from_str(alloc, name)?,
+            full_name: String::from_str(alloc, full_name)?,
+            index,
+            flags,
+        }))
+    }
+}
+
+impl LineRow for Exception {
+    ghost Shown = { ExceptionRow };
+
+    ghost shown = { exception_of };
+
+    ghost row_at = { spec.exception_line };
+
+    fn read(alloc: Global, line: &str, index: usize) -> Result<Option<Exception>, AllocError> {
+        let Some((flags, name)) = at_tab(line) else {
+            return Ok(None);
+        };
+        let Some(flags) = flags_in(flags) else {
+            return Ok(None);
+        };
+        Ok(Some(Exception {
+            name: String::from_str(alloc, name)?,
+            index,
+            flags,
+        }))
+    }
+}
+
+impl LineRow for ImpreciseName {
+    ghost Shown = { ImpreciseRow };
+
+    ghost shown = { imprecise_of };
+
+    ghost row_at = { spec.imprecise_line };
+
+    fn read(alloc: Global, line: &str, _index: usize) -> Result<Option<ImpreciseName>, AllocError> {
+        let Some((prefix, name)) = at_tab(line) else {
+            return Ok(None);
+        };
+        Ok(Some(ImpreciseName {
+            prefix: String::from_str(alloc, prefix)?,
+            name: String::from_str(alloc, name)?,
+        }))
+    }
+}
+
+/// The rows of a text, if each of its lines is one.
+pub(crate) fn rows_of<R: LineRow>(alloc: Global, text: &str) -> Result<Option<Vec<R>>, AllocError>
+    ensures { IfOk result (λ o. option_map (λ v. map R.shown v.items) o
+        ≡ spec.rows_from R.row_at 0 (lines text.now)) }
+{
+    let lines = lines_of(alloc, text)?;
+    let rows = rows_from(alloc, &lines)?;
+    Ok(rows)
+}
+
+fn lines_of<'t>(alloc: Global, text: &'t str) -> Result<Vec<&'t str>, AllocError>
+    ensures { IfOk result (λ v. map (λ x. x.now) v.items ≡ lines text.now) }
+{
+    text.lines().collect(alloc)
+}
+
+// The rows that the lines are, if each of them is one.
+fn rows_from<R: LineRow>(alloc: Global, lines: &[&str]) -> Result<Option<Vec<R>>, AllocError>
+    ensures { IfOk result (λ o. option_map (λ v. map R.shown v.items) o
+        ≡ spec.rows_from R.row_at 0 (map (λ x. x.now) lines.now)) }
+{
+    let mut rows = Vec::new(alloc);
+    for (index, line) in lines.iter().enumerate() {
+        match R::read(alloc, line, index)? {
+            Some(row) => rows.push(row)?,
+            None => return Ok(None),
+        }
+    }
+    Ok(Some(rows))
+}
