@@ -36,6 +36,19 @@ rows_from row index (line ∷ lines) =
 abbrev pub rows_in : {A : Type 0} → (ℕ → List ℕ → Option A) → List ℕ → Option (List A)
 rows_in row text = rows_from row 0 (lines text)
 
+abbrev pub front_or : Option (List ℕ × List ℕ) → List ℕ → List ℕ
+front_or (Some cells) line = cells.0
+front_or None line = line
+
+-- the version, which a tab and its day may follow
+abbrev pub version_in : List ℕ → List ℕ
+version_in line = front_or (at_tab line) line
+
+-- the day of the version, if it stands there
+abbrev pub day_in : List ℕ → Option (List ℕ)
+day_in text =
+    option_and_then (λ version. option_map (λ cells. cells.1) (at_tab version.0)) (at_feed text)
+
 -- the version, the exceptions, the licences and the imprecise names, with a form feed between each
 -- two
 abbrev pub list_in : List ℕ → Option Rows
@@ -47,7 +60,7 @@ list_in text =
     option_and_then (λ own_licenses.
     option_map (λ own_imprecise.
     record {
-      version = version.0;
+      version = version_in version.0;
       licenses = own_licenses;
       exceptions = own_exceptions;
       imprecise = own_imprecise;

@@ -6,7 +6,7 @@
 //! ..
 //! ```
 //!
-//! The version, the exceptions, the licences and the imprecise names stand in this order, with a form feed between each two. A
+//! The version, behind which a tab and its day may stand, the exceptions, the licences and the imprecise names stand in this order, with a form feed between each two. A
 //! row is a line, with a tab between its cells: its flags as one byte, counted from `0`, and its names. It stands on
 //! `spdx_catalogue`.
 #![tactic(auto)]
@@ -15,4 +15,4 @@ mod cells;
 mod read;
 mod rows;
 
-pub use crate::read::{LinesFault, catalogue_in_lines};
+pub use crate::read::{LinesFault, catalogue_in_lines, day_in_lines};

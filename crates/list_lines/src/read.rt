@@ -1,12 +1,11 @@
 // The list that lines are.
 
-ghost use Rattle.std.specs.Prelude.{◌≡◌, None, Some, IfErr, IfOk, map, option_map, string_bytes};
-ghost use Rattle.spdx_requirement.specs.Rows.{row_of, exception_of, imprecise_of};
+ghost use Rattle.std.specs.Prelude.{◌≡◌, IfErr, IfOk, option_map, string_bytes};
 ghost use Rattle.spdx_requirement.specs.Failures.{IfRefused};
 ghost use Rattle.list_lines.specs.Lines as spec;
 ghost use Rattle.list_lines.specs.Reading.{IsListOf, IsNoListOf, tables_shown};
 
-use crate::cells::at_feed;
+use crate::cells::{at_feed, at_tab};
 use crate::rows::rows_of;
 use spdx_catalogue::{Catalogue, CatalogueError};
 use spdx_requirement::failure::Failure;
@@ -20,6 +19,28 @@ pub enum LinesFault {
     NotLines,
     /// The rows break this rule of a catalogue first.
     Catalogue(CatalogueError),
+}
+
+fn version_in(line: &str) -> &str
+    ensures { result.now ≡ spec.version_in line.now }
+{
+    match at_tab(line) {
+        Some((version, _)) => version,
+        None => line,
+    }
+}
+
+/// The day on which the version of the list came out, if the text has it.
+pub fn day_in_lines(alloc: Global, text: &str) -> Result<Option<String>, AllocError>
+    ensures { IfOk result (λ day. option_map string_bytes day ≡ spec.day_in text.now) }
+{
+    let Some((version, _)) = at_feed(text) else {
+        return Ok(None);
+    };
+    match at_tab(version) {
+        Some((_, day)) => Ok(Some(String::from_str(alloc, day)?)),
+        None => Ok(None),
+    }
 }
 
 // The tables that lines have.
@@ -53,7 +74,7 @@ fn tables_of(alloc: Global, text: &str) -> Result<Option<Tables>, AllocError>
         return Ok(None);
     };
     Ok(Some(Tables {
-        version: String::from_str(alloc, version)?,
+        version: String::from_str(alloc, version_in(version))?,
         licenses,
         exceptions,
         imprecise,

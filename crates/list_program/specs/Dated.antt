@@ -2,6 +2,7 @@
 use Rattle.std.specs.Prelude.{◌≡◌, ℕ, Bool, true, false, List, Option, Some, None, codes}
 use Rattle.std.specs.Path.{path_join}
 use Rattle.spdx_tables.specs.TableReading.{date_in}
+use Rattle.list_lines.specs.Lines.{day_in}
 use Rattle.spdx_list.specs.Dates.{released_in}
 use Rattle.shelves.specs.Shelf.{Shelved}
 use Rattle.list_program.specs.Named.{InsideBytes}
@@ -28,7 +29,7 @@ IsDateAt s path date =
 -- of the list that a variable says, or else of the one inside
 abbrev pub IsDateSaid : Shelved → InsideBytes → Option (List ℕ) → Option (List ℕ) → Type 0
 IsDateSaid s inside (Some path) date = IsDateAt s path date
-IsDateSaid s inside None date = date ≡ date_in inside.list
+IsDateSaid s inside None date = date ≡ day_in inside.list
 
 -- of the list that is used, which `IsNamedList` says
 abbrev pub IsNamedDate : Shelved → InsideBytes → Option (List ℕ) → Option (List ℕ) → Type 0

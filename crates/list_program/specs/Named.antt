@@ -7,10 +7,10 @@ use Rattle.spdx_catalogue.specs.Names.{without_plus}
 use Rattle.spdx_catalogue.specs.Reading.{catalogue_in}
 use Rattle.spdx_list.specs.Files.{ExtraRows, extras_in}
 use Rattle.spdx_list.specs.Made.{Makes}
+use Rattle.list_lines.specs.Reading.{IsListOf}
 use Rattle.shelves.specs.Shelf.{Shelved}
 
--- what a program has inside: a list in its own form, and what this project says besides SPDX's
--- files
+-- what a program has inside: a list as lines, and what this project says besides SPDX's files
 pub record InsideBytes : Type 0 where
   pub list : List ℕ
   pub extras : List ℕ
@@ -69,7 +69,7 @@ IsListAt s extras path c =
 -- the list that a variable says: the one at its path; where it isn't set, the one inside
 abbrev pub IsListSaid : Shelved → InsideBytes → Option (List ℕ) → Rows → Type 0
 IsListSaid s inside (Some path) c = IsListAt s inside.extras path c
-IsListSaid s inside None c = catalogue_in inside.list ≡ Ok c
+IsListSaid s inside None c = IsListOf inside.list c
 
 -- the list that is used: the one at the path that was given, else the one that SPDX_LIST says
 abbrev pub IsNamedList : Shelved → InsideBytes → Option (List ℕ) → Rows → Type 0

@@ -3,7 +3,11 @@ use Rattle.std.specs.Prelude.{◌≡◌, ◌⊎◌, ℕ, List, [], Option, Some,
 use Rattle.std.specs.Path.{path_join}
 use Rattle.spdx_requirement.specs.Rows.{Rows}
 use Rattle.spdx_catalogue.specs.declared.error.ReadFault.{ReadFault}
+use Rattle.spdx_catalogue.specs.declared.error.ReadFault.TheVariants as read
 use Rattle.spdx_catalogue.specs.Reading.{catalogue_in}
+use Rattle.list_lines.specs.Reading.{IsNoListOf}
+use Rattle.list_lines.specs.declared.read.LinesFault.{LinesFault}
+use Rattle.list_lines.specs.declared.read.LinesFault.TheVariants as fault
 use Rattle.spdx_list.specs.declared.error.ListFault.{ListFault}
 use Rattle.spdx_list.specs.Files.{ExtraRows, extras_in}
 use Rattle.spdx_list.specs.Made.{Makes, IsRefused}
@@ -67,9 +71,18 @@ IsNoListAt s extras path trouble.Memory = Unit {0}
 IsNoListAt s extras path trouble.Nameless = ⊥
 IsNoListAt s extras path trouble.Output = ⊥
 
+-- lines of another form are told as what is no JSON
+abbrev pub told_as : LinesFault → ReadFault
+told_as fault.NotLines = read.NotJson
+told_as (fault.Catalogue f) = read.Catalogue f
+
+-- why lines are no list, as it is told
+abbrev pub AreNoList : List ℕ → ReadFault → Type 0
+AreNoList lines f = (why : LinesFault) × (f ≡ told_as why) × IsNoListOf lines why
+
 -- why the list inside is none
 abbrev pub IsNoListInside : InsideBytes → ListTrouble → Type 0
-IsNoListInside inside (trouble.NoList n f) = catalogue_in inside.list ≡ Err f
+IsNoListInside inside (trouble.NoList n f) = AreNoList inside.list f
 IsNoListInside inside trouble.Memory = Unit {0}
 IsNoListInside inside t = ⊥
 

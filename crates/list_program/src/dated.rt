@@ -2,7 +2,7 @@
 
 ghost use Rattle.std.specs.Prelude.{◌≡◌, ℕ, List, IfErr, IfOk, option_map, string_bytes};
 ghost use Rattle.std.specs.Option.{option_copied};
-ghost use Rattle.spdx_tables.specs.TableReading.{date_in};
+ghost use Rattle.list_lines.specs.Lines.{day_in};
 ghost use Rattle.list_program.specs.declared.trouble.ListTrouble.TheVariants.{Memory};
 ghost use Rattle.list_program.specs.Dated.{
   IsDateAt,
@@ -15,6 +15,7 @@ ghost use Rattle.list_program.specs.Troubles.{IsNoListAt, IsNoListNamed, IsNoNam
 
 use crate::named::{Inside, bytes_below, bytes_of, is_folder};
 use crate::trouble::ListTrouble;
+use list_lines::day_in_lines;
 use shelves::{Shelf, VariableFault};
 use spdx_list::release_date;
 use spdx_tables::version_date;
@@ -52,10 +53,10 @@ pub fn named_date<S: Shelf>(
 
 fn date_inside(alloc: Global, inside: Inside<'_>) -> Result<Option<String>, ListTrouble>
     ensures ok { IfOk result (λ date.
-        option_map string_bytes date ≡ date_in inside.entry.list.now) }
+        option_map string_bytes date ≡ day_in inside.entry.list.now) }
     ensures err { IfErr result (λ t. t ≡ Memory) }
 {
-    let date = version_date(alloc, inside.list)?;
+    let date = day_in_lines(alloc, inside.list)?;
     Ok(date)
 }
 

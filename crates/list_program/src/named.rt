@@ -5,7 +5,6 @@ ghost use Rattle.std.specs.Option.{option_copied};
 ghost use Rattle.std.specs.Path.{path_join};
 ghost use Rattle.spdx_requirement.specs.Failures.{IfRefused};
 ghost use Rattle.spdx_requirement.specs.Rows.{imprecise_of};
-ghost use Rattle.spdx_catalogue.specs.Reading.{catalogue_in};
 ghost use Rattle.spdx_list.specs.Files.{extras_in};
 ghost use Rattle.spdx_list.specs.Shown.{shown_extras};
 ghost use Rattle.list_program.specs.Named as spec;
@@ -17,6 +16,8 @@ ghost use Rattle.list_program.specs.Named.{
   MakesWith,
   inside_of,
 };
+ghost use Rattle.list_lines.specs.Reading.{IsListOf};
+ghost use Rattle.list_program.specs.Troubles as troubles;
 ghost use Rattle.list_program.specs.Troubles.{
   AreNoExtras,
   IsNoListAt,
@@ -28,8 +29,9 @@ ghost use Rattle.list_program.specs.Troubles.{
 };
 
 use crate::trouble::ListTrouble;
+use list_lines::{LinesFault, catalogue_in_lines};
 use shelves::{Shelf, VariableFault};
-use spdx_catalogue::Catalogue;
+use spdx_catalogue::{Catalogue, ReadFault};
 use spdx_list::{Extras, ListFault, catalogue_of};
 use spdx_requirement::failure::Failure;
 use spdx_requirement::row::ImpreciseName;
@@ -39,8 +41,8 @@ use std::path::Path;
 /// What a program has inside.
 #[derive(Clone, Copy)]
 pub struct Inside<'i> {
-    /// A list in this program's form.
-    pub list: &'i [u8],
+    /// A list as lines.
+    pub list: &'i str,
     /// What this project says besides SPDX's files.
     pub extras: &'i [u8],
 }
@@ -140,17 +142,27 @@ pub(crate) fn bytes_of<S: Shelf>(
     }
 }
 
+// As what lines are told that are no list: those of another form as what is no JSON, since nothing reads them but this.
+fn told_as(fault: LinesFault) -> ReadFault
+    ensures { result ≡ troubles.told_as fault }
+{
+    match fault {
+        LinesFault::NotLines => ReadFault::NotJson,
+        LinesFault::Catalogue(fault) => ReadFault::Catalogue(fault),
+    }
+}
+
 // The list inside.
 fn list_inside(alloc: Global, inside: Inside<'_>) -> Result<Catalogue, ListTrouble>
-    ensures ok { IfOk result (λ c. catalogue_in inside.entry.list.now ≡ Ok c) }
+    ensures ok { IfOk result (IsListOf inside.entry.list.now) }
     ensures err { IfErr result (IsNoListInside
         (inside_of inside.entry.list.now inside.entry.extras.now)) }
 {
-    match Catalogue::from_json(alloc, inside.list) {
+    match catalogue_in_lines(alloc, inside.list) {
         Ok(catalogue) => Ok(catalogue),
         Err(Failure::Refused(fault)) => {
             let name = String::from_str(alloc, "the list inside")?;
-            Err(ListTrouble::NoList(name, fault))
+            Err(ListTrouble::NoList(name, told_as(fault)))
         }
         Err(Failure::Memory(_)) => Err(ListTrouble::Memory),
     }
