@@ -5,10 +5,12 @@
 
 mod extras;
 mod heirs;
+mod lines;
 mod list;
 mod version;
 
 pub use crate::extras::EXTRAS;
 pub use crate::heirs::HEIRS;
+pub use crate::lines::LINES;
 pub use crate::list::LIST;
 pub use crate::version::VERSION;

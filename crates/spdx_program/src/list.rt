@@ -10,7 +10,7 @@ use list_program::{Inside, named_list};
 use shelves::SystemShelf;
 use spdx::{Catalogue, Failure, ParseMode};
 pub(crate) use spdx_known::HEIRS;
-use spdx_known::{EXTRAS, LIST, VERSION};
+use spdx_known::{EXTRAS, LINES, VERSION};
 use spdx_list::Extras;
 use std::alloc::Global;
 
@@ -22,7 +22,7 @@ pub fn known_version() -> &'static str {
 /// What the program has inside.
 pub(crate) fn inside() -> Inside<'static> {
     Inside {
-        list: LIST.as_bytes(),
+        list: LINES,
         extras: EXTRAS.as_bytes(),
     }
 }

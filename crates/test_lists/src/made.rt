@@ -6,7 +6,7 @@
 
 mod real;
 mod rows;
-mod shown;
+pub(crate) mod shown;
 
 pub(crate) use crate::made::real::real;
 pub(crate) use crate::made::rows::try_rows;

@@ -6,6 +6,7 @@
 #![tactic(auto)]
 
 mod hinted;
+mod lined;
 mod made;
 
 use spdx_catalogue::Catalogue;
@@ -39,8 +40,10 @@ fn start(rt: &HostRuntime) -> io::Result<u8> {
     let mut shown = String::new(rt.alloc());
     let are_hints_good = try_hinted(rt, &mut shown, &catalogue)?;
     let are_lists_good = try_made(rt, &mut shown)?;
+    shown.push_str("== lines\n")?;
+    let are_lines_good = lined::try_rows(rt.alloc(), &mut shown, &catalogue)?;
     io::writer(rt).write_all(shown.as_bytes())?;
-    Ok(u8::from(!(are_hints_good && are_lists_good)))
+    Ok(u8::from(!(are_hints_good && are_lists_good && are_lines_good)))
 }
 
 fn main(rt: HostRuntime) -> ExitCode {

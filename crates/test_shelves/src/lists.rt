@@ -41,7 +41,7 @@ const FILES: [(&str, &str); 9] = [
     ),
 ];
 
-const INSIDE: &str = r#"{"version":"inside","licenses":[],"exceptions":[],"imprecise":[]}"#;
+const INSIDE: &str = "inside\u{c}\u{c}\u{c}";
 
 /// Appends the rows that don't hold, and how many do; gives whether all do.
 pub(crate) fn try_rows(alloc: Global, shown: &mut String, text: &str) -> Result<bool, AllocError> {
@@ -69,7 +69,7 @@ fn named(alloc: Global, given: &str) -> Result<String, AllocError> {
     let (path, variable) = given.split_once('|').unwrap_or((given, "-"));
     let shelf = shelf(alloc, value(variable))?;
     let inside = Inside {
-        list: INSIDE.as_bytes(),
+        list: INSIDE,
         extras: EXTRAS.as_bytes(),
     };
     match named_list(alloc, &shelf, inside, value(path)) {

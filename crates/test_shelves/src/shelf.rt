@@ -6,14 +6,14 @@ use shelves::{Entry, Held, HeldFile, HeldFolder, Kind};
 use std::alloc::{AllocError, Global};
 
 /// A few rows of SPDX's list, as a program has them inside.
-const LIST: &str = r#"{"version":"rows","licenses":[
-{"flags":31,"full_name":"GNU General Public License v2.0 only","name":"GPL-2.0"},
-{"flags":27,"full_name":"GNU General Public License v2.0 only","name":"GPL-2.0-only"},
-{"flags":28,"full_name":"GNU General Public License v2.0 w/Classpath exception","name":"GPL-2.0-with-classpath-exception"},
-{"flags":3,"full_name":"ISC License","name":"ISC"},
-{"flags":3,"full_name":"MIT License","name":"MIT"},
-{"flags":3,"full_name":"zlib License","name":"Zlib"}
-],"exceptions":[{"flags":0,"name":"Classpath-exception-2.0"}],"imprecise":[]}"#;
+const LINES: &str = "rows\u{c}0\tClasspath-exception-2.0
+\u{c}O\tGPL-2.0\tGNU General Public License v2.0 only
+K\tGPL-2.0-only\tGNU General Public License v2.0 only
+L\tGPL-2.0-with-classpath-exception\tGNU General Public License v2.0 w/Classpath exception
+3\tISC\tISC License
+3\tMIT\tMIT License
+3\tZlib\tzlib License
+\u{c}";
 
 /// What stands in the place of deprecated names.
 pub(crate) const HEIRS: &str = r#"{"copyleft":[],"imprecise":[],"instead":[
@@ -22,7 +22,7 @@ pub(crate) const HEIRS: &str = r#"{"copyleft":[],"imprecise":[],"instead":[
 /// What a program of rows has inside.
 pub(crate) fn inside() -> Inside<'static> {
     Inside {
-        list: LIST.as_bytes(),
+        list: LINES,
         extras: HEIRS.as_bytes(),
     }
 }
