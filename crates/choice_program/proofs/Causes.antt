@@ -18,12 +18,14 @@ unnamed c list m one ps (trouble.NoLicensee n r) is = is
 unnamed c list m one ps trouble.Memory is = is
 unnamed c list m one ps (trouble.NoChoices us) is = absurd is
 unnamed c list m one ps (trouble.NoneTogether w) is = absurd is
+unnamed c list m one ps (trouble.Policy t) is = absurd is
 
 pub unread : (c : Rows) (list : List ℕ) (m : ParseMode) (one : Bool) (ps : List Package) (ls : List Requirement) (t : ChoiceTrouble) → AllZip (Names c) (names_in list) ls → LackStated c m ps t → IsNoChoiceAmong c list m one ps t
 unread c list m one ps ls (trouble.NoChoices us) named is = record { licensees = ls; accepted = named; lack = inl is }
 unread c list m one ps ls trouble.Memory named is = is
 unread c list m one ps ls (trouble.NoLicensee n r) named is = absurd is
 unread c list m one ps ls (trouble.NoneTogether w) named is = absurd is
+unread c list m one ps ls (trouble.Policy t) named is = absurd is
 
 pub unmet : (c : Rows) (list : List ℕ) (m : ParseMode) (one : Bool) (ps : List Package) (ls : List Requirement) (meant : List Meant) (t : ChoiceTrouble) → AllZip (Names c) (names_in list) ls → AllZip (IsMeant c m) ps meant
     → AreNotChosen one ls meant t → IsNoChoiceAmong c list m one ps t
@@ -31,3 +33,4 @@ unmet c list m one ps ls meant (trouble.NoChoices us) named mean is = record { l
 unmet c list m one ps ls meant (trouble.NoneTogether w) named mean is = (is.0, record { licensees = ls; meant = meant; accepted = named; mean = mean; unmet = is.1 })
 unmet c list m one ps ls meant trouble.Memory named mean is = is
 unmet c list m one ps ls meant (trouble.NoLicensee n r) named mean is = absurd is
+unmet c list m one ps ls meant (trouble.Policy t) named mean is = absurd is

@@ -46,6 +46,7 @@ first_unnamed c names i d licensees (trouble.NoLicensee n r) h lt told =
 first_unnamed c names i d licensees trouble.Memory h lt told = tt
 first_unnamed c names i d licensees (trouble.NoChoices us) h lt told = absurd told
 first_unnamed c names i d licensees (trouble.NoneTogether w) h lt told = absurd told
+first_unnamed c names i d licensees (trouble.Policy t) h lt told = absurd told
 
 pub named_all : (ns : List (Bor (List ℕ))) → map name_in ns ≡ map trim (map (λ (x : Bor (List ℕ)). x.now) ns)
 named_all [] = refl

@@ -42,7 +42,7 @@ pub record IsNoneAmong (c : Rows) (list : List ℕ) (m : ParseMode) (packages : 
   pub mean : AllZip (IsMeant c m) packages meant
   pub unmet : IsNoneTogether licensees meant w
 
--- nothing is said of memory
+-- no policy is asked for; nothing is said of memory
 abbrev pub IsNoChoiceAmong : Rows → List ℕ → ParseMode → Bool → List Package → ChoiceTrouble →
     Type 0
 IsNoChoiceAmong c list m one packages (trouble.NoLicensee n r) =
@@ -51,4 +51,5 @@ IsNoChoiceAmong c list m one packages (trouble.NoChoices us) =
     AreUnchosen c list m packages us.items
 IsNoChoiceAmong c list m one packages (trouble.NoneTogether w) =
     (one ≡ true) × IsNoneAmong c list m packages w
+IsNoChoiceAmong c list m one packages (trouble.Policy t) = ⊥
 IsNoChoiceAmong c list m one packages trouble.Memory = Unit {0}

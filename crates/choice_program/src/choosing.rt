@@ -7,6 +7,7 @@ ghost use Rattle.choice_program.specs.Choose.{IsChosenAmong, IsNoChoiceAmong};
 use crate::accepted::{chosen_among, stated_by};
 use crate::licensees::licensees_in;
 use crate::unchosen::{Unchosen, Why};
+use gate_program::PolicyTrouble;
 use package_choices::RequirementTexts;
 use package_sources::Package;
 use spdx_catalogue::Catalogue;
@@ -28,6 +29,8 @@ pub struct Chosen {
 pub enum ChoiceTrouble {
     /// A name that is to be accepted is no licensee's.
     NoLicensee(String, Reason),
+    /// There is no policy at the path.
+    Policy(PolicyTrouble),
     /// These packages have no choice of their own.
     NoChoices(Vec<Unchosen>),
     /// Each package has a choice of its own, and there is none for all of them.
@@ -43,6 +46,17 @@ impl From<AllocError> for ChoiceTrouble {
 
     fn from(_error: AllocError) -> ChoiceTrouble {
         ChoiceTrouble::Memory
+    }
+}
+
+impl From<PolicyTrouble> for ChoiceTrouble {
+    ghost use Rattle.std.specs.Prelude.{◌≡◌};
+    ghost use Rattle.choice_program.specs.declared.choosing.ChoiceTrouble.TheVariants.{Policy};
+
+    ghost from_gives = { λ e t. t ≡ Policy e };
+
+    fn from(trouble: PolicyTrouble) -> ChoiceTrouble {
+        ChoiceTrouble::Policy(trouble)
     }
 }
 

@@ -17,6 +17,10 @@ pub enum Why {
     Unreadable(String, Reason),
     /// What is accepted doesn't suffice, or there is too much of it.
     Unmet(MinimizeError),
+    /// What the policy allows doesn't suffice.
+    NotAllowed,
+    /// It has more requirements, or the policy allows more of them all, than are judged: more than 1,024.
+    TooMany,
 }
 
 /// A package that has no choice.
@@ -27,11 +31,12 @@ pub struct Unchosen {
     pub why: Why,
 }
 
-pub(crate) fn unchosen_for(
-    alloc: Global,
-    listed: &Package,
-    why: Why,
-) -> Result<Unchosen, AllocError>
+/// The package with why it has no choice.
+///
+/// # Errors
+///
+/// Memory was refused.
+pub fn unchosen_for(alloc: Global, listed: &Package, why: Why) -> Result<Unchosen, AllocError>
     ensures name { IfOk result (λ u. string_bytes u.name ≡ told_name listed.now) }
     ensures why { IfOk result (λ u. u.why ≡ why) }
 {
