@@ -1,0 +1,5 @@
+pub mod Judged
+pub mod Picked
+pub mod Allowed
+pub mod Agreed
+pub mod Chosen
