@@ -1,22 +1,20 @@
 // What each package is used under.
 
-pub(crate) mod allowed;
-
-use crate::chosen::allowed::allowed;
 use crate::files::system::System;
-use crate::list::mode_of;
-use crate::policy::policy;
+use crate::list::{HEIRS, mode_of};
 use crate::trouble::Trouble;
 pub(crate) use choice_program::Chosen;
-use choice_program::{ChoiceTrouble, Unchosen, Why, choose_among, told_name};
+use choice_program::{ChoiceTrouble, Unchosen, Why};
 use package_choices::RequirementTexts;
 use package_sources::Package;
+use policy_choices::Accepted;
+use shelves::SystemShelf;
 use spdx::Catalogue;
-use spdx_words::{Accepted, NoticeRequest};
+use spdx_words::{Accepted as Words, NoticeRequest};
 use std::alloc::{AllocError, Global};
 
 // Whom one choice for all is for, and why there is none.
-pub(crate) const ALL: &str = "all packages together";
+const ALL: &str = "all packages together";
 
 /// The requirements of a package's choice, with the texts that they want.
 pub(crate) type Choice = Vec<RequirementTexts>;
@@ -29,28 +27,32 @@ pub(crate) fn choose<R: System>(
     packages: &[&Package],
 ) -> Result<Chosen, Trouble> {
     let alloc = rt.alloc();
-    match request.accepted {
-        Accepted::List(list, is_lax) => {
-            let mode = mode_of(is_lax);
-            match choose_among(alloc, catalogue, list, mode, request.one_for_all, packages) {
-                Ok(chosen) => Ok(chosen),
-                Err(trouble) => Err(trouble_of(alloc, trouble)?),
-            }
-        }
-        Accepted::Policy(path) => {
-            let policy = policy(rt, catalogue, path)?;
-            allowed(alloc, catalogue, &policy, packages, request.one_for_all)
-        }
+    let shelf = SystemShelf::new(rt);
+    let accepted = accepted(request);
+    let heirs = HEIRS.as_bytes();
+    let one_for_all = request.one_for_all;
+    match policy_choices::choose(
+        alloc,
+        &shelf,
+        heirs,
+        catalogue,
+        accepted,
+        one_for_all,
+        packages,
+    ) {
+        Ok(chosen) => Ok(chosen),
+        Err(trouble) => Err(trouble_of(alloc, trouble)?),
     }
 }
 
-/// The trouble of a package that has no choice.
-pub(crate) fn without_choice(
-    alloc: Global,
-    package: &Package,
-    why: String,
-) -> Result<Trouble, AllocError> {
-    Ok(Trouble::NoChoice(told_name(alloc, package)?, why))
+fn accepted<'a>(request: &NoticeRequest<'a>) -> Accepted<'a> {
+    match request.accepted {
+        Words::List(list, is_lax) => Accepted::List {
+            list,
+            mode: mode_of(is_lax),
+        },
+        Words::Policy(path) => Accepted::Policy(path),
+    }
 }
 
 // Why nothing is chosen, as it is told.
@@ -59,6 +61,7 @@ fn trouble_of(alloc: Global, trouble: ChoiceTrouble) -> Result<Trouble, AllocErr
         ChoiceTrouble::NoLicensee(name, reason) => {
             Ok(Trouble::Accepted(name, format!(in alloc; "{reason}")?))
         }
+        ChoiceTrouble::Policy(trouble) => Ok(Trouble::from(trouble)),
         ChoiceTrouble::NoChoices(lacking) => {
             let mut all = Vec::new(alloc);
             for one in lacking {
@@ -79,5 +82,7 @@ fn why_text(alloc: Global, why: Why) -> Result<String, AllocError> {
         Why::Unstated => String::from_str(alloc, "without a licence"),
         Why::Unreadable(text, reason) => format!(in alloc; "{text}: {reason}"),
         Why::Unmet(error) => format!(in alloc; "{error}"),
+        Why::NotAllowed => String::from_str(alloc, "not allowed by the policy"),
+        Why::TooMany => String::from_str(alloc, "more than 1,024 requirements"),
     }
 }

@@ -24,7 +24,6 @@ mod list;
 mod manifest;
 mod notice;
 mod packages;
-mod policy;
 mod readings;
 mod serve;
 mod simplify;
