@@ -14,12 +14,12 @@ use crate::trouble::Trouble;
 use license_notice::Requirement;
 use line_engine::lines::write_all;
 use notice_forms::Format;
-use notice_program::{
+use notice_texts::File;
+use notice_told::{
     GeneralText, Lack, Look, NoticeFault, NoticeText, OwnFile, Package as Noted, all_lacks,
     notice_text, totals_line,
 };
-use notice_run::ReadFile;
-use notice_texts::File;
+use own_texts::ReadFile;
 use package_sources::Package;
 use spdx_words::{NoticeRequest, OwnTexts, PageFormat};
 use std::alloc::{AllocError, Global};

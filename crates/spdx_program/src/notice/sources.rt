@@ -7,7 +7,7 @@ use crate::trouble::Trouble;
 use crate::trouble::several::Several;
 use choice_program::told_name;
 use license_notice::Requirement;
-use notice_run::{Folders, Obstacle, OwnFiles, Placed, ReadFile, Reading, TextTrouble};
+use own_texts::{Folders, Obstacle, OwnFiles, Placed, ReadFile, Reading, TextTrouble};
 use package_files::Listed;
 use package_sources::Package;
 use shelves::SystemShelf;
@@ -40,7 +40,7 @@ pub(crate) fn own_files<'t, R: System>(
             choice,
             offered,
         };
-        let own = notice_run::own_files(alloc, &shelf, reading, placed)?;
+        let own = own_texts::own_files(alloc, &shelf, reading, placed)?;
         let OwnFiles { files, lacking } = own;
         for trouble in lacking {
             several.keep::<()>(Err(told(alloc, trouble)?))?;
@@ -56,9 +56,9 @@ fn reading<'r>(request: &NoticeRequest<'r>) -> Reading<'r> {
         folders: Folders {
             texts: request.texts,
             own: match request.own {
-                OwnTexts::Left => notice_run::OwnTexts::Left,
-                OwnTexts::Below(sources) => notice_run::OwnTexts::Below(sources),
-                OwnTexts::Installed => notice_run::OwnTexts::Installed,
+                OwnTexts::Left => own_texts::OwnTexts::Left,
+                OwnTexts::Below(sources) => own_texts::OwnTexts::Below(sources),
+                OwnTexts::Installed => own_texts::OwnTexts::Installed,
             },
             follow: request.follow,
         },
