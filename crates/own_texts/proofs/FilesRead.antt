@@ -7,7 +7,6 @@ use Rattle.std.specs.declared.alloc.Global.{Global}
 use Rattle.spdx_requirement.specs.declared.failure.Failure.{Failure}
 use Rattle.spdx_requirement.specs.declared.failure.Failure.TheVariants.{Refused}
 use Rattle.spdx_requirement.specs.Failures.{IfRefused}
-use Rattle.own_texts.specs.declared.own.Placed.{Placed}
 use Rattle.own_texts.specs.declared.own.Reading.{Reading}
 use Rattle.own_texts.specs.Home.{IsHome, IsNoHome}
 use Rattle.own_texts.specs.Names.{AreNames, AreNoNames}
@@ -16,10 +15,10 @@ use Rattle.shelves.specs.Shelf.{Shelved}
 use Rattle.notice_texts.specs.Owed.{Seen}
 use Rattle.own_texts.specs.declared.home.Home.{Home}
 use Rattle.own_texts.specs.declared.own.OwnFiles.{OwnFiles}
-use Rattle.own_texts.specs.declared.trouble.TextTrouble.{TextTrouble}
-use Rattle.choice_program.specs.Each.{AreHad, none}
-use Rattle.own_texts.specs.Own.{AreOwn, lies, lost, AreOwnAmong, AreOwnIn, among, unnamed, AreRead, IsFile, IsNoFile, Read, read_of}
-use Rattle.choice_program.proofs.Each.{more_had, more_lacked}
+use Rattle.text_files.specs.declared.trouble.TextTrouble.{TextTrouble}
+use Rattle.told_at_once.specs.Each.{AreHad, none}
+use Rattle.own_texts.specs.Own.{Owner, AreOwn, lies, lost, AreOwnAmong, AreOwnIn, among, unnamed, AreRead, IsFile, IsNoFile, Read, read_of}
+use Rattle.told_at_once.proofs.Each.{more_had, more_lacked}
 use Rattle.own_texts.proofs.Zips.{kept_more}
 
 -- a file was read, and kept unless it was empty
@@ -61,19 +60,19 @@ pub told_alone : (r : Result OwnFiles AllocError) (t : TextTrouble) (P : OwnFile
 told_alone (Ok own) t P f fs ls = f own fs ls
 told_alone (Err e) t P f fs ls = tt
 
-pub own_among : (s : Shelved) (a : Reading) (x : Placed) (h : Home) (folder : List ℕ) (names seen : List (String Global)) (own : OwnFiles) → folder ≡ string_bytes h.folder → seen ≡ names
+pub own_among : (s : Shelved) (a : Reading) (x : Owner) (h : Home) (folder : List ℕ) (names seen : List (String Global)) (own : OwnFiles) → folder ≡ string_bytes h.folder → seen ≡ names
     → AreNames s folder names → AreOwnAmong s a x h (map string_bytes seen) own → AreOwnIn s a x h own
 own_among s a x h folder names seen own e f named is =
     among names (subst (λ (z : List ℕ). AreNames s z names) e named) (subst (λ (z : List (String Global)). AreOwnAmong s a x h (map string_bytes z) own) f is)
 
-pub own_unnamed : (s : Shelved) (a : Reading) (x : Placed) (h : Home) (folder : List ℕ) (t : TextTrouble) (own : OwnFiles) → folder ≡ string_bytes h.folder
-    → AreNoNames s x.name.now folder t → own.files.items ≡ [] → own.lacking.items ≡ t ∷ [] → AreOwnIn s a x h own
-own_unnamed s a x h folder t own e is fs ls = unnamed t (subst (λ (z : List ℕ). AreNoNames s x.name.now z t) e is) fs ls
+pub own_unnamed : (s : Shelved) (a : Reading) (x : Owner) (h : Home) (folder : List ℕ) (t : TextTrouble) (own : OwnFiles) → folder ≡ string_bytes h.folder
+    → AreNoNames s x.name folder t → own.files.items ≡ [] → own.lacking.items ≡ t ∷ [] → AreOwnIn s a x h own
+own_unnamed s a x h folder t own e is fs ls = unnamed t (subst (λ (z : List ℕ). AreNoNames s x.name z t) e is) fs ls
 
-pub own_lies : (s : Shelved) (a : Reading) (x : Placed) (path : List ℕ) (h : Home) (own : OwnFiles) → path ≡ string_bytes x.file.now.path
-    → IsHome s a.folders path x.listed.now (Some h) → AreOwnIn s a x h own → AreOwn s a x own
-own_lies s a x path h own e is own_is = lies h (subst (λ (z : List ℕ). IsHome s a.folders z x.listed.now (Some h)) e is) own_is
+pub own_lies : (s : Shelved) (a : Reading) (x : Owner) (path : List ℕ) (h : Home) (own : OwnFiles) → path ≡ x.path
+    → IsHome s a.folders path x.of (Some h) → AreOwnIn s a x h own → AreOwn s a x own
+own_lies s a x path h own e is own_is = lies h (subst (λ (z : List ℕ). IsHome s a.folders z x.of (Some h)) e is) own_is
 
-pub own_lost : (s : Shelved) (a : Reading) (x : Placed) (path : List ℕ) (t : TextTrouble) (own : OwnFiles) → path ≡ string_bytes x.file.now.path
-    → IsNoHome s a.folders x.name.now path x.listed.now t → own.files.items ≡ [] → own.lacking.items ≡ t ∷ [] → AreOwn s a x own
-own_lost s a x path t own e is fs ls = lost t (subst (λ (z : List ℕ). IsNoHome s a.folders x.name.now z x.listed.now t) e is) fs ls
+pub own_lost : (s : Shelved) (a : Reading) (x : Owner) (path : List ℕ) (t : TextTrouble) (own : OwnFiles) → path ≡ x.path
+    → IsNoHome s a.folders x.name path x.of t → own.files.items ≡ [] → own.lacking.items ≡ t ∷ [] → AreOwn s a x own
+own_lost s a x path t own e is fs ls = lost t (subst (λ (z : List ℕ). IsNoHome s a.folders x.name z x.of t) e is) fs ls

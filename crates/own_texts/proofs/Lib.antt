@@ -1,3 +1,3 @@
 pub mod Zips
-pub mod Spacing
 pub mod FilesRead
+pub mod AllRead

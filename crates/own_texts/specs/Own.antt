@@ -5,21 +5,45 @@ use Rattle.std.specs.Option.{option_to_list}
 use Rattle.std.specs.declared.alloc.Global.{Global}
 use Rattle.shelves.specs.Shelf.{Shelved}
 use Rattle.license_notice.specs.Wanted.{texts_of}
+use Rattle.package_items.specs.declared.package.Package.{Package}
+use Rattle.package_sources.specs.declared.form.Form.{Form}
 use Rattle.notice_texts.specs.Owed.{Seen, owed}
 use Rattle.own_texts.specs.declared.home.Home.{Home}
 use Rattle.own_texts.specs.declared.own.OwnFiles.{OwnFiles}
 use Rattle.own_texts.specs.declared.own.Placed.{Placed}
 use Rattle.own_texts.specs.declared.own.Reading.{Reading}
 use Rattle.own_texts.specs.declared.own.ReadFile.{ReadFile}
-use Rattle.own_texts.specs.declared.trouble.Obstacle.TheVariants as obstacle
-use Rattle.own_texts.specs.declared.trouble.TextTrouble.{TextTrouble}
-use Rattle.choice_program.specs.Each.{AreHad}
+use Rattle.text_files.specs.declared.trouble.Obstacle.TheVariants as obstacle
+use Rattle.text_files.specs.declared.trouble.TextTrouble.{TextTrouble}
+use Rattle.told_at_once.specs.Each.{AreHad}
 use Rattle.own_texts.specs.Home.{IsHome, IsNoHome, place_in}
 use Rattle.own_texts.specs.LicenseFiles.{AreDeclared, form_read, place_of}
 use Rattle.own_texts.specs.Names.{AreNames, AreNoNames}
-use Rattle.own_texts.specs.Plain.{shown}
-use Rattle.own_texts.specs.Trouble.{IsOf}
-use Rattle.own_texts.specs.Within.{IsReadWithin, IsUnreadWithin}
+use Rattle.text_files.specs.Plain.{shown}
+use Rattle.text_files.specs.Trouble.{IsOf}
+use Rattle.text_files.specs.Within.{IsReadWithin, IsUnreadWithin}
+
+-- ---- whose they are
+
+-- a package as it is told, the file that lists it, and the names of the texts that its expression
+-- and its choice want
+pub record Owner : Type 0 where
+  pub name : List ℕ
+  pub path : List ℕ
+  pub guessed : Option Form
+  pub of : Package
+  pub offered : List (List ℕ)
+  pub chosen : List (List ℕ)
+
+abbrev pub owner_of : Placed → Owner
+owner_of x = record {
+  name = x.name.now;
+  path = string_bytes x.file.now.path;
+  guessed = x.file.now.guessed;
+  of = x.listed.now;
+  offered = flat_map texts_of x.offered.now;
+  chosen = flat_map texts_of x.choice.now;
+}
 
 -- ---- which files there are
 
@@ -38,8 +62,8 @@ abbrev pub listed : List (List ℕ) → List (List ℕ) → List Seen
 listed names declared = map as_declared declared ++ flat_map (unless_declared declared) names
 
 -- those that are owed to who gets the package under its choice
-abbrev pub owed_by : Placed → List Seen → List Seen
-owed_by x files = owed (flat_map texts_of x.offered.now) (flat_map texts_of x.choice.now) files
+abbrev pub owed_by : Owner → List Seen → List Seen
+owed_by x files = owed x.offered x.chosen files
 
 -- ---- what they hold
 
@@ -97,27 +121,27 @@ IsOneMore s plain name h f old new =
 -- ---- of a package
 
 -- of the files with these names, and those that the package declares
-pub record AreOwnAmong (s : Shelved) (a : Reading) (x : Placed) (h : Home)
+pub record AreOwnAmong (s : Shelved) (a : Reading) (x : Owner) (h : Home)
     (names : List (List ℕ)) (own : OwnFiles) : Type 0 where
   pub declared : List (List ℕ)
-  pub declares : AreDeclared s (place_of (form_read a.source x.file.now.guessed) a.folders.own)
-      (string_bytes h.folder) (map string_bytes x.listed.now.license_files.items) declared
-  pub read : AreRead s a.plain x.name.now h (owed_by x (listed names declared)) own
+  pub declares : AreDeclared s (place_of (form_read a.source x.guessed) a.folders.own)
+      (string_bytes h.folder) (map string_bytes x.of.license_files.items) declared
+  pub read : AreRead s a.plain x.name h (owed_by x (listed names declared)) own
 
 -- of the package in the folder
-pub data AreOwnIn (s : Shelved) (a : Reading) (x : Placed) (h : Home) (own : OwnFiles) :
+pub data AreOwnIn (s : Shelved) (a : Reading) (x : Owner) (h : Home) (own : OwnFiles) :
     Type 0 where
   among : (names : List (String Global)) → AreNames s (string_bytes h.folder) names →
       AreOwnAmong s a x h (map string_bytes names) own → AreOwnIn s a x h own
-  unnamed : (t : TextTrouble) → AreNoNames s x.name.now (string_bytes h.folder) t →
+  unnamed : (t : TextTrouble) → AreNoNames s x.name (string_bytes h.folder) t →
       own.files.items ≡ [] → own.lacking.items ≡ t ∷ [] → AreOwnIn s a x h own
 
 -- the files of the package that are owed, and why others aren't had
-pub data AreOwn (s : Shelved) (a : Reading) (x : Placed) (own : OwnFiles) : Type 0 where
-  homeless : IsHome s a.folders (string_bytes x.file.now.path) x.listed.now None →
+pub data AreOwn (s : Shelved) (a : Reading) (x : Owner) (own : OwnFiles) : Type 0 where
+  homeless : IsHome s a.folders x.path x.of None →
       own.files.items ≡ [] → own.lacking.items ≡ [] → AreOwn s a x own
   lost : (t : TextTrouble) →
-      IsNoHome s a.folders x.name.now (string_bytes x.file.now.path) x.listed.now t →
+      IsNoHome s a.folders x.name x.path x.of t →
       own.files.items ≡ [] → own.lacking.items ≡ t ∷ [] → AreOwn s a x own
-  lies : (h : Home) → IsHome s a.folders (string_bytes x.file.now.path) x.listed.now (Some h) →
+  lies : (h : Home) → IsHome s a.folders x.path x.of (Some h) →
       AreOwnIn s a x h own → AreOwn s a x own

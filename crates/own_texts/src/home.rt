@@ -14,16 +14,15 @@ ghost use Rattle.own_texts.specs.Home.{
   beside,
   folder_name,
 };
-ghost use Rattle.own_texts.specs.Within.{IsFailing};
+ghost use Rattle.text_files.specs.Within.{IsFailing};
 
-use crate::trouble::{Obstacle, TextTrouble, is_not_found, trouble, unreadable};
-use crate::within::check_inside;
 use notice_texts::path_in;
 use package_sources::Package;
 use shelves::Shelf;
 use spdx_requirement::failure::Failure;
 use std::alloc::{AllocError, Global};
 use std::path::Path;
+use text_files::{Obstacle, TextTrouble, check_inside, is_not_found, trouble_at, unreadable};
 
 /// Which texts of packages' own stand on the page.
 #[derive(Clone, Copy)]
@@ -91,7 +90,7 @@ fn home_below<S: Shelf>(
     let own = folder_name(alloc, listed)?;
     match path_in(alloc, all, own.as_str())? {
         Some(folder) => home_in(alloc, shelf, follow, all, name, folder.as_str()),
-        None => { Err(Failure::Refused(trouble(alloc, name, own.as_str(), Obstacle::NoPath)?)) }
+        None => { Err(Failure::Refused(trouble_at(alloc, name, own.as_str(), Obstacle::NoPath)?)) }
     }
 }
 

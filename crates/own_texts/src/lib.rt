@@ -2,22 +2,19 @@
 //! hold.
 //!
 //! ```rust
-//! // crates/spdx_program/src/notice/sources.rt
-//! let own = own_texts::own_files(alloc, &shelf, reading, placed)?;
+//! // crates/notice_program/src/page.rt
+//! let own = all_own_files(alloc, shelf, reading, placed)?;
 //! ```
 //!
-//! Nothing is read out of a package's folder. It stands on `notice_texts`, `notice_told`, `package_files` and `shelves`.
+//! Nothing is read out of a package's folder. It stands on `text_files`, `notice_texts`, `notice_told` and `package_files`.
 #![tactic(auto)]
 
+pub mod all;
 pub mod home;
 mod license_files;
 mod names;
 pub mod own;
-pub mod plain;
-pub mod trouble;
-mod within;
 
+pub use crate::all::{AllOwn, all_own_files};
 pub use crate::home::{Folders, OwnTexts};
 pub use crate::own::{OwnFiles, Placed, ReadFile, Reading, own_files};
-pub use crate::plain::shown;
-pub use crate::trouble::{Obstacle, TextTrouble};

@@ -14,15 +14,13 @@ ghost use Rattle.own_texts.specs.Own.{
   IsNoFile,
   IsOneMore,
   listed,
+  owner_of,
   read_of,
 };
 
 use crate::home::{Folders, Home, home_of};
 use crate::license_files::{declared_in, place_of};
 use crate::names::names_in;
-use crate::plain::shown;
-use crate::trouble::{Obstacle, TextTrouble, trouble};
-use crate::within::bytes_within;
 use license_notice::Requirement;
 use notice_texts::{File, path_in};
 use notice_told::owed_of;
@@ -31,6 +29,7 @@ use package_sources::Package;
 use shelves::Shelf;
 use spdx_requirement::failure::Failure;
 use std::alloc::{AllocError, Global};
+use text_files::{Obstacle, TextTrouble, bytes_within, shown, trouble_at};
 
 /// A file of a package, as it was read.
 #[derive(Drop)]
@@ -79,7 +78,7 @@ pub fn own_files<S: Shelf>(
     reading: Reading<'_>,
     placed: Placed<'_, '_>,
 ) -> Result<OwnFiles, AllocError>
-    ensures { IfOk result (AreOwn (S.told shelf.now) reading.entry placed.entry) }
+    ensures { IfOk result (AreOwn (S.told shelf.now) reading.entry (owner_of placed.entry)) }
 {
     let path = placed.file.path.as_str();
     match home_of(
@@ -119,7 +118,7 @@ fn files_in<S: Shelf>(
     placed: Placed<'_, '_>,
     home: &Home,
 ) -> Result<OwnFiles, AllocError>
-    ensures { IfOk result (AreOwnIn (S.told shelf.now) reading.entry placed.entry home.now) }
+    ensures { IfOk result (AreOwnIn (S.told shelf.now) reading.entry (owner_of placed.entry) home.now) }
 {
     match names_in(alloc, shelf, placed.name, home.folder.as_str()) {
         Ok(names) => files_among(alloc, shelf, reading, placed, home, &names),
@@ -137,7 +136,7 @@ fn files_among<S: Shelf>(
     home: &Home,
     names: &[String],
 ) -> Result<OwnFiles, AllocError>
-    ensures { IfOk result (spec.AreOwnAmong (S.told shelf.now) reading.entry placed.entry home.now
+    ensures { IfOk result (spec.AreOwnAmong (S.told shelf.now) reading.entry (owner_of placed.entry) home.now
         (map string_bytes names.now)) }
 {
     let package = placed.listed;
@@ -316,6 +315,6 @@ fn bytes_of<S: Shelf>(
             Some(home.inside.as_str()),
             whole.as_str(),
         ),
-        None => Err(Failure::Refused(trouble(alloc, name, path, Obstacle::NoPath)?)),
+        None => Err(Failure::Refused(trouble_at(alloc, name, path, Obstacle::NoPath)?)),
     }
 }

@@ -2,7 +2,7 @@
 use Rattle.std.proofs.Common.{◌≡◌, ℕ, ◌+◌, ◌≤◌, zero, suc, List, [], ◌∷◌, ◌++◌, drop, length, ◌∙◌, ap, sym, refl, add-one, append_assoc}
 use Rattle.std.specs.Prelude.{Option, slice_get}
 use Rattle.std.proofs.lemmas.List.{append-nil, drop_all}
-use Rattle.own_texts.specs.Plain.{piece_of, spaced}
+use Rattle.text_files.specs.Plain.{piece_of, spaced}
 
 first_behind : (bs : List ℕ) (n : ℕ) → slice_get (drop n bs) 0 ≡ slice_get bs n
 first_behind [] zero = refl

@@ -2,10 +2,10 @@
 use Rattle.std.specs.Prelude.{◌≡◌, ◌⊎◌, ℕ, ◌==◌, Bool, true, false, ◌&&◌, ◌||◌, List, [], ◌∷◌, Option, None, Some, bytes_eq, codes, drop, length, take}
 use Rattle.shelves.specs.Shelf.{Shelved}
 use Rattle.shelves.specs.declared.shelf.Kind.TheVariants as kind
-use Rattle.own_texts.specs.declared.trouble.Obstacle.{Obstacle}
-use Rattle.own_texts.specs.declared.trouble.Obstacle.TheVariants as obstacle
-use Rattle.own_texts.specs.declared.trouble.TextTrouble.{TextTrouble}
-use Rattle.own_texts.specs.Trouble.{IsTold, is_of_memory}
+use Rattle.text_files.specs.declared.trouble.Obstacle.{Obstacle}
+use Rattle.text_files.specs.declared.trouble.Obstacle.TheVariants as obstacle
+use Rattle.text_files.specs.declared.trouble.TextTrouble.{TextTrouble}
+use Rattle.text_files.specs.Trouble.{IsTold, is_of_memory}
 
 -- ---- paths
 

@@ -4,9 +4,9 @@ use Rattle.std.specs.IoError.{error_kind}
 use Rattle.std.specs.declared.io.Error.{Error}
 use Rattle.std.specs.declared.io.ErrorKind.{ErrorKind}
 use Rattle.std.specs.declared.io.ErrorKind.TheVariants as kind
-use Rattle.own_texts.specs.declared.trouble.Obstacle.{Obstacle}
-use Rattle.own_texts.specs.declared.trouble.Obstacle.TheVariants as obstacle
-use Rattle.own_texts.specs.declared.trouble.TextTrouble.{TextTrouble}
+use Rattle.text_files.specs.declared.trouble.Obstacle.{Obstacle}
+use Rattle.text_files.specs.declared.trouble.Obstacle.TheVariants as obstacle
+use Rattle.text_files.specs.declared.trouble.TextTrouble.{TextTrouble}
 
 abbrev pub refuses_memory : ErrorKind → Bool
 refuses_memory kind.OutOfMemory = true

@@ -3,8 +3,8 @@
 ghost use Rattle.std.specs.Prelude.{◌≡◌, IfErr, IfOk, string_bytes};
 ghost use Rattle.std.specs.IoError.{error_kind};
 ghost use Rattle.spdx_requirement.specs.Failures.{IfRefused};
-ghost use Rattle.own_texts.specs.Trouble as spec;
-ghost use Rattle.own_texts.specs.Trouble.{IsOf, IsTold, IsUnreadable};
+ghost use Rattle.text_files.specs.Trouble as spec;
+ghost use Rattle.text_files.specs.Trouble.{IsOf, IsTold, IsUnreadable};
 
 use spdx_requirement::failure::Failure;
 use std::alloc::{AllocError, Global};
@@ -23,6 +23,10 @@ pub enum Obstacle {
     LeadsOut,
     /// The path may lead out of the folder that it begins from.
     NoPath,
+    /// It is empty, where a text is wanted.
+    Empty,
+    /// It is no folder, where one is wanted.
+    NoFolder,
 }
 
 /// A text, or a package's texts, that aren't had.
@@ -34,7 +38,12 @@ pub struct TextTrouble {
     pub why: Obstacle,
 }
 
-pub(crate) fn trouble(
+/// The trouble of the name, at the path.
+///
+/// # Errors
+///
+/// Memory was refused.
+pub fn trouble_at(
     alloc: Global,
     name: &str,
     path: &str,
@@ -50,18 +59,13 @@ pub(crate) fn trouble(
 }
 
 /// The trouble of what can't be read, unless memory was refused.
-pub(crate) fn unreadable(
-    alloc: Global,
-    name: &str,
-    path: &str,
-    error: io::Error,
-) -> Failure<TextTrouble>
+pub fn unreadable(alloc: Global, name: &str, path: &str, error: io::Error) -> Failure<TextTrouble>
     ensures { IfRefused (IsUnreadable name.now path.now error) result }
 {
     if is_of_memory(&error) {
         return Failure::Memory(AllocError);
     }
-    match trouble(alloc, name, path, Obstacle::Unreadable(error)) {
+    match trouble_at(alloc, name, path, Obstacle::Unreadable(error)) {
         Ok(trouble) => Failure::Refused(trouble),
         Err(error) => Failure::Memory(error),
     }
@@ -74,7 +78,7 @@ fn is_of_memory(error: &io::Error) -> bool
 }
 
 /// Whether nothing is there.
-pub(crate) fn is_not_found(error: &io::Error) -> bool
+pub fn is_not_found(error: &io::Error) -> bool
     ensures { result ≡ spec.is_not_found error.now }
 {
     matches!(error.kind(), ErrorKind::NotFound)

@@ -2,8 +2,8 @@
 
 ghost use Rattle.std.specs.Prelude.{◌≡◌, ◌++◌, IfOk, OnOk, Option};
 ghost use Rattle.std.specs.Option.{option_copied};
-ghost use Rattle.own_texts.specs.Plain as spec;
-ghost use Rattle.own_texts.specs.Plain.{piece_of, shown, spaced};
+ghost use Rattle.text_files.specs.Plain as spec;
+ghost use Rattle.text_files.specs.Plain.{piece_of, shown, spaced};
 
 use foreign_text::{Sink, text_for};
 use std::alloc::{AllocError, Global};

@@ -3,8 +3,8 @@
 ghost use Rattle.std.specs.Prelude.{◌≡◌, IfErr, IfOk, string_bytes};
 ghost use Rattle.std.specs.Option.{option_copied};
 ghost use Rattle.spdx_requirement.specs.Failures.{IfRefused};
-ghost use Rattle.own_texts.specs.Within as spec;
-ghost use Rattle.own_texts.specs.Within.{
+ghost use Rattle.text_files.specs.Within as spec;
+ghost use Rattle.text_files.specs.Within.{
   IsNotLooked,
   IsNotPlaced,
   IsOutside,
@@ -15,14 +15,18 @@ ghost use Rattle.own_texts.specs.Within.{
   is_below,
 };
 
-use crate::trouble::{Obstacle, TextTrouble, trouble, unreadable};
+use crate::trouble::{Obstacle, TextTrouble, trouble_at, unreadable};
 use shelves::{Kind, Shelf};
 use spdx_requirement::failure::Failure;
 use std::alloc::Global;
 
 /// What a regular file holds, which is in the folder, or where none is named is anywhere; links are followed. A trouble is told
 /// by the name.
-pub(crate) fn bytes_within<S: Shelf>(
+///
+/// # Errors
+///
+/// It is a device or a pipe, leads out of the folder, or can't be read; or memory was refused.
+pub fn bytes_within<S: Shelf>(
     alloc: Global,
     shelf: &S,
     name: &str,
@@ -53,7 +57,7 @@ fn check_kind<S: Shelf>(
 {
     match shelf.kind(path) {
         Ok(Kind::File | Kind::Folder) => Ok(()),
-        Ok(Kind::Other) => Err(Failure::Refused(trouble(alloc, name, path, Obstacle::Special)?)),
+        Ok(Kind::Other) => Err(Failure::Refused(trouble_at(alloc, name, path, Obstacle::Special)?)),
         Err(error) => Err(unreadable(alloc, name, path, error)),
     }
 }
@@ -77,7 +81,11 @@ fn check_place<S: Shelf>(
 }
 
 /// Whether the path, its links followed, is in the folder; where it isn't, that is a trouble.
-pub(crate) fn check_inside<S: Shelf>(
+///
+/// # Errors
+///
+/// It isn't, or one of both can't be looked at; or memory was refused.
+pub fn check_inside<S: Shelf>(
     alloc: Global,
     shelf: &S,
     name: &str,
@@ -93,7 +101,7 @@ pub(crate) fn check_inside<S: Shelf>(
     if is_below(base.as_str(), real.as_str()) {
         Ok(())
     } else {
-        Err(Failure::Refused(trouble(alloc, name, path, Obstacle::LeadsOut)?))
+        Err(Failure::Refused(trouble_at(alloc, name, path, Obstacle::LeadsOut)?))
     }
 }
 

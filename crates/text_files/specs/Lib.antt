@@ -1,0 +1,3 @@
+pub mod Trouble
+pub mod Within
+pub mod Plain
