@@ -1,52 +1,18 @@
 // What each package is used under.
 
-use crate::files::system::System;
-use crate::list::{HEIRS, mode_of};
+use crate::list::mode_of;
 use crate::trouble::Trouble;
-pub(crate) use choice_program::Chosen;
 use choice_program::{ChoiceTrouble, Unchosen, Why};
-use package_choices::RequirementTexts;
-use package_sources::Package;
 use policy_choices::Accepted;
-use shelves::SystemShelf;
-use spdx::Catalogue;
-use spdx_words::{Accepted as Words, NoticeRequest};
+use spdx_words::Accepted as Words;
 use std::alloc::{AllocError, Global};
 
 // Whom one choice for all is for, and why there is none.
 const ALL: &str = "all packages together";
 
-/// The requirements of a package's choice, with the texts that they want.
-pub(crate) type Choice = Vec<RequirementTexts>;
-
-/// What the packages are used under, among what the request accepts.
-pub(crate) fn choose<R: System>(
-    rt: &R,
-    catalogue: &Catalogue,
-    request: &NoticeRequest<'_>,
-    packages: &[&Package],
-) -> Result<Chosen, Trouble> {
-    let alloc = rt.alloc();
-    let shelf = SystemShelf::new(rt);
-    let accepted = accepted(request);
-    let heirs = HEIRS.as_bytes();
-    let one_for_all = request.one_for_all;
-    match policy_choices::choose(
-        alloc,
-        &shelf,
-        heirs,
-        catalogue,
-        accepted,
-        one_for_all,
-        packages,
-    ) {
-        Ok(chosen) => Ok(chosen),
-        Err(trouble) => Err(trouble_of(alloc, trouble)?),
-    }
-}
-
-fn accepted<'a>(request: &NoticeRequest<'a>) -> Accepted<'a> {
-    match request.accepted {
+/// What the request accepts.
+pub(crate) fn accepted<'a>(words: Words<'a>) -> Accepted<'a> {
+    match words {
         Words::List(list, is_lax) => Accepted::List {
             list,
             mode: mode_of(is_lax),
@@ -55,8 +21,8 @@ fn accepted<'a>(request: &NoticeRequest<'a>) -> Accepted<'a> {
     }
 }
 
-// Why nothing is chosen, as it is told.
-fn trouble_of(alloc: Global, trouble: ChoiceTrouble) -> Result<Trouble, AllocError> {
+/// Why nothing is chosen, as it is told.
+pub(crate) fn trouble_of(alloc: Global, trouble: ChoiceTrouble) -> Result<Trouble, AllocError> {
     match trouble {
         ChoiceTrouble::NoLicensee(name, reason) => {
             Ok(Trouble::Accepted(name, format!(in alloc; "{reason}")?))

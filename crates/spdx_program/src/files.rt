@@ -3,4 +3,3 @@
 pub(crate) mod left;
 pub(crate) mod replace;
 pub(crate) mod system;
-pub(crate) mod within;

@@ -1,29 +1,26 @@
 // The command `notice`.
 
-pub(crate) mod general;
-pub(crate) mod sources;
-
-use crate::chosen::{Choice, Chosen, choose};
+use crate::chosen::{accepted, trouble_of};
 use crate::console::Console;
-use crate::files::system::{System, is_folder};
-use crate::list;
-use crate::notice::general::{HeldText, general_texts};
-use crate::notice::sources::own_files;
-use crate::packages::{AllListed, Listed, Wanted, read_all};
+use crate::files::system::{System, paths_or_input};
+use crate::list::{HEIRS, inside};
+use crate::packages::{read_as, tell_forms, tell_shared};
 use crate::trouble::Trouble;
-use license_notice::Requirement;
 use line_engine::lines::write_all;
 use notice_forms::Format;
-use notice_texts::File;
-use notice_told::{
-    GeneralText, Lack, Look, NoticeFault, NoticeText, OwnFile, Package as Noted, all_lacks,
-    notice_text, totals_line,
-};
-use own_texts::ReadFile;
-use package_sources::Package;
+use notice_program::{End, Missing, Request, Run, ToldPage};
+use own_texts::{Folders, OwnTexts as Own};
+use package_files::Wanted;
+use shelves::SystemShelf;
 use spdx_words::{NoticeRequest, OwnTexts, PageFormat};
 use std::alloc::{AllocError, Global};
 use std::io::{self, ErrorKind, Write};
+use text_files::{Obstacle, TextTrouble};
+
+// What is told of a link that is not followed, in the folder of a package, and in the one of general texts.
+const OWN_LINK: &str = "a link out of the folder";
+
+const GENERAL_LINK: &str = "a link out of the folder; --follow reads it";
 
 /// Writes the page that the request asks for, and answers the status. Nothing is written unless all of it is there.
 pub(crate) fn notice<R: System, O: Write + Drop, F: Write + Drop>(
@@ -31,229 +28,60 @@ pub(crate) fn notice<R: System, O: Write + Drop, F: Write + Drop>(
     request: &NoticeRequest<'_>,
     console: &mut Console<O, F>,
 ) -> Result<u8, Trouble> {
-    let catalogue = list::catalogue(rt, request.list)?;
-    let wanted = Wanted {
-        source: request.source,
-        allow_empty: true,
-        exclude_own: request.exclude_own,
-        tells_form: true,
-        paths: &request.paths,
-    };
-    let AllListed { files, status } = read_all(rt, wanted, console)?;
-    if status != 0 {
-        return Ok(status);
-    }
-    let packages = all_of(rt.alloc(), &files)?;
-    let chosen = choose(rt, &catalogue, request, &packages)?;
-    let read = read_files(rt, request, &files, &chosen)?;
-    let held = held_texts(rt, request, &packages, &chosen, &read)?;
-    let text = noticed(rt.alloc(), request, &packages, &chosen, &read, &held)?;
-    put(rt.alloc(), request, console, &text)
-}
-
-// The packages of all files.
-fn all_of<'l>(alloc: Global, listed: &'l [Listed]) -> Result<Vec<&'l Package>, AllocError> {
-    let mut packages = Vec::new(alloc);
-    for file in listed {
-        for package in &file.packages {
-            packages.push(package)?;
-        }
-    }
-    Ok(packages)
-}
-
-// The requirements of each choice, as a page takes them.
-fn requirements<'t>(
-    alloc: Global,
-    choices: &'t [Choice],
-) -> Result<Vec<Vec<Requirement<'t>>>, AllocError> {
-    let mut all = Vec::new(alloc);
-    for choice in choices {
-        let mut requirements = Vec::new(alloc);
-        for requirement in choice {
-            requirements.push(Requirement {
-                name: requirement.name.as_str(),
-                texts: &requirement.texts,
-            })?;
-        }
-        all.push(requirements)?;
-    }
-    Ok(all)
-}
-
-// The packages' own files, where they have a folder.
-fn read_files<'t, R: System>(
-    rt: &R,
-    request: &NoticeRequest<'_>,
-    listed: &'t [Listed],
-    chosen: &'t Chosen,
-) -> Result<Vec<Vec<ReadFile>>, Trouble> {
-    if let OwnTexts::Below(sources) = request.own {
-        check_folder(rt, sources)?;
-    }
-    let choices = requirements(rt.alloc(), &chosen.choices)?;
-    let offered = requirements(rt.alloc(), &chosen.offered)?;
-    own_files(rt, request, listed, &choices, &offered)
-}
-
-// Whether the folder of all packages is there.
-fn check_folder<R: System>(rt: &R, sources: &str) -> Result<(), Trouble> {
-    if is_folder(rt, sources)? {
-        return Ok(());
-    }
-    let error = io::Error::from(ErrorKind::NotADirectory);
-    Err(Trouble::unreadable(rt.alloc(), sources, error))
-}
-
-// The general texts of what the packages lack, where they have a folder.
-fn held_texts<'t, R: System>(
-    rt: &R,
-    request: &NoticeRequest<'_>,
-    packages: &[&'t Package],
-    chosen: &'t Chosen,
-    read: &'t [Vec<ReadFile>],
-) -> Result<Vec<HeldText>, Trouble> {
     let alloc = rt.alloc();
-    let Some(folder) = request.texts else {
-        return Ok(Vec::new(alloc));
-    };
-    let choices = requirements(alloc, &chosen.choices)?;
-    let offered = requirements(alloc, &chosen.offered)?;
-    let files = all_files(alloc, read)?;
-    let noted = noted(alloc, packages, &choices, &offered, &files)?;
-    let lacks = all_lacks(alloc, &noted)?;
-    general_texts(rt, folder, request, &lacks)
-}
-
-// The page, and what is missing on it.
-fn noticed<'t>(
-    alloc: Global,
-    request: &NoticeRequest<'_>,
-    packages: &[&'t Package],
-    chosen: &'t Chosen,
-    read: &'t [Vec<ReadFile>],
-    held: &'t [HeldText],
-) -> Result<NoticeText<'t>, Trouble> {
-    let choices = requirements(alloc, &chosen.choices)?;
-    let offered = requirements(alloc, &chosen.offered)?;
-    let files = all_files(alloc, read)?;
-    let noted = noted(alloc, packages, &choices, &offered, &files)?;
-    let general = general_of(alloc, held)?;
-    let look = Look {
-        format: format_of(request.format),
-        marks_general: request.own != OwnTexts::Left,
-    };
-    match notice_text(alloc, look, &noted, &general) {
-        Ok(text) => Ok(text),
-        Err(fault) => Err(trouble_of(alloc, fault)?),
+    let shelf = SystemShelf::new(rt);
+    let asked = asked(request);
+    let run = notice_program::notice(alloc, &shelf, inside(), HEIRS.as_bytes(), asked)?;
+    let status = run.status();
+    let Run {
+        files,
+        left_out,
+        end,
+    } = run;
+    for fault in left_out {
+        console.tell(alloc, &Trouble::from(fault));
     }
-}
-
-// Writes the page, unless a text is missing that has to be there.
-fn put<O: Write + Drop, F: Write + Drop>(
-    alloc: Global,
-    request: &NoticeRequest<'_>,
-    console: &mut Console<O, F>,
-    text: &NoticeText<'_>,
-) -> Result<u8, Trouble> {
-    if request.own == OwnTexts::Left {
-        write_all(&mut console.output, &text.bytes)?;
-        return Ok(0);
-    }
-    tell_missing(alloc, console, &text.missing)?;
-    let is_whole = text.missing.is_empty() || !request.is_strict;
-    if is_whole {
-        write_all(&mut console.output, &text.bytes)?;
-    }
-    let totals = totals_line(alloc, &text.totals)?;
-    let _ = write_all(&mut console.faults, totals.as_bytes());
-    Ok(u8::from(!is_whole))
-}
-
-fn tell_missing<O: Write + Drop, F: Write + Drop>(
-    alloc: Global,
-    console: &mut Console<O, F>,
-    missing: &[Lack<'_>],
-) -> Result<(), AllocError> {
-    for lack in missing {
-        let (name, version) = (lack.release.name, lack.release.version);
-        let told = if version.is_empty() {
-            String::from_str(alloc, name)?
-        } else {
-            format!(in alloc; "{name} {version}")?
-        };
-        let text = String::from_str(alloc, lack.text)?;
-        console.tell(alloc, &Trouble::NoText(told, text));
-    }
-    Ok(())
-}
-
-fn trouble_of(alloc: Global, fault: NoticeFault) -> Result<Trouble, AllocError> {
-    match fault {
-        NoticeFault::Memory => Ok(Trouble::Memory),
-        NoticeFault::NotUtf8(name) => {
-            let why = String::from_str(alloc, "is no UTF-8, which pages of HTML and of JSON are")?;
-            Ok(Trouble::Text(name, why))
+    tell_forms(alloc, &files, console)?;
+    tell_shared(alloc, request.source, &files, console)?;
+    match end {
+        End::LeftOut => Ok(status),
+        End::NoChoice(trouble) => Err(trouble_of(alloc, trouble)?),
+        End::NoFolder(trouble) => Err(folder_trouble(trouble)),
+        End::NoOwn(troubles) => Err(all_told(alloc, troubles, OWN_LINK)?),
+        End::NoGeneral(troubles) => Err(all_told(alloc, troubles, GENERAL_LINK)?),
+        End::NotUtf8(name) => Err(no_utf8(alloc, name)?),
+        End::Told(notice) => {
+            put(alloc, console, &notice)?;
+            Ok(status)
         }
     }
 }
 
-// The files of each package, as a page takes them.
-fn all_files<'t>(
-    alloc: Global,
-    read: &'t [Vec<ReadFile>],
-) -> Result<Vec<Vec<OwnFile<'t>>>, AllocError> {
-    let mut all = Vec::new(alloc);
-    for files in read {
-        let mut own = Vec::new(alloc);
-        for file in files {
-            own.push(OwnFile {
-                file: File {
-                    path: file.path.as_str(),
-                    is_declared: file.is_declared,
-                },
-                bytes: file.bytes.as_slice(),
-            })?;
-        }
-        all.push(own)?;
-    }
-    Ok(all)
-}
-
-// The packages with their requirements and files in turn.
-fn noted<'c, 't>(
-    alloc: Global,
-    packages: &[&'t Package],
-    choices: &'c [Vec<Requirement<'t>>],
-    offered: &'c [Vec<Requirement<'t>>],
-    files: &'c [Vec<OwnFile<'t>>],
-) -> Result<Vec<Noted<'c, 't>>, AllocError> {
-    let mut all = Vec::new(alloc);
-    let used = choices.iter().zip(offered.iter()).zip(files.iter());
-    for (package, ((choice, offered), files)) in packages.iter().zip(used) {
-        all.push(Noted {
-            name: package.name.as_str(),
-            version: match &package.version {
-                Some(version) => version.as_str(),
-                None => "",
+// What the request asks of a run.
+fn asked<'r>(request: &'r NoticeRequest<'r>) -> Request<'r> {
+    Request {
+        list: request.list,
+        wanted: Wanted {
+            source: read_as(request.source),
+            allow_empty: true,
+            exclude_own: request.exclude_own,
+        },
+        paths: paths_or_input(&request.paths),
+        accepted: accepted(request.accepted),
+        one_for_all: request.one_for_all,
+        folders: Folders {
+            texts: request.texts,
+            own: match request.own {
+                OwnTexts::Left => Own::Left,
+                OwnTexts::Below(sources) => Own::Below(sources),
+                OwnTexts::Installed => Own::Installed,
             },
-            choice: choice.as_slice(),
-            offered: offered.as_slice(),
-            files: files.as_slice(),
-        })?;
+            follow: request.follow,
+        },
+        plain: request.plain,
+        format: format_of(request.format),
+        is_strict: request.is_strict,
     }
-    Ok(all)
-}
-
-fn general_of<'t>(alloc: Global, held: &'t [HeldText]) -> Result<Vec<GeneralText<'t>>, AllocError> {
-    let mut general = Vec::new(alloc);
-    for text in held {
-        general.push(GeneralText {
-            name: text.name.as_str(),
-            bytes: text.bytes.as_slice(),
-        })?;
-    }
-    Ok(general)
 }
 
 fn format_of(format: PageFormat) -> Format {
@@ -262,5 +90,83 @@ fn format_of(format: PageFormat) -> Format {
         PageFormat::Markdown => Format::Markdown,
         PageFormat::Html => Format::Html,
         PageFormat::Json => Format::Json,
+    }
+}
+
+// Writes the page, if there is one, and tells what is missing, and how many there are.
+fn put<O: Write + Drop, F: Write + Drop>(
+    alloc: Global,
+    console: &mut Console<O, F>,
+    notice: &ToldPage,
+) -> Result<(), Trouble> {
+    for missing in &notice.missing {
+        let Missing { package, text } = missing;
+        let package = String::from_str(alloc, package.as_str())?;
+        let text = String::from_str(alloc, text.as_str())?;
+        console.tell(alloc, &Trouble::NoText(package, text));
+    }
+    if let Some(page) = &notice.page {
+        write_all(&mut console.output, page)?;
+    }
+    if let Some(totals) = &notice.totals {
+        let _ = write_all(&mut console.faults, totals.as_bytes());
+    }
+    Ok(())
+}
+
+// The folder of all packages isn't there.
+fn folder_trouble(trouble: TextTrouble) -> Trouble {
+    let TextTrouble { path, why, .. } = trouble;
+    match why {
+        Obstacle::Unreadable(error) => Trouble::of_path(path, error),
+        _ => Trouble::of_path(path, io::Error::from(ErrorKind::NotADirectory)),
+    }
+}
+
+fn no_utf8(alloc: Global, name: String) -> Result<Trouble, AllocError> {
+    let why = String::from_str(alloc, "is no UTF-8, which pages of HTML and of JSON are")?;
+    Ok(Trouble::Text(name, why))
+}
+
+// Each of the texts that aren't had; of a link that leads out of the folder this is told.
+fn all_told(alloc: Global, troubles: Vec<TextTrouble>, link: &str) -> Result<Trouble, AllocError> {
+    let mut all = Vec::new(alloc);
+    for trouble in troubles {
+        all.push(told(alloc, trouble, link)?)?;
+    }
+    Ok(Trouble::Several(all))
+}
+
+fn told(alloc: Global, trouble: TextTrouble, link: &str) -> Result<Trouble, AllocError> {
+    let TextTrouble { name, path, why } = trouble;
+    let why = match why {
+        Obstacle::Unreadable(error) => return unreadable(alloc, name, path, error),
+        Obstacle::Unnamed => {
+            let error = io::Error::from(ErrorKind::InvalidFilename);
+            return unreadable(alloc, name, path, error);
+        }
+        Obstacle::NoFolder => {
+            let error = io::Error::from(ErrorKind::NotADirectory);
+            return unreadable(alloc, name, path, error);
+        }
+        Obstacle::Special => format!(in alloc; "{path}: no regular file")?,
+        Obstacle::LeadsOut => format!(in alloc; "{path}: {link}")?,
+        Obstacle::NoPath => format!(in alloc; "{path}: a path out of the folder")?,
+        Obstacle::Empty => format!(in alloc; "{path}: empty")?,
+    };
+    Ok(Trouble::Text(name, why))
+}
+
+fn unreadable(
+    alloc: Global,
+    name: String,
+    path: String,
+    error: io::Error,
+) -> Result<Trouble, AllocError> {
+    match Trouble::of_path(path, error) {
+        Trouble::Unreadable(path, error) => {
+            Ok(Trouble::Text(name, format!(in alloc; "{path}: {error}")?))
+        }
+        trouble => Ok(trouble),
     }
 }

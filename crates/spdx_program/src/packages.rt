@@ -1,66 +1,16 @@
 // The packages that the files list.
 
 use crate::console::Console;
-use crate::files::system::{System, paths_or_input};
 use crate::trouble::Trouble;
 use document_references::shared_references;
-pub(crate) use package_files::Listed;
+use package_files::Listed;
 use package_sources::{Form, Pointers};
-use shelves::SystemShelf;
 use spdx_words::{Source, SourceForm};
 use std::alloc::{AllocError, Global};
 use std::io::Write;
 
 // How many references are told by name.
 const MOST_NAMED: usize = 5;
-
-/// Which packages are wanted of which files.
-#[derive(Clone, Copy)]
-pub(crate) struct Wanted<'r> {
-    pub(crate) source: Source<'r>,
-    /// Whether a file that lists no package passes.
-    pub(crate) allow_empty: bool,
-    /// Whether packages of one's own project are left out.
-    pub(crate) exclude_own: bool,
-    /// Whether it is told as what form a file was read that is named without one.
-    pub(crate) tells_form: bool,
-    pub(crate) paths: &'r [&'r str],
-}
-
-/// The packages of some files.
-#[derive(Drop)]
-pub(crate) struct AllListed {
-    pub(crate) files: Vec<Listed>,
-    /// The status of the files that are left out; 0 where none is.
-    pub(crate) status: u8,
-}
-
-/// The packages of each file, or of standard input where none is named. A file that can't be read, isn't what it is
-/// called, or lists no package, unless that is let pass, is told and left out.
-pub(crate) fn read_all<R: System, O: Write + Drop, F: Write + Drop>(
-    rt: &R,
-    wanted: Wanted<'_>,
-    console: &mut Console<O, F>,
-) -> Result<AllListed, Trouble> {
-    let alloc = rt.alloc();
-    let each = package_files::Wanted {
-        source: read_as(wanted.source),
-        allow_empty: wanted.allow_empty,
-        exclude_own: wanted.exclude_own,
-    };
-    let paths = paths_or_input(wanted.paths);
-    let all = package_files::all_listed_at(alloc, &SystemShelf::new(rt), each, paths)?;
-    let package_files::AllListed { files, left_out } = all;
-    let mut status = 0;
-    for fault in left_out {
-        status = console.tell(alloc, &Trouble::from(fault));
-    }
-    if wanted.tells_form {
-        tell_forms(alloc, &files, console)?;
-        tell_shared(alloc, wanted.source, &files, console)?;
-    }
-    Ok(AllListed { files, status })
-}
 
 /// Tells which references several of SPDX's documents have, the first five of them by name.
 pub(crate) fn tell_shared<O: Write + Drop, F: Write + Drop>(

@@ -1,7 +1,5 @@
 // Why the program stops, leaves a file out, or does other than what may be thought.
 
-pub(crate) mod several;
-
 use crate::files::replace::{Loss, Obstacle};
 use check_sources::reason_text;
 use fix_program::{FixFault, FixTrouble};
@@ -11,6 +9,7 @@ use line_engine::device::Failed;
 use line_engine::lines::RunFault;
 use list_program::ListTrouble;
 use meaning_program::{MeaningTrouble, Unsaid};
+use notice_program::NoticeTrouble;
 use package_files::FileFault;
 use package_sources::SourceFault;
 use source_trees::ReadingFault;
@@ -83,8 +82,6 @@ pub(crate) enum Trouble {
     Shared(String),
     /// What is to be written is no regular file.
     Special(String),
-    /// The file is not in the folder in which it is looked for.
-    Outside(String),
     /// The file stands above the folder in which a diff is applied.
     Above(String),
     /// Each of these, none of which is several.
@@ -165,6 +162,15 @@ impl From<GateTrouble> for Trouble {
             GateTrouble::List(trouble) => Trouble::from(trouble),
             GateTrouble::Policy(trouble) => Trouble::from(trouble),
             GateTrouble::Memory => Trouble::Memory,
+        }
+    }
+}
+
+impl From<NoticeTrouble> for Trouble {
+    fn from(trouble: NoticeTrouble) -> Trouble {
+        match trouble {
+            NoticeTrouble::List(trouble) => Trouble::from(trouble),
+            NoticeTrouble::Memory => Trouble::Memory,
         }
     }
 }
@@ -286,11 +292,6 @@ impl Trouble {
         )
     }
 
-    /// Whether further ones of its kind are worth looking for before it is told.
-    pub(crate) fn is_one_of_several(&self) -> bool {
-        self.is_passed_over() || matches!(self, Trouble::NoChoice(..) | Trouble::Text(..))
-    }
-
     /// The program's status.
     pub(crate) fn status(&self) -> u8 {
         match self {
@@ -324,7 +325,6 @@ impl Trouble {
             | Trouble::Shared(path)
             | Trouble::LeftBehind(path)
             | Trouble::Special(path)
-            | Trouble::Outside(path)
             | Trouble::Above(path)
             | Trouble::Changed(path)
             | Trouble::Linked(path)
@@ -400,7 +400,6 @@ impl Trouble {
             Trouble::Special(_) => {
                 write!(text, "spdx: {name}: no regular file; left as it is\n")
             }
-            Trouble::Outside(_) => write!(text, "spdx: {name}: outside of the folder\n"),
             Trouble::Above(_) => write!(
                 text,
                 "spdx: {name}: no diff names a file above its folder; run spdx there, or use --write\n"

@@ -1,7 +1,7 @@
 //! The rows of what is read over a shelf of values: which list, which packages, what the gate
 //! says of them, what changed between two lists of them, how two expressions compare, what each line means, what a
-//! list says of names, by what two lists differ, which files are below a folder, what mends files, and what packages are used
-//! under.
+//! list says of names, by what two lists differ, which files are below a folder, what mends files, what packages are used
+//! under, and the page of their texts.
 //!
 //! Each part has its rows in a file that lies where the program runs, NAME.rows, and is told behind a line `== PART`: those
 //! that don't hold, then how many do. The head of each module has the form of its rows.
@@ -14,6 +14,7 @@ mod fixes;
 mod gates;
 mod list_diffs;
 mod lists;
+mod notices;
 mod packages;
 mod shelf;
 mod shows;
@@ -35,6 +36,9 @@ fn start(rt: &HostRuntime) -> io::Result<u8> {
     shown.push_str("== gates\n")?;
     let rows = fs::read_to_string(rt, "gates.rows")?;
     let are_gates_good = gates::try_rows(rt.alloc(), &mut shown, rows.as_str())?;
+    shown.push_str("== notices\n")?;
+    let rows = fs::read_to_string(rt, "notices.rows")?;
+    let are_notices_good = notices::try_rows(rt.alloc(), &mut shown, rows.as_str())?;
     shown.push_str("== diffs\n")?;
     let rows = fs::read_to_string(rt, "diffs.rows")?;
     let are_diffs_good = diffs::try_rows(rt.alloc(), &mut shown, rows.as_str())?;
@@ -63,6 +67,7 @@ fn start(rt: &HostRuntime) -> io::Result<u8> {
     let are_good = are_lists_good
         && are_packages_good
         && are_gates_good
+        && are_notices_good
         && are_diffs_good
         && are_compares_good
         && are_simplifies_good

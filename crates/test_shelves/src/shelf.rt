@@ -2,7 +2,7 @@
 
 use list_program::Inside;
 use package_files::FileFault;
-use shelves::{Entry, Held, HeldFile, HeldFolder, Kind};
+use shelves::{Entry, Held, HeldFile, HeldFolder, HeldLink, Kind};
 use std::alloc::{AllocError, Global};
 
 /// A few rows of SPDX's list, as a program has them inside.
@@ -28,12 +28,22 @@ pub(crate) fn inside() -> Inside<'static> {
 }
 
 /// The shelf of a text's files: `= PATH`, and behind it the file's lines, each behind `| `. `= -` is the input, and `= PATH/` a
-/// folder, whose lines are the names in it, those of folders with a slash behind them.
+/// folder, whose lines are the names in it, those of folders with a slash behind them. `= PATH -> OTHER` says that what is at the
+/// path is a link to the other one.
 pub(crate) fn shelf_of(alloc: Global, text: &str) -> Result<Held, AllocError> {
     let mut files = Vec::new(alloc);
     let mut folders = Vec::new(alloc);
+    let mut links = Vec::new(alloc);
     for part in text.split("\n= ").skip(1) {
-        match part.lines().next().and_then(|path| path.strip_suffix("/")) {
+        let head = part.lines().next().unwrap_or("");
+        if let Some((path, to)) = head.split_once(" -> ") {
+            links.push(HeldLink {
+                path: String::from_str(alloc, path)?,
+                to: String::from_str(alloc, to)?,
+            })?;
+            continue;
+        }
+        match head.strip_suffix("/") {
             Some(path) => folders.push(folder(alloc, path, part)?)?,
             None => files.push(file(alloc, part)?)?,
         }
@@ -42,7 +52,7 @@ pub(crate) fn shelf_of(alloc: Global, text: &str) -> Result<Held, AllocError> {
     Ok(Held {
         files,
         folders,
-        links: Vec::new(alloc),
+        links,
         variables: Vec::new(alloc),
         input,
     })

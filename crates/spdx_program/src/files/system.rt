@@ -28,14 +28,6 @@ pub(crate) fn is_folder<R: System>(rt: &R, path: &str) -> Result<bool, Trouble> 
     }
 }
 
-/// Whether the path is neither a regular file nor a folder.
-pub(crate) fn is_special<R: System>(rt: &R, path: &str) -> Result<bool, Trouble> {
-    match fs::metadata(rt, path) {
-        Ok(metadata) => Ok(!metadata.is_file() && !metadata.is_dir()),
-        Err(error) => Err(Trouble::unreadable(rt.alloc(), path, error)),
-    }
-}
-
 /// The text of a file in UTF-16, which a byte order mark at its beginning tells; none of other files.
 pub(crate) fn utf16_text(alloc: Global, bytes: &[u8]) -> Result<Option<String>, AllocError> {
     match bytes {

@@ -1,0 +1,4 @@
+pub mod Zips
+pub mod Standing
+pub mod Law
+pub mod Ending
