@@ -78,7 +78,8 @@ IsEmptyText name path (b ∷ bytes) t = ⊥
 -- it can't be read, leads out of the folder, or isn't there and has to be; or it is empty
 abbrev pub IsNoText : Shelved → TextFolder → List ℕ → TextTrouble → Type 0
 IsNoText s a name t =
-    (IsUnreadWithin s name (inside a) (path_of a name) t × ((a.may_lack && is_missing t.why) ≡ false))
+    (IsUnreadWithin s name (inside a) (path_of a name) t ×
+    ((a.may_lack && is_missing t.why) ≡ false))
     ⊎ ((bytes : List ℕ) × IsReadWithin s (inside a) (path_of a name) bytes ×
     IsEmptyText name (path_of a name) bytes t)
 

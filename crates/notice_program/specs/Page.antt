@@ -93,7 +93,8 @@ reading_of a = record { folders = a.folders; source = a.wanted.source; plain = a
 
 -- their own files are had that are owed, or the troubles are told of all packages
 pub data IsPlacedEnd (s : Shelved) (a : Request) (taken : List Taken) : End → Type 0 where
-  noted : {e : End} (reads : List (List Read)) → AreAllOwn s (reading_of a) (map owner taken) reads [] →
+  noted : {e : End} (reads : List (List Read)) →
+      AreAllOwn s (reading_of a) (map owner taken) reads [] →
       IsNotedEnd s a (noted_in taken reads) e → IsPlacedEnd s a taken e
   no_own : {ts : Vec TextTrouble} (reads : List (List Read)) →
       AreAllOwn s (reading_of a) (map owner taken) reads ts.items → ts.items ≢ [] →

@@ -47,7 +47,8 @@ unless_missing false lacks bytes = Some bytes
 -- the page and what is missing on it are told, and how many there are
 pub record IsToldOwn (is_strict : Bool) (text : NoticeText) (n : ToldPage) : Type 0 where
   pub page_is : n.page ≡ unless_missing is_strict text.missing.items text.bytes
-  pub missing_are : map missing_by n.missing.items ≡ map lacking_of (map seen_lack text.missing.items)
+  pub missing_are : map missing_by n.missing.items
+      ≡ map lacking_of (map seen_lack text.missing.items)
   pub totals_are : option_map string_bytes n.totals ≡ Some (totals_line text.totals)
 
 -- the page alone is

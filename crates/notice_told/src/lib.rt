@@ -4,8 +4,8 @@
 //! under it, each text once with all packages that have it; general texts stand in for those that a package lacks.
 //!
 //! ```rust
-//! // crates/spdx_program/src/notice.rt
-//! match notice_text(alloc, look, &noted, &general) {
+//! // crates/notice_program/src/page.rt
+//! match notice_text(alloc, look_of(request), noted, &general) {
 //! ```
 //!
 //! `owed_of` says which files of a package need to be read, and `all_lacks` which general texts. It stands on `notice_texts`,

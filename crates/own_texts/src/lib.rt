@@ -3,7 +3,7 @@
 //!
 //! ```rust
 //! // crates/notice_program/src/page.rt
-//! let own = all_own_files(alloc, shelf, reading, placed)?;
+//! let own = all_own_files(alloc, shelf, reading_of(request), placed)?;
 //! ```
 //!
 //! Nothing is read out of a package's folder. It stands on `text_files`, `notice_texts`, `notice_told` and `package_files`.

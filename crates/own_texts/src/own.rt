@@ -118,7 +118,8 @@ fn files_in<S: Shelf>(
     placed: Placed<'_, '_>,
     home: &Home,
 ) -> Result<OwnFiles, AllocError>
-    ensures { IfOk result (AreOwnIn (S.told shelf.now) reading.entry (owner_of placed.entry) home.now) }
+    ensures { IfOk result (AreOwnIn (S.told shelf.now) reading.entry
+        (owner_of placed.entry) home.now) }
 {
     match names_in(alloc, shelf, placed.name, home.folder.as_str()) {
         Ok(names) => files_among(alloc, shelf, reading, placed, home, &names),
@@ -136,8 +137,8 @@ fn files_among<S: Shelf>(
     home: &Home,
     names: &[String],
 ) -> Result<OwnFiles, AllocError>
-    ensures { IfOk result (spec.AreOwnAmong (S.told shelf.now) reading.entry (owner_of placed.entry) home.now
-        (map string_bytes names.now)) }
+    ensures { IfOk result (spec.AreOwnAmong (S.told shelf.now) reading.entry
+        (owner_of placed.entry) home.now (map string_bytes names.now)) }
 {
     let package = placed.listed;
     let place = place_of(reading.source, placed.file.guessed, reading.folders.own);

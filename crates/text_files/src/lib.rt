@@ -1,8 +1,8 @@
 //! What files of texts hold, over a shelf: those alone that stand within a folder, links followed; and how a text is shown.
 //!
 //! ```rust
-//! // crates/own_texts/src/own.rt
-//! Some(whole) => bytes_within(alloc, shelf, name, Some(home.inside.as_str()), whole.as_str()),
+//! // crates/general_texts/src/held.rt
+//! match bytes_within(alloc, shelf, name, inside(folder), path.as_str()) {
 //! ```
 //!
 //! It stands on `shelves`, and knows nothing of packages.
