@@ -1,8 +1,8 @@
 //! The packages that files list, over a shelf of files.
 //!
 //! ```rust
-//! // crates/spdx_program/src/packages.rt
-//! let all = package_files::all_listed_at(alloc, &SystemShelf::new(rt), each, paths)?;
+//! // crates/notice_program/src/run.rt
+//! let all = all_listed_at(alloc, shelf, request.wanted, request.paths)?;
 //! ```
 //!
 //! It stands on `shelves` and `package_sources`.

@@ -1,8 +1,8 @@
 //! What packages are used under: by a policy, or among the licences of a list; each by a choice of its own, or all by one.
 //!
 //! ```rust
-//! // crates/spdx_program/src/chosen.rt
-//! match policy_choices::choose(
+//! // crates/notice_program/src/run.rt
+//! match choose(
 //! ```
 //!
 //! It stands on `choice_program`, `package_choices` and `gate_program`.
