@@ -1,4 +1,3 @@
-pub mod Each
 pub mod Naming
 pub mod Stating
 pub mod Causes

@@ -26,8 +26,8 @@ use Rattle.spdx_minimize.specs.MinimizeFaults.{refused_choice}
 use Rattle.package_choices.specs.declared.accepted.unmet.Unmet.{Unmet}
 use Rattle.package_choices.specs.declared.accepted.unmet.Unmet.TheVariants.{Expression, Together}
 use Rattle.package_choices.specs.Refusals.{TellsJoint}
-use Rattle.choice_program.specs.Each.{AreHad, none}
-use Rattle.choice_program.proofs.Each.{more_had, more_lacked}
+use Rattle.told_at_once.specs.Each.{AreHad, none}
+use Rattle.told_at_once.proofs.Each.{more_had, more_lacked}
 
 pub one_stated : (c : Rows) (m : ParseMode) (p : Package) (x : Stated) (old new : AllStated) (ps : List Package) → AreStated c m ps old → meant_of x ≡ record { of = p; tree = x.expression.tree } → IsExpressionOf c m p x.expression.tree
     → new.stated.items ≡ old.stated.items ++ x ∷ [] → new.lacking.items ≡ old.lacking.items → AreStated c m (ps ++ p ∷ []) new

@@ -26,7 +26,7 @@ use Rattle.choice_program.specs.declared.choosing.Chosen.{Chosen}
 use Rattle.choice_program.specs.declared.unchosen.Unchosen.{Unchosen}
 use Rattle.choice_program.specs.declared.unchosen.Why.{Why}
 use Rattle.choice_program.specs.declared.unchosen.Why.TheVariants as why
-use Rattle.choice_program.specs.Each.{AreHad}
+use Rattle.told_at_once.specs.Each.{AreHad}
 use Rattle.choice_program.specs.Named.{named, shown_all}
 use Rattle.choice_program.specs.Unchosen.{IsUnchosen}
 

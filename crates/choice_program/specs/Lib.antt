@@ -1,4 +1,3 @@
-pub mod Each
 pub mod Unchosen
 pub mod Named
 pub mod Licensees

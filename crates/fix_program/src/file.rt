@@ -1,6 +1,6 @@
 // What is done with a file, over a shelf.
 
-ghost use Rattle.std.specs.Prelude.{◌≡◌, Bool, IfErr, IfOk, OnOk, codes};
+ghost use Rattle.std.specs.Prelude.{◌≡◌, Bool, false, IfErr, IfOk, OnOk, codes};
 ghost use Rattle.fix_program.specs.Files as spec;
 ghost use Rattle.fix_program.specs.Files.{
   AreAllRead,
