@@ -3,3 +3,4 @@ pub mod Needs
 pub mod Owed
 pub mod Untagged
 pub mod Counted
+pub mod Decoding
