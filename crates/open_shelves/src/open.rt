@@ -1,0 +1,36 @@
+// What gives files piece by piece.
+
+ghost use Rattle.std.specs.Prelude.{IfErr, IfOk};
+ghost use Rattle.open_shelves.specs.Opened.{Gives};
+
+use line_engine::device::Source;
+use shelves::Shelf;
+use std::alloc::Global;
+use std::io;
+
+/// A shelf that gives its files and its input piece by piece, too.
+pub trait OpenShelf: Shelf {
+    type File: Source + Drop;
+
+    type Stdin: Source + Drop;
+
+    /// Gives the bytes of the file at the path.
+    ///
+    /// # Errors
+    ///
+    /// No file is there, it can't be opened, or memory was refused.
+    fn open(&self, alloc: Global, path: &str) -> io::Result<Self::File>
+        ensures ok { IfOk result (λ file.
+            Gives (Self.File.told file) ((Self.Shelf.told self.now).Holds path.now)) }
+        ensures err { IfErr result (λ error. (Self.Shelf.told self.now).Fails path.now error) };
+
+    /// Gives the bytes of standard input.
+    ///
+    /// # Errors
+    ///
+    /// It can't be read, or memory was refused.
+    fn open_input(&self, alloc: Global) -> io::Result<Self::Stdin>
+        ensures ok { IfOk result (λ input.
+            Gives (Self.Stdin.told input) (Self.Shelf.told self.now).IsInput) }
+        ensures err { IfErr result (λ error. (Self.Shelf.told self.now).InputFails error) };
+}
