@@ -1,0 +1,3 @@
+pub mod Doing
+pub mod Needed
+pub mod Steps

@@ -1,0 +1,6 @@
+pub mod Tally
+pub mod Told
+pub mod Passing
+pub mod Parts
+pub mod Noted
+pub mod Files
