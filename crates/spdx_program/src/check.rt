@@ -2,8 +2,8 @@
 
 pub(crate) mod owed;
 
-use crate::check::owed::{Owing, put_owed, put_untagged};
-use crate::console::Console;
+use crate::check::owed::{Owing, put_owed, put_untagged, text_of, texts_folder};
+use crate::console::{Console, Teller};
 use crate::files::left::tell_left;
 use crate::files::system::{
     System, bytes_of, bytes_or, input_bytes, paths_or_input, utf16_text, without_mark,
@@ -12,18 +12,19 @@ use crate::list::{self, mode_of};
 use crate::manifest::Manifest;
 use crate::readings::{file_seen, reading_at, walk_from};
 use crate::trouble::Trouble;
-use check_sources::{Source, check_manifest, check_tags, is_binary};
+use check_program::{Below, Noted, check_file};
+use check_sources::{Source, check_manifest, check_tags};
 use check_told::{Sums, counted, summary_of};
 use finding_forms::{Format, Style, put_beginning, put_ending};
-use license_tags::{comment_of, tags};
+use fix_program::Progress;
 use line_engine::lines::write_all;
 use line_engine::stream::Input as Lines;
 use manifests::{Form, has_license_table};
 use shelves::SystemShelf;
-use source_trees::{Reading, Seen, Taken, form_below};
+use source_trees::{Reading, Seen, Taken};
 use spdx_check::{Check, check_lines};
 use spdx_words::{CheckRequest, FindingFormat, Wanted};
-use std::alloc::{AllocError, Global};
+use std::alloc::Global;
 use std::fs;
 use std::io::Write;
 use std::mem::forget;
@@ -252,29 +253,37 @@ fn check_tree<R: System, O: Write + Drop, F: Write + Drop>(
     let alloc = rt.alloc();
     let shelf = &SystemShelf::new(rt);
     let mut walk = walk_from(rt, path)?;
-    let mut owing = Owing::new(rt, job.texts, path)?;
-    let mut left_behind = Vec::new(alloc);
+    let folder = texts_folder(rt, job.texts, path)?;
+    let below = Below {
+        taken,
+        folder: text_of(&folder),
+    };
+    let mut noted = Noted::new(alloc);
     let mut count: u64 = 0;
     for _ in 0..u64::MAX {
-        match walk.next(alloc, shelf)? {
-            None => break,
-            Some(Seen::LeftOut(path)) => sums.left_out.push(path)?,
-            Some(Seen::LeftBehind(path)) => left_behind.push(path)?,
-            Some(seen) => {
-                if matches!(seen, Seen::File(_)) {
-                    console.show_progress(alloc, count)?;
-                    count = count.saturating_add(1);
-                }
-                if let Err(trouble) = check_seen(rt, job, taken, seen, &mut owing, sums, console) {
-                    pass_over(alloc, trouble, sums, console)?;
-                }
-            }
+        let Some(seen) = walk.next(alloc, shelf)? else {
+            break;
+        };
+        if matches!(seen, Seen::File(_)) {
+            console.seen(alloc, count)?;
+            count = count.saturating_add(1);
         }
+        check_seen(rt, job, below, seen, &mut noted, sums, console)?;
     }
-    console.end_progress();
+    console.ended();
+    let Noted {
+        used,
+        untagged,
+        left_behind,
+    } = noted;
     tell_left(alloc, left_behind, console);
     if taken.is_all() {
-        tell_owed(rt, job, &owing, sums, console)?;
+        let owing = Owing {
+            folder: text_of(&folder),
+            used: &used,
+            untagged: &untagged,
+        };
+        tell_owed(rt, job, owing, sums, console)?;
     }
     Ok(())
 }
@@ -283,7 +292,7 @@ fn check_tree<R: System, O: Write + Drop, F: Write + Drop>(
 fn tell_owed<R: System, O: Write + Drop, F: Write + Drop>(
     rt: &R,
     job: &Job<'_>,
-    owing: &Owing,
+    owing: Owing<'_>,
     sums: &mut Sums,
     console: &mut Console<O, F>,
 ) -> Result<(), Trouble> {
@@ -293,7 +302,7 @@ fn tell_owed<R: System, O: Write + Drop, F: Write + Drop>(
     sums.texts = sums.texts.saturating_add(owed);
     if job.untagged {
         let is_first = sums.is_clean();
-        let told = put_untagged(alloc, &job.check, is_first, &owing.untagged, &mut text)?;
+        let told = put_untagged(alloc, &job.check, is_first, owing.untagged, &mut text)?;
         sums.bare = sums.bare.saturating_add(told);
     } else if owing.folder.is_some() {
         sums.untagged = sums.untagged.saturating_add(owing.untagged.len() as u64);
@@ -302,83 +311,41 @@ fn tell_owed<R: System, O: Write + Drop, F: Write + Drop>(
     Ok(())
 }
 
-// Checks what a walk comes to, if it is a file.
+// Checks what a walk comes to, if it is a file; else notes it, or tells that it is passed over.
 fn check_seen<R: System, O: Write + Drop, F: Write + Drop>(
     rt: &R,
     job: &Job<'_>,
-    taken: Taken,
+    below: Below<'_>,
     seen: Seen,
-    owing: &mut Owing,
+    noted: &mut Noted,
     sums: &mut Sums,
     console: &mut Console<O, F>,
 ) -> Result<(), Trouble> {
-    match file_seen(seen)? {
-        Some(file) => check_file(rt, job, taken, file.as_str(), owing, sums, console),
-        None => Ok(()),
-    }
-}
-
-// Checks a file below a folder: what it declares, if it is a manifest, and then its tags.
-fn check_file<R: System, O: Write + Drop, F: Write + Drop>(
-    rt: &R,
-    job: &Job<'_>,
-    taken: Taken,
-    path: &str,
-    owing: &mut Owing,
-    sums: &mut Sums,
-    console: &mut Console<O, F>,
-) -> Result<(), Trouble> {
-    let form = form_below(taken, path);
-    if form.is_none() && !taken.tags {
-        return Ok(());
-    }
-    let bytes = bytes_of(rt, path)?;
-    let files = sums.totals.files;
-    if let Some(form) = form {
-        let manifest = Manifest {
-            path,
-            form,
-            bytes: without_mark(&bytes),
-        };
-        check_declared(rt.alloc(), job, &manifest, sums, console)?;
-        note_declared(rt.alloc(), job, &manifest, owing)?;
-    }
-    if taken.tags {
-        let text = utf16_text(rt.alloc(), &bytes)?;
-        let source = bytes_or(&text, &bytes);
-        check_source(rt.alloc(), job, path, source, sums, console)?;
-        note_tags(rt.alloc(), job, path, source, owing)?;
-    }
-    if sums.totals.files == files {
-        owing.add_untagged(rt, path, &bytes)?;
-    }
-    Ok(())
-}
-
-// Notes which license texts a manifest needs.
-fn note_declared(
-    alloc: Global,
-    job: &Job<'_>,
-    manifest: &Manifest<'_>,
-    owing: &mut Owing,
-) -> Result<(), AllocError> {
-    if owing.folder.is_some() {
-        owing.add_manifest(alloc, &job.check, manifest)?;
-    }
-    Ok(())
-}
-
-// Notes which license texts the tags of a file need, if it is none of the texts itself.
-fn note_tags(
-    alloc: Global,
-    job: &Job<'_>,
-    path: &str,
-    bytes: &[u8],
-    owing: &mut Owing,
-) -> Result<(), AllocError> {
-    if owing.folder.is_some() && !owing.is_text(path) && !is_binary(bytes) {
-        let tags = tags(alloc, bytes, comment_of(path))?;
-        owing.add_tags(alloc, &job.check, bytes, &tags)?;
+    let alloc = rt.alloc();
+    match seen {
+        Seen::LeftOut(path) => sums.left_out.push(path)?,
+        Seen::LeftBehind(path) => noted.left_behind.push(path)?,
+        Seen::File(path) => {
+            let shelf = SystemShelf::new(rt);
+            let output = &mut console.output;
+            let mut teller = Teller::new(&mut console.faults, console.screen);
+            check_file(
+                alloc,
+                &shelf,
+                &job.check,
+                below,
+                path.as_str(),
+                noted,
+                sums,
+                output,
+                &mut teller,
+            )?;
+        }
+        Seen::Folder(..) | Seen::Unread(..) => {
+            if let Err(trouble) = file_seen(seen) {
+                pass_over(alloc, trouble, sums, console)?;
+            }
+        }
     }
     Ok(())
 }

@@ -1,6 +1,9 @@
 // Where the program writes.
 
+ghost use Rattle.std.specs.Prelude.{None};
+
 use crate::trouble::Trouble;
+use check_program::{CheckTrouble, Telling};
 use fix_program::Progress;
 use line_engine::lines::write_all;
 use line_engine::stream::Output;
@@ -68,46 +71,86 @@ impl<O: Write + Drop, F: Write + Drop> Console<O, F> {
     }
 
     fn tell_one(&mut self, alloc: Global, trouble: &Trouble) -> u8 {
-        match trouble.line(alloc) {
-            Ok(line) => {
-                let _ = write_all(&mut self.faults, &line);
-                trouble.status()
-            }
-            Err(AllocError) => {
-                let _ = write_all(&mut self.faults, b"spdx: out of memory\n");
-                3
-            }
+        tell_on(alloc, trouble, &mut self.faults)
+    }
+}
+
+// Tells a trouble that is not several.
+fn tell_on<F: Write + Drop>(alloc: Global, trouble: &Trouble, faults: &mut Output<F>) -> u8 {
+    match trouble.line(alloc) {
+        Ok(line) => {
+            let _ = write_all(faults, &line);
+            trouble.status()
+        }
+        Err(AllocError) => {
+            let _ = write_all(faults, b"spdx: out of memory\n");
+            3
         }
     }
+}
 
-    /// Shows how many files a walk has seen, each thousand of them.
-    pub(crate) fn show_progress(&mut self, alloc: Global, count: u64) -> Result<(), AllocError> {
-        if !self.screen.progress || count % STEP != 0 || count == 0 {
-            return Ok(());
-        }
-        let mut text = Vec::new(alloc);
-        match write!(text, "\r{count} files") {
-            Ok(()) => {}
-            Err(_) => return Err(AllocError),
-        }
-        let _ = write_all(&mut self.faults, &text);
-        Ok(())
+// Shows how many files a walk has seen, each thousand of them.
+fn show_on<F: Write + Drop>(
+    alloc: Global,
+    count: u64,
+    screen: Screen,
+    faults: &mut Output<F>,
+) -> Result<(), AllocError> {
+    if !screen.progress || count % STEP != 0 || count == 0 {
+        return Ok(());
     }
+    let mut text = Vec::new(alloc);
+    match write!(text, "\r{count} files") {
+        Ok(()) => {}
+        Err(_) => return Err(AllocError),
+    }
+    let _ = write_all(faults, &text);
+    Ok(())
+}
 
-    /// Takes away what was shown last.
-    pub(crate) fn end_progress(&mut self) {
-        if self.screen.progress {
-            let _ = write_all(&mut self.faults, b"\r\x1b[K");
-        }
+// Takes away what was shown last.
+fn end_on<F: Write + Drop>(screen: Screen, faults: &mut Output<F>) {
+    if screen.progress {
+        let _ = write_all(faults, b"\r\x1b[K");
     }
 }
 
 impl<O: Write + Drop, F: Write + Drop> Progress for Console<O, F> {
     fn seen(&mut self, alloc: Global, files: u64) -> Result<(), AllocError> {
-        self.show_progress(alloc, files)
+        show_on(alloc, files, self.screen, &mut self.faults)
     }
 
     fn ended(&mut self) {
-        self.end_progress();
+        end_on(self.screen, &mut self.faults);
+    }
+}
+
+/// Who is told of a check's troubles, while its output is in use.
+#[derive(Drop)]
+pub(crate) struct Teller<'c, F: Drop> {
+    faults: &'c mut Output<F>,
+    screen: Screen,
+}
+
+impl<'c, F: Write + Drop> Teller<'c, F> {
+    pub(crate) fn new(faults: &'c mut Output<F>, screen: Screen) -> Teller<'c, F> {
+        Teller { faults, screen }
+    }
+}
+
+impl<F: Write + Drop> Telling for Teller<'_, F> {
+    ghost told = { λ _. None };
+
+    fn tell(&mut self, alloc: Global, trouble: CheckTrouble) -> Result<(), AllocError> {
+        tell_on(alloc, &Trouble::from(trouble), self.faults);
+        Ok(())
+    }
+
+    fn seen(&mut self, alloc: Global, files: u64) -> Result<(), AllocError> {
+        show_on(alloc, files, self.screen, self.faults)
+    }
+
+    fn ended(&mut self) {
+        end_on(self.screen, self.faults);
     }
 }

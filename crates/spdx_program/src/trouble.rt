@@ -1,22 +1,16 @@
 // Why the program stops, leaves a file out, or does other than what may be thought.
 
+mod causes;
+
 use crate::files::replace::{Loss, Obstacle};
-use check_sources::reason_text;
-use fix_program::{FixFault, FixTrouble};
 use foreign_text::{Sink, text_for};
-use gate_program::{GateTrouble, PolicyTrouble};
 use line_engine::device::Failed;
 use line_engine::lines::RunFault;
-use list_program::ListTrouble;
-use meaning_program::{MeaningTrouble, Unsaid};
-use notice_program::NoticeTrouble;
-use package_files::FileFault;
 use package_sources::SourceFault;
-use source_trees::ReadingFault;
 use spdx::ReadFault;
 use spdx_list::ListFault;
 use spdx_policy::PolicyFault;
-use std::alloc::{AllocError, AllocFailed, Global};
+use std::alloc::{AllocError, Global};
 use std::io::{self, ErrorKind, Write};
 
 /// What went wrong outside the expressions.
@@ -89,126 +83,6 @@ pub(crate) enum Trouble {
     /// What is told can't be written.
     Output,
     Memory,
-}
-
-impl From<AllocError> for Trouble {
-    fn from(_error: AllocError) -> Trouble {
-        Trouble::Memory
-    }
-}
-
-impl<T: Drop> From<AllocFailed<T>> for Trouble {
-    fn from(_error: AllocFailed<T>) -> Trouble {
-        Trouble::Memory
-    }
-}
-
-impl From<Failed> for Trouble {
-    fn from(_error: Failed) -> Trouble {
-        Trouble::Output
-    }
-}
-
-impl From<ListTrouble> for Trouble {
-    fn from(trouble: ListTrouble) -> Trouble {
-        match trouble {
-            ListTrouble::Unreadable(path, error) => Trouble::of_path(path, error),
-            ListTrouble::Nameless => Trouble::Nameless,
-            ListTrouble::NoList(name, fault) => Trouble::List(name, fault),
-            ListTrouble::NotMade(name, fault) => Trouble::Made(name, fault),
-            ListTrouble::NoExtras(fault) => Trouble::NoExtras(fault),
-            ListTrouble::Output => Trouble::Output,
-            ListTrouble::Memory => Trouble::Memory,
-        }
-    }
-}
-
-impl From<FileFault> for Trouble {
-    fn from(fault: FileFault) -> Trouble {
-        match fault {
-            FileFault::Unreadable(path, error) => Trouble::of_path(path, error),
-            FileFault::Source(path, fault) => Trouble::Source(path, fault),
-            FileFault::Empty(path) => Trouble::Empty(path),
-            FileFault::Memory => Trouble::Memory,
-        }
-    }
-}
-
-impl From<ReadingFault> for Trouble {
-    fn from(fault: ReadingFault) -> Trouble {
-        match fault {
-            ReadingFault::Unreadable(path, error) => Trouble::of_path(path, error),
-            ReadingFault::NoManifest(path) => Trouble::NoManifest(path),
-            ReadingFault::Folder(path) => Trouble::Folder(path),
-            ReadingFault::Memory => Trouble::Memory,
-        }
-    }
-}
-
-impl From<PolicyTrouble> for Trouble {
-    fn from(trouble: PolicyTrouble) -> Trouble {
-        match trouble {
-            PolicyTrouble::Unreadable(path, error) => Trouble::of_path(path, error),
-            PolicyTrouble::NoPolicy(path, fault) => Trouble::Policy(path, fault),
-            PolicyTrouble::NoHeirs(fault) => Trouble::NoExtras(fault),
-            PolicyTrouble::Memory => Trouble::Memory,
-        }
-    }
-}
-
-impl From<GateTrouble> for Trouble {
-    fn from(trouble: GateTrouble) -> Trouble {
-        match trouble {
-            GateTrouble::List(trouble) => Trouble::from(trouble),
-            GateTrouble::Policy(trouble) => Trouble::from(trouble),
-            GateTrouble::Memory => Trouble::Memory,
-        }
-    }
-}
-
-impl From<NoticeTrouble> for Trouble {
-    fn from(trouble: NoticeTrouble) -> Trouble {
-        match trouble {
-            NoticeTrouble::List(trouble) => Trouble::from(trouble),
-            NoticeTrouble::Memory => Trouble::Memory,
-        }
-    }
-}
-
-impl From<MeaningTrouble> for Trouble {
-    fn from(trouble: MeaningTrouble) -> Trouble {
-        match trouble {
-            MeaningTrouble::List(trouble) => Trouble::from(trouble),
-            MeaningTrouble::Unsaid(Unsaid { text, why }) => Trouble::Unmeant(text, why),
-            MeaningTrouble::Memory => Trouble::Memory,
-        }
-    }
-}
-
-impl From<FixFault> for Trouble {
-    fn from(fault: FixFault) -> Trouble {
-        match fault {
-            FixFault::List(trouble) => Trouble::from(trouble),
-            FixFault::Memory => Trouble::Memory,
-        }
-    }
-}
-
-impl From<FixTrouble> for Trouble {
-    fn from(trouble: FixTrouble) -> Trouble {
-        match trouble {
-            FixTrouble::Unreadable(path, error) => Trouble::of_path(path, error),
-            FixTrouble::Special(path) => Trouble::Special(path),
-            FixTrouble::Above(path) => Trouble::Above(path),
-            FixTrouble::Manifest(path, fault) => {
-                Trouble::Manifest(path, reason_text(fault.reason), fault.line)
-            }
-            FixTrouble::NoManifest(path) => Trouble::NoManifest(path),
-            FixTrouble::Folder(path) => Trouble::Folder(path),
-            FixTrouble::Unnamed(path, count) => Trouble::Unnamed(path, count),
-            FixTrouble::Memory => Trouble::Memory,
-        }
-    }
 }
 
 impl Trouble {
