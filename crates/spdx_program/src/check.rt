@@ -261,14 +261,16 @@ fn check_tree<R: System, O: Write + Drop, F: Write + Drop>(
     let mut noted = Noted::new(alloc);
     let mut count: u64 = 0;
     for _ in 0..u64::MAX {
-        let Some(seen) = walk.next(alloc, shelf)? else {
-            break;
-        };
-        if matches!(seen, Seen::File(_)) {
-            console.seen(alloc, count)?;
-            count = count.saturating_add(1);
+        match walk.next(alloc, shelf)? {
+            None => break,
+            Some(seen) => {
+                if matches!(seen, Seen::File(_)) {
+                    console.seen(alloc, count)?;
+                    count = count.saturating_add(1);
+                }
+                check_seen(rt, job, below, seen, &mut noted, sums, console)?;
+            }
         }
-        check_seen(rt, job, below, seen, &mut noted, sums, console)?;
     }
     console.ended();
     let Noted {
