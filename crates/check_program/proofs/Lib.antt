@@ -1,3 +1,4 @@
 pub mod Doing
 pub mod Needed
 pub mod Steps
+pub mod Wholes

@@ -8,7 +8,11 @@ use Rattle.license_tags.specs.Comments.{comment_of}
 use Rattle.license_tags.specs.Tags.{tags_of}
 use Rattle.check_sources.specs.Findings.{Source}
 use Rattle.check_sources.specs.Tags.{is_binary}
-use Rattle.check_program.specs.Noted.{AddsNeeded, AddsOne, AreAllNeeded, none, more, site_text, tag_text, tag_texts}
+use Rattle.check_program.specs.Noted.{AddsNeeded, AddsOne, AreAllNeeded, Grows, NeedsDeclared, declares, is_none, none, more, site_text, tag_text, tag_texts}
+use Rattle.check_sources.specs.Manifests.{mode_in}
+use Rattle.manifests.specs.Sites.{AreSites, IsReason}
+use Rattle.manifests.specs.declared.form.Form.{Form}
+use Rattle.manifests.specs.declared.site.Fault.{Fault}
 use Rattle.manifests.specs.declared.site.Site.{Site}
 
 pub begun : (c : Rows) (m : ParseMode) (old : List (List ℕ)) → AddsNeeded c m [] old old
@@ -28,6 +32,16 @@ further f c m xs i d text old mid new lt h e k =
 pub further_site : (c : Rows) (m : ParseMode) (xs : List Site) (i : ℕ) (d : Site) (text : List ℕ) (old mid new : List (List ℕ)) → i < length xs
     → AddsNeeded c m (map site_text (take i xs)) old mid → text ≡ site_text (get_or xs i d) → AddsOne c m text mid new → AddsNeeded c m (map site_text (take (i + 1) xs)) old new
 further_site c m xs i d text old mid new lt h e k = further site_text c m xs i d text old mid new lt h e k
+
+-- what a manifest declares is noted
+pub declared : (c : Rows) (m : ParseMode) (form : Form) (bytes : List ℕ) (sites : List Site) (old new : List (List ℕ)) → AreSites form bytes sites
+    → AddsNeeded c (mode_in form m) (map site_text sites) old new → Grows old new (NeedsDeclared c m form bytes)
+declared c m form bytes sites old new are h = (h.0, h.1, declares sites h.0 are h.2)
+
+-- what is no manifest of its form needs nothing
+pub undeclared : (c : Rows) (m : ParseMode) (form : Form) (bytes : List ℕ) (fault : Fault) (old : List (List ℕ)) → IsReason bytes fault.reason
+    → Grows old old (NeedsDeclared c m form bytes)
+undeclared c m form bytes fault old is = ([], sym (append-nil old), is_none fault is)
 
 -- what is no text needs nothing
 pub binary : (c : Rows) (m : ParseMode) (source : Source) (old : List (List ℕ)) → is_binary source.bytes ≡ true → AddsNeeded c m (tag_texts source) old old

@@ -1,6 +1,6 @@
 // A file below a folder.
 
-ghost use Rattle.std.specs.Prelude.{◌≡◌, IfOk, OnOk, map, string_bytes};
+ghost use Rattle.std.specs.Prelude.{◌≡◌, ◌==◌, ◌&&◌, IfOk, OnOk, map, string_bytes};
 ghost use Rattle.std.specs.Option.{option_copied};
 ghost use Rattle.check_program.specs.Files as spec;
 ghost use Rattle.check_program.specs.Files.{
@@ -118,17 +118,23 @@ fn check_bytes<S: Shelf, O: Sink>(
         sums,
         output,
     )?;
-    let is_without = declared == 0 && tagged == 0;
     note_file(
         alloc,
         shelf,
-        is_without,
+        has_none(declared, tagged),
         folder,
         path,
         bytes,
         &mut noted.untagged,
     )?;
     Ok(())
+}
+
+// Whether neither a manifest nor a tag has an expression.
+fn has_none(declared: u64, tagged: u64) -> bool
+    ensures { result ≡ ((declared == 0) && (tagged == 0)) }
+{
+    declared == 0 && tagged == 0
 }
 
 // Notes a file without an expression as one without a license, if it is one.

@@ -14,6 +14,7 @@ ghost use Rattle.check_program.specs.Noted.{
   NotesBare,
   notes_of,
 };
+ghost use Rattle.check_sources.specs.Manifests.{mode_in};
 ghost use Rattle.check_sources.specs.Stood.{source_of};
 ghost use Rattle.check_sources.specs.Written.{slice_in};
 
@@ -67,8 +68,20 @@ fn add_needed(
     Ok(())
 }
 
+fn add_site(
+    alloc: Global,
+    catalogue: &Catalogue,
+    mode: ParseMode,
+    site: &Site,
+    used: &mut Vec<String>,
+) -> Result<(), AllocError>
+    ensures { OnOk result (spec.AddsOne catalogue.now mode (spec.site_text site.now)
+        (map string_bytes used.old.items) (map string_bytes used.new.items)) }
+{
+    add_needed(alloc, catalogue, mode, &site.text, used)
+}
+
 // Appends what the expressions of these sites need.
-#[tactic(auto, using(crate::proofs::Needed::begun, crate::proofs::Needed::further_site))]
 fn add_sites(
     alloc: Global,
     catalogue: &Catalogue,
@@ -80,7 +93,7 @@ fn add_sites(
         (map string_bytes used.old.items) (map string_bytes used.new.items)) }
 {
     for site in sites {
-        add_needed(alloc, catalogue, mode, &site.text, used)?;
+        add_site(alloc, catalogue, mode, site, used)?;
     }
     Ok(())
 }
@@ -135,6 +148,22 @@ pub(crate) fn note_declared(
     }
 }
 
+// Appends what the expressions need that a manifest declares at these sites.
+fn add_declared(
+    alloc: Global,
+    check: &Check<'_>,
+    form: Form,
+    sites: &[Site],
+    used: &mut Vec<String>,
+) -> Result<(), AllocError>
+    ensures { OnOk result (AddsNeeded check.now.catalogue.now (mode_in form check.now.mode)
+        (map spec.site_text sites.now)
+        (map string_bytes used.old.items) (map string_bytes used.new.items)) }
+{
+    let mode = mode_in(form, check.mode);
+    add_sites(alloc, check.catalogue, mode, sites, used)
+}
+
 fn note_sites(
     alloc: Global,
     check: &Check<'_>,
@@ -147,10 +176,7 @@ fn note_sites(
         (spec.NeedsDeclared check.now.catalogue.now check.now.mode form bytes.now)) }
 {
     match sites(alloc, form, bytes) {
-        Ok(found) => {
-            let mode = mode_in(form, check.mode);
-            add_sites(alloc, check.catalogue, mode, &found, used)
-        }
+        Ok(found) => add_declared(alloc, check, form, &found, used),
         Err(ManifestError::Refused(_)) => Ok(()),
         Err(ManifestError::NoMemory) => Err(AllocError),
     }
