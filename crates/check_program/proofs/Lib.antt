@@ -1,4 +1,5 @@
-pub mod Doing
-pub mod Needed
-pub mod Steps
+pub mod Streams
 pub mod Wholes
+pub mod Paths
+pub mod Runs
+pub mod Clean

@@ -1,77 +1,31 @@
--- What is found in a file, part by part.
-use Rattle.std.proofs.Common.{◌≡◌, ◌∙◌, refl, sym, ap, inl, ℕ, Bool, true, false, List, [], ◌++◌, ◌==◌, ◌&&◌, Option, subst}
-use Rattle.std.specs.Io.KnownBytes.{Appends}
-use Rattle.std.proofs.KnownBytes.{Appends-trans}
+-- A file that is read whole.
+use Rattle.std.proofs.Common.{◌≡◌, inl, inr, refl, subst, ℕ, List, [], ◌∷◌, Option}
+use Rattle.std.specs.declared.io.Error.{Error}
 use Rattle.line_engine.specs.Device.{Told}
-use Rattle.line_engine.specs.declared.lines.Summary.{Summary}
 use Rattle.manifests.specs.declared.form.Form.{Form}
 use Rattle.shelves.specs.Shelf.{Shelved}
-use Rattle.source_trees.specs.Readings.{form_below}
-use Rattle.source_trees.specs.declared.reading.Taken.{Taken}
 use Rattle.spdx_check.specs.declared.check.Check.{Check}
-use Rattle.check_sources.specs.Findings.{Source}
-use Rattle.check_sources.specs.Manifests.{ChecksManifest}
-use Rattle.check_told.specs.Counted.{IsCounted, counted, written}
-use Rattle.check_told.specs.declared.sums.Sums.{Sums}
-use Rattle.check_program.specs.declared.trouble.CheckTrouble.{CheckTrouble}
-use Rattle.check_program.specs.Files.{DeclaresPart, IsFileChecked, IsFileStep, IsStepBy, NotesFile, TagsPart, is_wanted}
-use Rattle.check_program.specs.Noted.{Notes}
-use Rattle.check_program.specs.Parts.{IsManifestChecked, NotesTable}
-use Rattle.check_program.specs.Tally.{Tally, is_clean, tally_of, with_found}
-use Rattle.check_program.specs.Told.{Does, Writes}
-use Rattle.check_program.proofs.Doing.{written_alone}
+use Rattle.check_files.specs.declared.trouble.CheckTrouble.{CheckTrouble}
+use Rattle.check_files.specs.declared.trouble.CheckTrouble.TheVariants as trouble
+use Rattle.check_files.specs.Tally.{Tally}
+use Rattle.check_files.specs.Told.{Does, Writes}
+use Rattle.check_files.proofs.Doing.{heard_alone, written_alone}
+use Rattle.check_program.specs.Lines.{Fails, Gives, name_at}
+use Rattle.check_program.specs.Paths.{IsPartChecked, IsPartStep}
+use Rattle.check_program.specs.Unread.{PassesUnread}
+use Rattle.check_program.proofs.Streams.{passed}
 
-pub tallied : (old new : Sums) (s : Summary) (found text : List ℕ) → IsCounted old new s found text → tally_of new ≡ with_found s (tally_of old)
-tallied old new s found text h = rw (h.totals, h.left_out, h.tables, h.texts, h.bare, h.untagged)
+-- it is read and checked
+pub read : (s : Shelved) (check : Check) (form : Option Form) (path bytes : List ℕ) (out out' : Told) (heard : Option (List CheckTrouble)) (old new : Tally)
+    → Gives s path bytes → Writes out out' (λ text. IsPartChecked check form (name_at path) bytes old text new)
+    → Does out out' heard heard (λ text told. IsPartStep s check form path old text told new)
+read s check form path bytes out out' heard old new gives w =
+    written_alone out out' heard (λ text. IsPartChecked check form (name_at path) bytes old text new) (λ text told. IsPartStep s check form path old text told new) w
+    (λ text is. inl (bytes, gives, is, refl))
 
-pub declared_written : (out out' : Told) (check : Check) (form : Form) (source : Source) (old mid : Sums) (new : Tally) (first : Bool) (found text : List ℕ) (summary : Summary)
-    → first ≡ is_clean (tally_of old) → ChecksManifest check first form source found summary → IsCounted old mid summary found text
-    → Appends out.bytes out'.bytes text → NotesTable form source (tally_of mid) new
-    → Writes out out' (λ t. IsManifestChecked check form source (tally_of old) t summary.lines new)
-declared_written out out' check form source old mid new first found text summary clean finds counts writes notes = (
-  text,
-  writes,
-  record {
-    found = found;
-    summary = summary;
-    finds = subst (λ (b : Bool). ChecksManifest check b form source found summary) clean finds;
-    text_is = counts.text_is;
-    count_is = refl;
-    counts = subst (λ (t : Tally). NotesTable form source t new) (tallied old mid summary found text counts) notes;
-  },
-)
-
-pub file_written : (s : Shelved) (check : Check) (t : Taken) (folder : Option (List ℕ)) (path bytes : List ℕ) (old between new : Tally) (noted noted' : Notes)
-    (used : List (List ℕ)) (out mid out' : Told) (form : Option Form) (declared tagged : ℕ) (is : Bool)
-    → form ≡ form_below t path
-    → Writes out mid (λ x. DeclaresPart check folder form path bytes old noted.used x declared between used)
-    → Writes mid out' (λ x. TagsPart check folder t.tags path bytes between used x tagged new noted'.used)
-    → is ≡ ((declared == 0) && (tagged == 0)) → NotesFile is s folder path bytes noted.untagged noted'.untagged
-    → noted'.left_behind ≡ noted.left_behind
-    → Writes out out' (λ x. IsFileChecked s check t folder path bytes old noted x new noted')
-file_written s check t folder path bytes old between new noted noted' used out mid out' form declared tagged is form_is p q is_without notes left = (
-  p.0 ++ q.0,
-  Appends-trans out.bytes mid.bytes out'.bytes p.0 q.0 p.1 q.1,
-  record {
-    declared = p.0;
-    declared_count = declared;
-    between = between;
-    used = used;
-    tagged = q.0;
-    tagged_count = tagged;
-    declares = subst (λ (f : Option Form). DeclaresPart check folder f path bytes old noted.used p.0 declared between used) form_is p.2;
-    tags = q.2;
-    text_is = refl;
-    untagged = subst (λ (b : Bool). NotesFile b s folder path bytes noted.untagged noted'.untagged) is_without notes;
-    left_behind = left;
-  },
-)
-
-pub file_done : (out out' : Told) (heard : Option (List CheckTrouble)) (s : Shelved) (check : Check) (t : Taken) (folder : Option (List ℕ)) (path bytes : List ℕ)
-    (old new : Tally) (noted noted' : Notes) → is_wanted t path ≡ true → s.Holds path bytes
-    → Writes out out' (λ text. IsFileChecked s check t folder path bytes old noted text new noted')
-    → Does out out' heard heard (λ text told. IsFileStep s check t folder path old noted text told new noted')
-file_done out out' heard s check t folder path bytes old new noted noted' wanted holds h =
-    written_alone out out' heard (λ text. IsFileChecked s check t folder path bytes old noted text new noted')
-    (λ text told. IsFileStep s check t folder path old noted text told new noted') h
-    (λ text is. subst (λ (b : Bool). IsStepBy b s check t folder path old noted text [] new noted') (sym wanted) (inl (bytes, holds, is, refl)))
+-- it can't be read
+pub unread : (s : Shelved) (check : Check) (form : Option Form) (path : List ℕ) (e : Error) (out : Told) (heard heard' : Option (List CheckTrouble)) (old new : Tally)
+    → Fails s path e → PassesUnread (name_at path) e heard heard' old new → Does out out heard heard' (λ text told. IsPartStep s check form path old text told new)
+unread s check form path e out heard heard' old new f p =
+    heard_alone out heard heard' (trouble.Unreadable p.0 e ∷ []) (λ text told. IsPartStep s check form path old text told new) p.2.tells
+    (inr (passed (Fails s path) (name_at path) e heard heard' old new f p))

@@ -1,6 +1,5 @@
-pub mod Tally
-pub mod Told
-pub mod Passing
-pub mod Parts
-pub mod Noted
-pub mod Files
+pub mod Lines
+pub mod Unread
+pub mod Paths
+pub mod Runs
+pub mod Clean

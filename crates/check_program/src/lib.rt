@@ -1,21 +1,15 @@
-//! The command `spdx check` over a shelf of files, as far as one file below a folder: what is written of it, which trouble is
-//! told, and what is counted and noted.
+//! The command `spdx check` over a shelf of files: what is written and told of all that is named, and the status.
 //!
 //! ```rust
-//! // crates/check_program/src/file.rt
-//! match shelf.read(alloc, path) {
+//! // crates/spdx_program/src/check.rt
+//! let status = check_program::check(
 //! ```
 //!
-//! It stands on `check_told`, which has the parts of a check, and on `check_sources` and `source_trees`.
+//! It stands on `check_files` and `check_trees`, which check files and folders, and on `spdx_check`, which checks lines.
 #![tactic(auto)]
 
-pub mod file;
-pub mod noted;
-mod parts;
-pub mod telling;
-pub mod trouble;
+mod lines;
+mod path;
+pub mod run;
 
-pub use crate::file::{Below, check_file};
-pub use crate::noted::Noted;
-pub use crate::telling::Telling;
-pub use crate::trouble::{CheckFault, CheckTrouble};
+pub use crate::run::{CheckEnd, Inside, Request, check};

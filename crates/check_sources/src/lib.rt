@@ -1,8 +1,8 @@
 //! What is wrong with the license expressions of a source file or a manifest, told where they are written.
 //!
 //! ```rust
-//! // crates/spdx_program/src/check.rt
-//! let found = check_tags(alloc, &job.check, sums.is_clean(), source)?;
+//! // crates/check_files/src/parts.rt
+//! let found = check_tags(alloc, check, sums.is_clean(), source)?;
 //! ```
 //!
 //! It stands on `license_tags` and `manifests`, which say where the expressions are, on `spdx_check`, which says what is
@@ -17,3 +17,4 @@ mod written;
 pub use crate::declared::{check_manifest, mode_in, reason_text};
 pub use crate::findings::{Findings, Source};
 pub use crate::tags::{check_tags, is_binary};
+pub use crate::written::slice_in;

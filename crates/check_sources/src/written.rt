@@ -72,7 +72,7 @@ impl Written<'_> {
 }
 
 /// The bytes between two places; one past the end counts as the end.
-pub(crate) fn slice_in(bytes: &[u8], start: usize, end: usize) -> &[u8]
+pub fn slice_in(bytes: &[u8], start: usize, end: usize) -> &[u8]
     ensures { result.now ≡ slice_in bytes.now start end }
 {
     let behind = &bytes[start.min(bytes.len())..];

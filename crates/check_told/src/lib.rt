@@ -2,8 +2,8 @@
 //! expressions of a folder need.
 //!
 //! ```rust
-//! // crates/spdx_program/src/check.rt
-//! let text = summary_of(rt.alloc(), &sums)?;
+//! // crates/check_program/src/run.rt
+//! let mut lines = summary_of(alloc, sums)?;
 //! ```
 //!
 //! It stands on `check_sources`, `spdx_check`, `source_trees` and `notice_texts`.

@@ -1,8 +1,8 @@
 //! Which list a program reads, and what `spdx list make` writes, over a shelf of files.
 //!
 //! ```rust
-//! // crates/spdx_program/src/list.rt
-//! Ok(named_list(rt.alloc(), &SystemShelf::new(rt), inside(), path)?)
+//! // crates/check_program/src/run.rt
+//! let catalogue = named_list(alloc, shelf, inside.list, request.list)?;
 //! ```
 //!
 //! It stands on `shelves`, `spdx_list`, `spdx_catalogue` and `line_engine`.

@@ -1,3 +1,3 @@
 pub mod Named
 pub mod Steps
-pub mod Below
+pub mod AllBelow

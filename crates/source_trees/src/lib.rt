@@ -1,8 +1,8 @@
 //! Which files stand below a path, and as what each of them is read, over a shelf of files.
 //!
 //! ```rust
-//! // crates/spdx_program/src/check.rt
-//! match walk.next(alloc, shelf)? {
+//! // crates/fix_program/src/tree.rt
+//! let Some(seen) = walk.next(alloc, shelf)? else {
 //! ```
 //!
 //! A walk comes to what is in a folder in the order of the names, and to all that is below a folder where the folder's own
@@ -16,7 +16,7 @@ pub mod walk;
 mod whole;
 
 pub use crate::reading::{Reading, ReadingFault, Taken, Wanted, form_below, reading_of};
-pub use crate::stops::Visit;
+pub use crate::stops::{Visit, below};
 pub use crate::visits::is_beside;
 pub use crate::walk::{Seen, Walk};
 pub use crate::whole::all_seen;

@@ -119,7 +119,7 @@ fn looked_at(alloc: Global, folder: &str, entries: &[Entry]) -> Result<Vec<Stop>
 }
 
 /// The path of what has this name in the folder; in `.` that is its name.
-pub(crate) fn below(alloc: Global, folder: &str, name: &str) -> Result<String, AllocError>
+pub fn below(alloc: Global, folder: &str, name: &str) -> Result<String, AllocError>
     ensures { IfOk result (λ path. string_bytes path ≡ spec.below folder.now name.now) }
 {
     if folder == "." {

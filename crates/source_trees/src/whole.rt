@@ -15,7 +15,7 @@ use std::io;
 /// # Errors
 ///
 /// There is nothing at the path, it can't be looked at, or memory was refused.
-#[tactic(auto, using(crate::proofs::Below::below_it))]
+#[tactic(auto, using(crate::proofs::AllBelow::below_it))]
 pub fn all_seen<S: Shelf>(alloc: Global, shelf: &S, path: &str) -> io::Result<Vec<Seen>>
     ensures ok { IfOk result (λ all. AreBelow (S.told shelf.now) path.now all.items) }
     ensures err { IfErr result (λ error.
@@ -27,7 +27,7 @@ pub fn all_seen<S: Shelf>(alloc: Global, shelf: &S, path: &str) -> io::Result<Ve
 }
 
 // All that the walk has yet to come to.
-#[tactic(auto, using(crate::proofs::Below::finished))]
+#[tactic(auto, using(crate::proofs::AllBelow::finished))]
 fn walked<S: Shelf>(alloc: Global, shelf: &S, walk: Walk) -> Result<Vec<Seen>, AllocError>
     ensures { IfOk result (λ all. IsWalked (S.told shelf.now) (waiting walk) all.items) }
 {

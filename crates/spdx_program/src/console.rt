@@ -3,7 +3,7 @@
 ghost use Rattle.std.specs.Prelude.{None};
 
 use crate::trouble::Trouble;
-use check_program::{CheckTrouble, Telling};
+use check_files::{CheckTrouble, Telling};
 use fix_program::Progress;
 use line_engine::lines::write_all;
 use line_engine::stream::Output;

@@ -21,7 +21,6 @@ mod files;
 mod fix;
 mod gate;
 mod list;
-mod manifest;
 mod notice;
 mod packages;
 mod readings;

@@ -5,7 +5,6 @@ mod causes;
 use crate::files::replace::{Loss, Obstacle};
 use foreign_text::{Sink, text_for};
 use line_engine::device::Failed;
-use line_engine::lines::RunFault;
 use package_sources::SourceFault;
 use spdx::ReadFault;
 use spdx_list::ListFault;
@@ -129,18 +128,6 @@ impl Trouble {
                 Trouble::Owner(path, error)
             }
             (Err(AllocError), _) => Trouble::Memory,
-        }
-    }
-
-    /// Of the run over a path.
-    pub(crate) fn of_run(alloc: Global, path: &str, fault: RunFault) -> Trouble {
-        match fault {
-            RunFault::Memory => Trouble::Memory,
-            RunFault::Write => Trouble::Output,
-            RunFault::Read => match String::from_str(alloc, path) {
-                Ok(path) => Trouble::Broken(path),
-                Err(AllocError) => Trouble::Memory,
-            },
         }
     }
 

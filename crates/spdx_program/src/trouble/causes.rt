@@ -1,7 +1,8 @@
 // The trouble that a cause is.
 
 use crate::trouble::Trouble;
-use check_program::{CheckFault, CheckTrouble};
+use check_files::CheckTrouble;
+use check_program::CheckEnd;
 use check_sources::reason_text;
 use fix_program::{FixFault, FixTrouble};
 use gate_program::{GateTrouble, PolicyTrouble};
@@ -107,12 +108,12 @@ impl From<MeaningTrouble> for Trouble {
     }
 }
 
-impl From<CheckFault> for Trouble {
-    fn from(fault: CheckFault) -> Trouble {
-        match fault {
-            CheckFault::List(trouble) => Trouble::from(trouble),
-            CheckFault::Output => Trouble::Output,
-            CheckFault::Memory => Trouble::Memory,
+impl From<CheckEnd> for Trouble {
+    fn from(end: CheckEnd) -> Trouble {
+        match end {
+            CheckEnd::List(trouble) => Trouble::from(trouble),
+            CheckEnd::Output => Trouble::Output,
+            CheckEnd::Memory => Trouble::Memory,
         }
     }
 }

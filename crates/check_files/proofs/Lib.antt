@@ -1,0 +1,5 @@
+pub mod Clean
+pub mod Doing
+pub mod Needed
+pub mod Steps
+pub mod Wholes

@@ -1,0 +1,34 @@
+// Who is told of troubles, and how far a check is.
+
+ghost use Rattle.std.specs.Prelude.{Option, List, ◌∷◌, [], OnOk};
+ghost use Rattle.check_files.specs.Told.{Hears};
+ghost use Rattle.check_files.specs.declared.trouble.CheckTrouble as the_trouble;
+
+use crate::trouble::CheckTrouble;
+use std::alloc::{AllocError, Global};
+
+/// Who is told of troubles when they happen, and how far a check is.
+pub trait Telling {
+    // The troubles that it was told so far, where it keeps them.
+    ghost told: { Self → Option (List the_trouble.CheckTrouble) };
+
+    /// A file or folder is passed over, or was left behind.
+    ///
+    /// # Errors
+    ///
+    /// Memory was refused.
+    fn tell(&mut self, alloc: Global, trouble: CheckTrouble) -> Result<(), AllocError>
+        ensures { OnOk result (Hears (told self.old) (told self.new) (trouble ∷ [])) };
+
+    /// So many files below a folder were checked, and another one is come to.
+    ///
+    /// # Errors
+    ///
+    /// Memory was refused.
+    fn seen(&mut self, alloc: Global, files: u64) -> Result<(), AllocError>
+        ensures { Hears (told self.old) (told self.new) [] };
+
+    /// The folder is at its end.
+    fn ended(&mut self)
+        ensures { Hears (told self.old) (told self.new) [] };
+}

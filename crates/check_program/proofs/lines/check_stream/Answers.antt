@@ -1,0 +1,33 @@
+use Rattle.std.proofs.Common.{Err, Result, subst}
+use Rattle.line_engine.specs.Device.{devices}
+use Rattle.line_engine.specs.declared.lines.RunFault.{RunFault}
+use Rattle.spdx_check.specs.declared.lines.Checked.{Checked}
+use Rattle.spdx_check.specs.Checking.{ChecksLines}
+use Rattle.check_files.specs.Tally.{tally_of}
+use Rattle.check_files.proofs.Steps.{on_ok}
+use Rattle.check_program.proofs.Streams.{broken, whole}
+use Rattle.check_program.proofs.lines.check_stream.Goals as goal
+
+pub returns-in-Ok-clause-ok : goal.returns-in-Ok-clause-ok
+returns-in-Ok-clause-ok g c =
+    let t = g.I.Source.told c.args.input in
+    let t' = g.I.Source.told c.check_lines.new.input in
+    let out = g.O.Sink.told c.args.output.now in
+    let out' = g.O.Sink.told c.check_lines.new.output in
+    whole c.args.check.now c.is_clean.result c.args.name.now t t' out out' (g.T.Telling.told c.args.teller.now) (tally_of c.args.sums.now) (tally_of c.count.new.sums) c.in-Ok.checked c.is_clean.ensures
+    (subst (λ (r : Result Checked RunFault). ChecksLines c.args.check.now c.is_clean.result c.args.name.now (devices t t' out out') r) c.in-Ok.is c.check_lines.ensures) c.count.ensures
+
+pub returns-in-Err-Read-clause-ok : goal.returns-in-Err-Read-clause-ok
+returns-in-Err-Read-clause-ok g c =
+    let t = g.I.Source.told c.args.input in
+    let t' = g.I.Source.told c.check_lines.new.input in
+    let out = g.O.Sink.told c.args.output.now in
+    let out' = g.O.Sink.told c.check_lines.new.output in
+    let h =
+    subst (λ (r : Result Checked RunFault). ChecksLines c.args.check.now c.is_clean.result c.args.name.now (devices t t' out out') r) c.in-Err-Read.is c.check_lines.ensures in
+    let broke =
+    subst (λ (f : RunFault). ChecksLines c.args.check.now c.is_clean.result c.args.name.now (devices t t' out out') (Err f)) c.in-Err-Read.field-0-is h in
+    on_ok c.pass_broken.result _ _
+    (broken c.args.check.now c.is_clean.result c.args.name.now t t' out out' (g.T.Telling.told c.args.teller.now) (g.T.Telling.told c.pass_broken.new.teller) (tally_of c.args.sums.now)
+    (tally_of c.pass_broken.new.sums) c.is_clean.ensures broke)
+    c.pass_broken.ensures.ok

@@ -1,0 +1,5 @@
+pub mod Walked
+pub mod Seeing
+pub mod Sorting
+pub mod Ending
+pub mod Clean

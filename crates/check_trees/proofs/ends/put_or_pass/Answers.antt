@@ -1,0 +1,33 @@
+use Rattle.std.proofs.Common.{◌≡◌, ◌∙◌, true, false, List, String, map, string_bytes, subst, sym}
+use Rattle.std.specs.declared.alloc.Global.{Global}
+use Rattle.check_files.specs.Tally.{tally_of, with_texts}
+use Rattle.check_files.specs.Told.{Writes}
+use Rattle.check_files.specs.declared.trouble.CheckTrouble.{CheckTrouble}
+use Rattle.check_files.proofs.Steps.{on_ok}
+use Rattle.check_told.specs.Owed.{owed_by, whole_names}
+use Rattle.check_trees.specs.Ends.{AreWholes, are_none}
+use Rattle.check_trees.proofs.Ending.{owed_passed, owed_put}
+use Rattle.check_trees.proofs.ends.put_or_pass.Goals as goal
+
+pub returns-then-are_none-clause-ok : goal.returns-then-are_none-clause-ok
+returns-then-are_none-clause-ok g c =
+    let out = g.O.Sink.told c.args.output.now in
+    let out' = g.O.Sink.told c.put_owed.new.output in
+    let used = map string_bytes c.args.used.now in
+    let old = tally_of c.args.sums.now in
+    let new = tally_of c.put_owed.new.sums in
+    on_ok c.put_owed.result _ _
+    (λ w.
+    owed_put c.args.check.now c.args.folder.now used (map string_bytes c.args.texts.files.items) c.args.texts.troubles.items out out' (g.T.Telling.told c.args.teller.now) old new
+    (subst (λ (ts : List CheckTrouble). are_none ts ≡ true) c.deref.ensures.value (sym c.are_none.ensures ∙ c.if-are_none.true))
+    (subst (λ (files : List (String Global)). Writes out out' (λ text. AreWholes c.args.check.now (owed_by c.args.folder.now used (whole_names (map string_bytes files))) with_texts old text new))
+    c.deref-then-are_none.ensures.value w))
+    c.put_owed.ensures.ok
+
+pub returns-clause-ok : goal.returns-clause-ok
+returns-clause-ok g c =
+    on_ok c.pass_all.result _ _
+    (owed_passed c.args.check.now c.args.folder.now (map string_bytes c.args.used.now) (map string_bytes c.args.texts.files.items) c.args.texts.troubles.items (g.O.Sink.told c.args.output.now)
+    (g.T.Telling.told c.args.teller.now) (g.T.Telling.told c.pass_all.new.teller) (tally_of c.args.sums.now) (tally_of c.pass_all.new.sums)
+    (subst (λ (ts : List CheckTrouble). are_none ts ≡ false) c.deref.ensures.value (sym c.are_none.ensures ∙ c.if-are_none.false)))
+    c.pass_all.ensures.ok
