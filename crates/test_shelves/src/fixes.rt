@@ -58,7 +58,7 @@ fn answer(alloc: Global, shelf: &Held, given: &str) -> Result<String, AllocError
     }
 }
 
-fn wanted_by<'w>(word: &'w str) -> Wanted<'w> {
+pub(crate) fn wanted_by<'w>(word: &'w str) -> Wanted<'w> {
     match word {
         "names" => Wanted::ByName,
         "tags" => Wanted::Headers,
@@ -111,7 +111,7 @@ fn put_fixed(told: &mut String, fixed: &Fixed) -> Result<(), AllocError> {
     Ok(())
 }
 
-fn put_quoted(told: &mut String, bytes: &[u8]) -> Result<(), AllocError> {
+pub(crate) fn put_quoted(told: &mut String, bytes: &[u8]) -> Result<(), AllocError> {
     told.push('"')?;
     put_shown(told, bytes)?;
     told.push('"')

@@ -1,16 +1,18 @@
 //! The rows of what is read over a shelf of values: which list, which packages, what the gate
 //! says of them, what changed between two lists of them, how two expressions compare, what each line means, what a
 //! list says of names, by what two lists differ, which files are below a folder, what mends files, what packages are used
-//! under, and the page of their texts.
+//! under, the page of their texts, and what is found in files and folders.
 //!
 //! Each part has its rows in a file that lies where the program runs, NAME.rows, and is told behind a line `== PART`: those
 //! that don't hold, then how many do. The head of each module has the form of its rows.
 #![tactic(auto)]
 
+mod checks;
 mod choices;
 mod compares;
 mod diffs;
 mod fixes;
+mod fragile;
 mod gates;
 mod list_diffs;
 mod lists;
@@ -63,6 +65,9 @@ fn start(rt: &HostRuntime) -> io::Result<u8> {
     shown.push_str("== choices\n")?;
     let rows = fs::read_to_string(rt, "choices.rows")?;
     let are_choices_good = choices::try_rows(rt.alloc(), &mut shown, rows.as_str())?;
+    shown.push_str("== checks\n")?;
+    let rows = fs::read_to_string(rt, "checks.rows")?;
+    let are_checks_good = checks::try_rows(rt.alloc(), &mut shown, rows.as_str())?;
     io::writer(rt).write_all(shown.as_bytes())?;
     let are_good = are_lists_good
         && are_packages_good
@@ -75,7 +80,8 @@ fn start(rt: &HostRuntime) -> io::Result<u8> {
         && are_list_diffs_good
         && are_trees_good
         && are_fixes_good
-        && are_choices_good;
+        && are_choices_good
+        && are_checks_good;
     Ok(u8::from(!are_good))
 }
 
