@@ -1,21 +1,45 @@
 -- Rows by a key of their names.
-use Rattle.std.specs.Prelude.{◌≡◌, ℕ, ◌+◌, ◌*◌, ◌%◌, ◌<◌, ◌≤◌, ◌^◌, Bool, true, List, length, take, get_or, Option, Some, None, bytes_eq, nat_lt, if◌then◌else◌}
+use Rattle.std.specs.Prelude.{◌≡◌, ℕ, ◌+◌, ◌-◌, ◌*◌, ◌/◌, ◌%◌, ◌<◌, ◌≤◌, ◌^◌, Bool, true, List, [], ◌∷◌, length, take, get_or, Option, Some, None, bytes_eq, nat_lt, if◌then◌else◌}
 use Rattle.std.specs.List.{fold, Contains}
 use Rattle.std.specs.List.Sorted.{IsNonDecreasing}
+use Rattle.std.specs.Int.{w64, from_le_bytes}
 use Rattle.std.specs.Int.Bits.{bit_or}
 use Rattle.std.specs.Str.{str_eq_ignore_ascii_case}
 use Rattle.spdx_catalogue.specs.Names.{begins_caseless}
 use Rattle.spdx_catalogue.specs.declared.index.Sought.{Sought}
 use Rattle.spdx_catalogue.specs.declared.index.Sought.TheVariants.{Named, Alike, Front}
 
--- a key with one more byte, in which the bit is set that tells small letters from capitals
-abbrev pub mixed : ℕ → ℕ → ℕ
-mixed key b = ((key * 9) % 2 ^ 32 + bit_or b 32) % 2 ^ 32
+-- a byte in which the bit is set that tells small letters from capitals
+abbrev pub set_case : ℕ → ℕ
+set_case b = bit_or b 32
 
--- the key of some bytes, in which the case of ASCII letters does not count; the product spreads it
--- over all bits
+-- a sum with one more byte
+abbrev pub mixed : ℕ → ℕ → ℕ
+mixed sum b = ((sum * 9) % 2 ^ 64 + set_case b) % 2 ^ 64
+
+abbrev pub set_at : List ℕ → ℕ → ℕ
+set_at bytes at = set_case (get_or bytes at 0)
+
+-- eight bytes from that place on as one number
+abbrev pub eight_at : List ℕ → ℕ → ℕ
+eight_at bytes at = from_le_bytes w64 (
+    set_at bytes at ∷ set_at bytes (at + 1) ∷ set_at bytes (at + 2) ∷ set_at bytes (at + 3)
+    ∷ set_at bytes (at + 4) ∷ set_at bytes (at + 5) ∷ set_at bytes (at + 6) ∷ set_at bytes (at + 7)
+    ∷ [])
+
+-- the first and the last eight bytes, and how many bytes there are
+abbrev pub sum_of_ends : List ℕ → ℕ
+sum_of_ends bytes =
+    (((eight_at bytes 0 * 9) % 2 ^ 64 + eight_at bytes (length bytes - 8)) % 2 ^ 64 + length bytes)
+    % 2 ^ 64
+
+-- a sum of some bytes, in which the case of ASCII letters does not count
+abbrev pub sum_of : List ℕ → ℕ
+sum_of bytes = if nat_lt (length bytes) 8 then fold mixed 0 bytes else sum_of_ends bytes
+
+-- the key of some bytes: the product spreads their sum over all bits, of which the upper half counts
 abbrev pub key_of : List ℕ → ℕ
-key_of bytes = (fold mixed 0 bytes * 2654435761) % 2 ^ 32
+key_of bytes = (sum_of bytes * 11400714819323198485) % 2 ^ 64 / 2 ^ 32
 
 -- the bytes that make a prefix's key: so many of the prefix, which a short one lacks
 abbrev pub whole_front : List ℕ → Option (List ℕ)

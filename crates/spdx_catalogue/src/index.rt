@@ -1,7 +1,8 @@
 // Rows by a key of their names: only those with the key of what is looked for are compared with it.
 
-ghost use Rattle.std.specs.Prelude.{◌≡◌, ℕ, slice_index, ◌<◌, ◌≤◌, ◌^◌, List, Option, Some, true, IfSome, find, length, map, option_map, string_bytes};
+ghost use Rattle.std.specs.Prelude.{◌≡◌, ◌+◌, ℕ, slice_index, ◌<◌, ◌≤◌, ◌^◌, List, Option, Some, true, IfSome, find, length, map, option_map, string_bytes};
 ghost use Rattle.std.specs.Option.{option_copied};
+ghost use Rattle.std.specs.List.{fold};
 ghost use Rattle.std.specs.List.Sorted.{IsNonDecreasing};
 ghost use Rattle.std.specs.Bool.{OnTrue};
 ghost use Rattle.spdx_catalogue.specs.Index as spec;
@@ -16,9 +17,9 @@ use std::alloc::Global;
 // Places are below it, and so are keys.
 const SPAN: u64 = 4_294_967_296;
 
-// An odd number near 2^32 over the golden ratio: the upper bits of a product with it, which tell the bucket, hang on
+// An odd number near 2^64 over the golden ratio: the upper bits of a product with it, which tell the bucket, hang on
 // all bits.
-const SPREAD: u32 = 2_654_435_761;
+const SPREAD: u64 = 11_400_714_819_323_198_485;
 
 // So many bytes of a prefix make its key.
 const FRONT: usize = 3;
@@ -99,22 +100,62 @@ pub(crate) enum Sought<'t> {
     Front(&'t str),
 }
 
-// A key with one more byte. Whatever it gives, a look-up finds the same, if perhaps later.
-fn mixed(key: u32, b: u8) -> u32
-    ensures { result ≡ spec.mixed key b }
+// A sum with one more byte. Whatever it gives, a look-up finds the same, if perhaps later.
+fn mixed(sum: u64, b: u8) -> u64
+    ensures { result ≡ spec.mixed sum b }
 {
-    key.wrapping_mul(9).wrapping_add(u32::from(b | 0x20))
+    sum.wrapping_mul(9).wrapping_add(u64::from(b | 0x20))
+}
+
+fn sum_of_all(bytes: &[u8]) -> u64
+    ensures { result ≡ fold spec.mixed 0 bytes.now }
+{
+    let mut sum = 0;
+    for b in bytes {
+        sum = mixed(sum, *b);
+    }
+    sum
+}
+
+// Eight bytes as one number, which takes one step where a walk over them takes eight.
+fn eight_at(bytes: &[u8], at: usize) -> u64
+    requires { at + 8 ≤ length bytes.now }
+    ensures { result ≡ spec.eight_at bytes.now at }
+{
+    u64::from_le_bytes([
+        bytes[at] | 0x20,
+        bytes[at + 1] | 0x20,
+        bytes[at + 2] | 0x20,
+        bytes[at + 3] | 0x20,
+        bytes[at + 4] | 0x20,
+        bytes[at + 5] | 0x20,
+        bytes[at + 6] | 0x20,
+        bytes[at + 7] | 0x20,
+    ])
+}
+
+// Of many bytes the first and the last eight, and how many there are: few names share these.
+fn sum_of_ends(bytes: &[u8]) -> u64
+    requires { 8 ≤ length bytes.now }
+    ensures { result ≡ spec.sum_of_ends bytes.now }
+{
+    let last = eight_at(bytes, bytes.len() - 8);
+    eight_at(bytes, 0)
+        .wrapping_mul(9)
+        .wrapping_add(last)
+        .wrapping_add(bytes.len() as u64)
 }
 
 // The same for bytes that differ in the case of ASCII letters alone.
 fn key_of(bytes: &[u8]) -> u32
     ensures { result ≡ spec.key_of bytes.now }
 {
-    let mut key = 0;
-    for b in bytes {
-        key = mixed(key, *b);
-    }
-    key.wrapping_mul(SPREAD)
+    let sum = if bytes.len() < 8 {
+        sum_of_all(bytes)
+    } else {
+        sum_of_ends(bytes)
+    };
+    (sum.wrapping_mul(SPREAD) / SPAN) as u32
 }
 
 fn code(key: u32, place: usize) -> u64

@@ -11,11 +11,22 @@ ghost use Rattle.spdx_catalogue.specs.Names as spec;
 use spdx_requirement::endings::{has_suffix, without};
 use std::cmp::Ordering;
 
+// Each byte that a name may have stands at its own place, and a comma at every other place.
+static NAME_BYTES: [u8; 256] = *b"\
+    ,,,,,,,,,,,,,,,,,,,,,,,,,,,,,,,,\
+    ,,,,,,,,,,,,,-.,0123456789,,,,,,\
+    ,ABCDEFGHIJKLMNOPQRSTUVWXYZ,,,,,\
+    ,abcdefghijklmnopqrstuvwxyz,,,,,\
+    ,,,,,,,,,,,,,,,,,,,,,,,,,,,,,,,,\
+    ,,,,,,,,,,,,,,,,,,,,,,,,,,,,,,,,\
+    ,,,,,,,,,,,,,,,,,,,,,,,,,,,,,,,,\
+    ,,,,,,,,,,,,,,,,,,,,,,,,,,,,,,,,";
+
 /// Whether a name may have the byte: an ASCII letter or digit, `-` or `.`.
 pub fn is_name_byte(b: u8) -> bool
     ensures { result ≡ spec.is_name_byte b }
 {
-    b.is_ascii_alphanumeric() || (b == b'-' || b == b'.')
+    NAME_BYTES[b as usize] != b','
 }
 
 fn has_name_bytes(name: &str) -> bool
