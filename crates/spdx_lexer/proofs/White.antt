@@ -1,5 +1,5 @@
 -- White space at the front of a text.
-use Rattle.std.proofs.Common.{◌≡◌, ℕ, ◌+◌, ◌<◌, true, false, cond, List, [], ◌∷◌, ◌++◌, length, take, drop, refl, sym, ◌∙◌, ap, IsUtf8, lt-ltb, encode_utf8_all, nat_lt, ◌-◌, lit<}
+use Rattle.std.proofs.Common.{◌≡◌, ℕ, ◌+◌, ◌<◌, ◌&&◌, get_or, arith, subst, true, false, cond, List, [], ◌∷◌, ◌++◌, length, take, drop, refl, sym, ◌∙◌, ap, IsUtf8, lt-ltb, encode_utf8_all, nat_lt, ◌-◌, lit<}
 use Rattle.std.specs.Str.{chars}
 use Rattle.std.specs.List.{prefix_len}
 use Rattle.std.specs.Str.{trim_start, skip_leading_whitespace, chars_after}
@@ -15,6 +15,7 @@ use Rattle.std.specs.List.{list_all}
 use Rattle.std.proofs.lemmas.Str.{scalars-chars, IsCharBoundary-at_seam}
 use Rattle.std.proofs.Math.Seq.{take-append_seam}
 use Rattle.std.proofs.Common.{IsCharBoundary}
+use Rattle.std.proofs.lemmas.Bool.Decides.{nat_tests}
 use lib.Utf8.{scalar}
 use Rattle.spdx_lexer.specs.Text.{white}
 use Rattle.spdx_lexer.specs.Layout.{IsWhite}
@@ -80,3 +81,17 @@ white_front bs u =
     let front : take (white bs) bs ≡ encode_utf8_all ws = ap (take (white bs)) all ∙ take-append_seam (encode_utf8_all ws) (encode_utf8_all ds) in
     let rest : IsUtf8 (encode_utf8_all ds) = (ds, (scalars_rest ws ds (ap all_scalars parts ∙ scalars-chars bs u), refl)) in
     ((ws, (all_white cs, front)), IsCharBoundary-at_seam bs (encode_utf8_all ws) (encode_utf8_all ds) all rest)
+
+seen_white : (b : ℕ) → (nat_lt 32 b && nat_lt b 128) ≡ true → (b < 128) × (is_whitespace b ≡ false)
+seen_white b h = (grind (arith, nat_tests), grind (arith, nat_tests))
+
+-- a text that begins with a seen ASCII character begins with no white space
+pub white_seen : (bs : List ℕ) → 0 < length bs → (nat_lt 32 (get_or bs 0 0) && nat_lt (get_or bs 0 0) 128) ≡ true → white bs ≡ 0
+white_seen [] l h = absurd (omega arith)
+white_seen (b ∷ bs) l h = let s = seen_white b h in white_none b bs s.0 s.1
+
+-- a blank before one is all white space
+pub white_blank : (bs : List ℕ) → 1 < length bs → get_or bs 0 0 ≡ 32 → (nat_lt 32 (get_or bs 1 0) && nat_lt (get_or bs 1 0) 128) ≡ true → white bs ≡ 1
+white_blank [] l e h = absurd (omega arith)
+white_blank (b ∷ bs) l e h =
+    subst (λ (k : ℕ). white (k ∷ bs) ≡ 1) (sym e) (white_space bs ∙ ap (λ (k : ℕ). 1 + k) (white_seen bs (omega arith) h))

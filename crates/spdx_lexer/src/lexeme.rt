@@ -1,6 +1,6 @@
 // The token at the front of a text: of several rules the first that applies.
 
-ghost use Rattle.std.specs.Prelude.{◌≡◌, ◌<◌, ◌≤◌, option_map, length, IfSome, OnSome, slice_index, IfOk, IfErr, IsCharBoundary};
+ghost use Rattle.std.specs.Prelude.{◌≡◌, ◌<◌, ◌≤◌, [], ◌∷◌, option_map, length, IfSome, OnSome, slice_index, IfOk, IfErr, IsCharBoundary};
 ghost use Rattle.spdx_lexer.specs.Text as text_of;
 ghost use Rattle.spdx_lexer.specs.Lexeme as spec;
 ghost use Rattle.spdx_lexer.specs.Groups as groups;
@@ -36,25 +36,24 @@ fn license_named<'c>(catalogue: &'c Catalogue, run: &str) -> Option<LicenseId<'c
 }
 
 // An operator, or a listed name.
-fn exact<'c, 't>(catalogue: &'c Catalogue, run: &str) -> Found<'c, 't>
+fn exact<'c, 't>(catalogue: &'c Catalogue, run: &str) -> Option<Token<'c, 't>>
     requires { text_of.IsRun run.now }
-    ensures value { option_map found_of result ≡ groups.exact catalogue.now run.now }
-    ensures len { IfSome result (λ f. f.1 ≤ length run.now) }
+    ensures { option_map (λ t. (word_of t, length run.now)) result
+        ≡ groups.exact catalogue.now run.now }
 {
     if let Some(token) = operator(run) {
-        return Some((token, run.len()));
+        return Some(token);
     }
     if let Some(id) = license_named(catalogue, run) {
-        return Some((Token::Spdx(id), run.len()));
+        return Some(Token::Spdx(id));
     }
     if let Some(id) = catalogue.exception_id(run) {
-        return Some((Token::Exception(id), run.len()));
+        return Some(Token::Exception(id));
     }
     None
 }
 
-// A listed name in another case. Few words come so far, which goes for the other calls that are not inlined too.
-#[inline(never)]
+// A listed name in another case.
 fn caseless<'c, 't>(catalogue: &'c Catalogue, mode: ParseMode, run: &str) -> Found<'c, 't>
     ensures value { option_map found_of result ≡ groups.caseless catalogue.now mode run.now }
     ensures len { IfSome result (λ f. f.1 ≤ length run.now) }
@@ -71,23 +70,7 @@ fn caseless<'c, 't>(catalogue: &'c Catalogue, mode: ParseMode, run: &str) -> Fou
     None
 }
 
-// What the run alone says.
-fn by_run<'c, 't>(catalogue: &'c Catalogue, mode: ParseMode, run: &'t str) -> Found<'c, 't>
-    requires { text_of.IsRun run.now }
-    ensures value { option_map found_of result ≡ groups.by_run catalogue.now mode run.now }
-    ensures len { IfSome result (λ f. f.1 ≤ length run.now) }
-{
-    if let Some(found) = exact(catalogue, run) {
-        return Some(found);
-    }
-    if let Some(found) = referred(run) {
-        return Some(found);
-    }
-    caseless(catalogue, mode, run)
-}
-
 // An imprecise name, which may end within the run or behind it.
-#[inline(never)]
 fn imprecise<'c, 't>(catalogue: &'c Catalogue, mode: ParseMode, text: &str) -> Found<'c, 't>
     ensures value { option_map found_of result ≡ groups.imprecise catalogue.now mode text.now }
     ensures cut { IfSome result (λ f. IsCharBoundary text.now f.1) }
@@ -97,6 +80,35 @@ fn imprecise<'c, 't>(catalogue: &'c Catalogue, mode: ParseMode, text: &str) -> F
     }
     let (id, len) = catalogue.imprecise_license_id(text)?;
     Some((Token::Spdx(id), len))
+}
+
+// What else the run or the text says. Few words come so far, so that it is a call of its own.
+#[inline(never)]
+fn inexact<'c, 't>(
+    catalogue: &'c Catalogue,
+    mode: ParseMode,
+    text: &'t str,
+    run: &'t str,
+) -> Found<'c, 't>
+    requires { run.now ≡ text_of.run_at text.now }
+    ensures value { option_map found_of result
+        ≡ spec.first_of (groups.referred run.now ∷ groups.caseless catalogue.now mode run.now
+        ∷ groups.imprecise catalogue.now mode text.now ∷ groups.unknown mode run.now ∷ []) }
+    ensures cut { IfSome result (λ f. IsCharBoundary text.now f.1) }
+{
+    if let Some(found) = referred(run) {
+        return Some(found);
+    }
+    if let Some(found) = caseless(catalogue, mode, run) {
+        return Some(found);
+    }
+    if let Some(found) = imprecise(catalogue, mode, text) {
+        return Some(found);
+    }
+    if mode.allow_unknown {
+        return Some((Token::Unknown(run), run.len()));
+    }
+    None
 }
 
 fn sign<'c, 't>(mode: ParseMode, text: &str) -> Option<Token<'c, 't>>
@@ -139,14 +151,11 @@ pub(crate) fn lexeme<'c, 't>(
     if run.is_empty() {
         return Err((Reason::InvalidCharacters, text.len()));
     }
-    if let Some(found) = by_run(catalogue, mode, run) {
-        return Ok(found);
+    if let Some(token) = exact(catalogue, run) {
+        return Ok((token, run.len()));
     }
-    if let Some(found) = imprecise(catalogue, mode, text) {
-        return Ok(found);
+    match inexact(catalogue, mode, text, run) {
+        Some(found) => Ok(found),
+        None => Err((Reason::UnknownTerm, run.len())),
     }
-    if mode.allow_unknown {
-        return Ok((Token::Unknown(run), run.len()));
-    }
-    Err((Reason::UnknownTerm, run.len()))
 }
