@@ -15,7 +15,7 @@ use crate::name::{Name, addition_item, license_item, marked};
 use crate::node::{ExprNode, ExpressionReq, Operator};
 use crate::nodes::{make_room, put, put_operators};
 use crate::parser::Parser;
-use spdx_catalogue::{AdditionItem, Catalogue, LicenseId, LicenseReq};
+use spdx_catalogue::{AdditionItem, Catalogue, LicenseId, LicenseItem, LicenseReq};
 use spdx_lexer::token::{ParseMode, Token};
 use std::alloc::AllocError;
 use std::ops::Range;
@@ -32,6 +32,26 @@ impl<'c, 't> Parser<'c, 't> {
             let span = self.place.start..self.place.end;
             put(&mut self.nodes, ExprNode::Req(ExpressionReq { req, span }))?;
         }
+        self.license = None;
+        self.last = Last::Added;
+        Ok(())
+    }
+
+    // The licence becomes a requirement without an addition; a listed one is written in place.
+    #[inline(always)]
+    fn require_bare(&mut self) -> Result<(), AllocError>
+        ensures { OnOk result (self.new ≡ states.require self.old None) }
+    {
+        let Some(Name::Listed { id, or_later }) = self.license else {
+            return self.require(None);
+        };
+        let license = LicenseItem::Spdx { id, or_later };
+        let req = LicenseReq {
+            license,
+            addition: None,
+        };
+        let span = self.place.start..self.place.end;
+        put(&mut self.nodes, ExprNode::Req(ExpressionReq { req, span }))?;
         self.license = None;
         self.last = Last::Added;
         Ok(())
@@ -100,7 +120,7 @@ impl<'c, 't> Parser<'c, 't> {
             }
             Token::And | Token::Or => {
                 self.expect_more()?;
-                self.require(None)?;
+                self.require_bare()?;
                 self.operate(token)
             }
             Token::CloseParen => {
@@ -226,7 +246,7 @@ impl<'c, 't> Parser<'c, 't> {
     pub(crate) fn finish(&mut self) -> Result<(), AllocError>
         ensures { OnOk result (self.new.nodes ≡ all_joined (states.require self.old None)) }
     {
-        self.require(None)?;
+        self.require_bare()?;
         self.join_all()
     }
 }
