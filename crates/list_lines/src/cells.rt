@@ -3,11 +3,16 @@
 ghost use Rattle.std.specs.Prelude.{◌≡◌, option_map};
 ghost use Rattle.list_lines.specs.Cells as spec;
 
+use memchr::memchr;
+
 /// What stands before the first tab of a line, and what behind it; none, where there is no tab.
 pub(crate) fn at_tab(line: &str) -> Option<(&str, &str)>
     ensures { option_map (λ p. (p.0.now, p.1.now)) result ≡ spec.at_tab line.now }
 {
-    line.split_once('\t')
+    match memchr(b'\t', line.as_bytes()) {
+        Some(at) => Some((&line[..at], &line[at + 1..])),
+        None => None,
+    }
 }
 
 /// What stands before the first form feed, and what behind it.

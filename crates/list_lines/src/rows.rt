@@ -1,13 +1,17 @@
 // Rows, a line each.
 
 ghost use Rattle.std.specs.Prelude.{◌≡◌, ℕ, List, Option, IfOk, map, option_map};
-ghost use Rattle.std.specs.Str.Lines.{lines};
+ghost use Rattle.std.specs.Str.Lines.{lines, strip_carriage_return};
 ghost use Rattle.spdx_requirement.specs.Rows.{LicenseRow, ExceptionRow, ImpreciseRow, row_of, exception_of, imprecise_of};
 ghost use Rattle.list_lines.specs.Lines as spec;
 
 use crate::cells::{at_tab, flags_in};
+use memchr::memchr;
 use spdx_requirement::row::{Exception, ImpreciseName, License};
 use std::alloc::{AllocError, Global};
+
+// Few lines are shorter on average.
+const SHORT: usize = 32;
 
 /// A row that is written as a line.
 pub(crate) trait LineRow: Drop {
@@ -98,10 +102,32 @@ pub(crate) fn rows_of<R: LineRow>(alloc: Global, text: &str) -> Result<Option<Ve
     Ok(rows)
 }
 
+// A line whose newline was taken off, without the carriage return before that.
+fn without_return(line: &str) -> &str
+    ensures { result.now ≡ strip_carriage_return line.now }
+{
+    let len = line.len();
+    if len > 0 && line.as_bytes()[len - 1] == b'\r' {
+        &line[..len - 1]
+    } else {
+        line
+    }
+}
+
+// The lines, by a quick search for each newline.
 fn lines_of<'t>(alloc: Global, text: &'t str) -> Result<Vec<&'t str>, AllocError>
     ensures { IfOk result (λ v. map (λ x. x.now) v.items ≡ lines text.now) }
 {
-    text.lines().collect(alloc)
+    let mut lines = Vec::with_capacity(alloc, text.len() / SHORT)?;
+    let mut rest = text;
+    while let Some(end) = memchr(b'\n', rest.as_bytes()) {
+        lines.push(without_return(&rest[..end]))?;
+        rest = &rest[end + 1..];
+    }
+    if !rest.is_empty() {
+        lines.push(rest)?;
+    }
+    Ok(lines)
 }
 
 // The rows that the lines are, if each of them is one.
@@ -109,7 +135,7 @@ fn rows_from<R: LineRow>(alloc: Global, lines: &[&str]) -> Result<Option<Vec<R>>
     ensures { IfOk result (λ o. option_map (λ v. map R.shown v.items) o
         ≡ spec.rows_from R.row_at 0 (map (λ x. x.now) lines.now)) }
 {
-    let mut rows = Vec::new(alloc);
+    let mut rows = Vec::with_capacity(alloc, lines.len())?;
     for (index, line) in lines.iter().enumerate() {
         match R::read(alloc, line, index)? {
             Some(row) => rows.push(row)?,
