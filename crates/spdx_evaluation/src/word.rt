@@ -1,10 +1,12 @@
 //! The truth of few nodes, over a word of truths.
 
-ghost use Rattle.std.specs.Prelude.{◌≤◌, length, map};
+ghost use Rattle.std.specs.Prelude.{◌≡◌, ◌≤◌, length, map};
 ghost use Rattle.std.specs.Fn.{CalledAt};
+ghost use Rattle.selections.specs.Truths.{join_newest};
 ghost use Rattle.spdx_parser.specs.Tree.{node_of};
 ghost use Rattle.spdx_evaluation.specs.Postfix.{IsPostfix, tree_in};
 ghost use Rattle.spdx_evaluation.specs.Calls.{Evaluates};
+ghost use Rattle.spdx_evaluation.specs.Truth as spec;
 
 use selections::WordTruths;
 use spdx_catalogue::LicenseReq;
@@ -27,9 +29,31 @@ pub(crate) fn truth_in_word<'c, F: FnMut(&LicenseReq<'c>) -> bool>(
     for node in nodes {
         match node {
             ExprNode::Req(requirement) => truths.push(f(&requirement.req)),
-            ExprNode::Op(Operator::And) => truths.both(),
-            ExprNode::Op(Operator::Or) => truths.either(),
+            ExprNode::Op(operator) => join(&mut truths, *operator),
         }
     }
     truths.take()
+}
+
+fn joined(operator: Operator, left: bool, right: bool) -> bool
+    ensures { result ≡ spec.joined operator left right }
+{
+    match operator {
+        Operator::And => left & right,
+        Operator::Or => left | right,
+    }
+}
+
+// Puts in place of the two newest truths what the operator makes of them. Both operators take the same steps, since which
+// of them comes next is hard to foretell.
+#[inline(always)]
+fn join(truths: &mut WordTruths, operator: Operator)
+    requires two { 2 ≤ length truths.old.items }
+    requires room { length truths.old.items ≤ truths.old.room }
+    ensures items { truths.new.items ≡ join_newest (spec.joined operator) truths.old.items }
+    ensures room { truths.new.room ≡ truths.old.room }
+{
+    let right = truths.take();
+    let left = truths.take();
+    truths.push(joined(operator, left, right));
 }

@@ -1,11 +1,10 @@
 use Rattle.std.proofs.Common.{rules, of_calls, arith, refl, sym, ◌∙◌, ◌≡◌, map}
-use Rattle.spdx_parser.specs.declared.node.Operator.TheVariants.{And, Or}
 use Rattle.spdx_parser.specs.declared.node.ExprNode.TheVariants.{Op}
 use Rattle.spdx_parser.specs.Tree.{node_of}
 use Rattle.spdx_evaluation.specs.Postfix.{tree_of}
 use Rattle.spdx_evaluation.proofs.Evaluating.{begins, reads_requirement, reads_operator, two_there, one_left, finishes, evaluates}
 use Rattle.spdx_evaluation.proofs.word.truth_in_word.Goals as goal
-use Rattle.spdx_evaluation.proofs.word.truth_in_word.Goals.{in-Req, in-Op-And, in-Op-Or}
+use Rattle.spdx_evaluation.proofs.word.truth_in_word.Goals.{in-Req, in-Op}
 
 pub loop-node-init : goal.loop-node-init
 loop-node-init g c = record {
@@ -17,21 +16,13 @@ loop-node-init g c = record {
 pub push-requires : goal.push-requires
 push-requires g c = omega (arith, c.loop-node.invariant.so_far.room)
 
-pub both-requires-clause-two : goal.both-requires-clause-two
-both-requires-clause-two g c =
-    let node : c.node-item.result ≡ Op And = search rules in
-    two_there _ _ _ _ _ _ _ And c.loop-node.invariant.so_far c.loop-node-test.true (sym c.node-item.is ∙ node)
+pub join-requires-clause-two : goal.join-requires-clause-two
+join-requires-clause-two g c =
+    let node : c.node-item.result ≡ Op c.in-Op.operator = search rules in
+    two_there _ _ _ _ _ _ _ c.in-Op.operator c.loop-node.invariant.so_far c.loop-node-test.true (sym c.node-item.is ∙ node)
 
-pub both-requires-clause-room : goal.both-requires-clause-room
-both-requires-clause-room g c = omega (arith, c.loop-node.invariant.so_far.room)
-
-pub either-requires-clause-two : goal.either-requires-clause-two
-either-requires-clause-two g c =
-    let node : c.node-item.result ≡ Op Or = search rules in
-    two_there _ _ _ _ _ _ _ Or c.loop-node.invariant.so_far c.loop-node-test.true (sym c.node-item.is ∙ node)
-
-pub either-requires-clause-room : goal.either-requires-clause-room
-either-requires-clause-room g c = omega (arith, c.loop-node.invariant.so_far.room)
+pub join-requires-clause-room : goal.join-requires-clause-room
+join-requires-clause-room g c = omega (arith, c.loop-node.invariant.so_far.room)
 
 pub loop-node-preserved : goal.loop-node-preserved
 loop-node-preserved g c = elim c.match-node.branch [
@@ -41,19 +32,12 @@ loop-node-preserved g c = elim c.match-node.branch [
         (record { shown = _; shows = refl; called = w.f.ensures }) w.push.ensures.items w.push.ensures.room;
     room = w.push.ensures.room ∙ c.loop-node.invariant.room;
   }
-  | in-Op-And w ↦
-      let node : c.node-item.result ≡ Op And = search rules in
+  | in-Op w ↦
+      let node : c.node-item.result ≡ Op w.in-Op.operator = search rules in
       rw (w.f-is, w.truths-is) record {
         callable = c.loop-node.invariant.callable;
-        so_far = reads_operator _ _ _ _ _ _ _ And _ c.loop-node.invariant.so_far c.loop-node-test.true (sym c.node-item.is ∙ node) w.both.ensures.items w.both.ensures.room;
-        room = w.both.ensures.room ∙ c.loop-node.invariant.room;
-      }
-  | in-Op-Or w ↦
-      let node : c.node-item.result ≡ Op Or = search rules in
-      rw (w.f-is, w.truths-is) record {
-        callable = c.loop-node.invariant.callable;
-        so_far = reads_operator _ _ _ _ _ _ _ Or _ c.loop-node.invariant.so_far c.loop-node-test.true (sym c.node-item.is ∙ node) w.either.ensures.items w.either.ensures.room;
-        room = w.either.ensures.room ∙ c.loop-node.invariant.room;
+        so_far = reads_operator _ _ _ _ _ _ _ w.in-Op.operator _ c.loop-node.invariant.so_far c.loop-node-test.true (sym c.node-item.is ∙ node) w.join.ensures.items w.join.ensures.room;
+        room = w.join.ensures.room ∙ c.loop-node.invariant.room;
       }
 ]
 
