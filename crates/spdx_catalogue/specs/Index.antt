@@ -17,6 +17,7 @@ set_case b = bit_or b 32
 abbrev pub mixed : ℕ → ℕ → ℕ
 mixed sum b = ((sum * 9) % 2 ^ 64 + set_case b) % 2 ^ 64
 
+-- the byte at that place, in which that bit is set
 abbrev pub set_at : List ℕ → ℕ → ℕ
 set_at bytes at = set_case (get_or bytes at 0)
 
