@@ -44,8 +44,8 @@ fn joined(operator: Operator, left: bool, right: bool) -> bool
     }
 }
 
-// Puts in place of the two newest truths what the operator makes of them. Both operators take the same steps, since which
-// of them comes next is hard to foretell.
+// Puts in place of the two newest truths what the operator makes of them. Both operators take the same steps, since
+// which of them comes next is hard to foretell.
 #[inline(always)]
 fn join(truths: &mut WordTruths, operator: Operator)
     requires two { 2 ≤ length truths.old.items }
