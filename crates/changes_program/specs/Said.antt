@@ -17,8 +17,8 @@ use Rattle.package_changes.specs.declared.tellings.Reason.{Reason}
 use Rattle.package_changes.specs.declared.tellings.Reason.TheVariants as reason
 use Rattle.changes_program.specs.declared.said.Said.{Said}
 
--- how a package changed; what was enough before and isn't now, and the other way round; and why that
--- can't be told
+-- how a package changed; what was enough before and isn't now, and the other way round; and why
+-- that can't be told
 pub record SaidRow : Type 0 where
   pub how : How
   pub old : Option Row

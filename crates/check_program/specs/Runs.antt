@@ -24,7 +24,8 @@ use Rattle.check_program.specs.declared.run.Inside as written
 use Rattle.check_program.specs.declared.run.Request.{Request}
 use Rattle.check_program.specs.Paths.{ArePathSteps, Ways, path_in}
 
--- what the program has inside: its list and extras, what to write in place of names, and its version
+-- what the program has inside: its list and extras, what to write in place of names, and its
+-- version
 pub record Inside : Type 0 where
   pub bytes : InsideBytes
   pub heirs : List ℕ

@@ -12,7 +12,7 @@ use crate::path::{Ways, check_paths};
 use check_files::{CheckFault, Telling};
 use check_told::{Sums, summary_of};
 use finding_forms::{Format, put_beginning, put_ending};
-use line_engine::device::{Failed, Sink};
+use line_engine::device::Sink;
 use line_engine::lines::write_all;
 use list_program::{Inside as ListInside, ListTrouble, extras_inside, named_list};
 use open_shelves::OpenShelf;
@@ -166,7 +166,8 @@ fn check_by<S: OpenShelf, O: Sink, T: Telling>(
 ) -> Result<u8, CheckFault>
     ensures ok { IfOk result (λ status. Does (O.told output.old) (O.told output.new)
         (T.told teller.old) (T.told teller.new) (λ text told.
-        spec.IsRunBy (S.Shelf.told shelf.now) check.now version.now request.entry text told status)) }
+        spec.IsRunBy (S.Shelf.told shelf.now) check.now version.now request.entry text told
+        status)) }
     ensures err { IfErr result (IsBrokenOff (O.told output.new)) }
 {
     let mut sums = Sums::new(alloc);

@@ -1,5 +1,5 @@
--- What is done at the end of a folder: what runs that were killed left is told, which license texts are
--- missing or not needed, and which files have no license.
+-- What is done at the end of a folder: what runs that were killed left is told, which license texts
+-- are missing or not needed, and which files have no license.
 use Rattle.std.specs.Prelude.{◌≡◌, ◌⊎◌, ℕ, Bool, true, false, List, [], ◌∷◌, ◌++◌, Option, Some, None, codes, flat_map, is_some, length, map, String, string_bytes, if◌then◌else◌}
 use Rattle.std.specs.List.{filter_map}
 use Rattle.std.specs.declared.alloc.Global.{Global}

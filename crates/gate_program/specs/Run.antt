@@ -100,7 +100,8 @@ pub record IsWithoutBaseline (all : AllListed) (f : FileFault) (run : Run) : Typ
   pub left_out_are : run.left_out ≡ all.left_out
   pub ends : run.end ≡ end.NoBaseline f
 
--- no file is judged exactly where none lists packages; else the older file isn't had, or all is told
+-- no file is judged exactly where none lists packages; else the older file isn't had, or all is
+-- told
 pub data IsEnd (s : Shelved) (c : Rows) (p : Rules) (a : Request) (files : List Listed) :
     End → Type 0 where
   no_file : files ≡ [] → IsEnd s c p a files end.NoFile

@@ -26,8 +26,8 @@ abbrev pub IsHeirIf : Bool → Rows → ExtraRows → List ℕ → Option (List 
 IsHeirIf false c x name heir = heir ≡ None
 IsHeirIf true c x name heir = IsHeirOf c x name heir
 
--- what is to be written is read strictly, and isn't the name itself; or the name can't be mended, and
--- the extras say so
+-- what is to be written is read strictly, and isn't the name itself; or the name can't be mended,
+-- and the extras say so
 abbrev pub Succeeds : Rows → ExtraRows → List ℕ → List ℕ → Type 0
 Succeeds c x name heir =
     (Reads c strict heir × (heir ≢ name)) ⊎ (HasNoFix c name × (said_instead x name ≡ Some heir))

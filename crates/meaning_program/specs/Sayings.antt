@@ -7,8 +7,8 @@ use Rattle.spdx_meaning.specs.declared.comparison.Comparison.{Comparison}
 use Rattle.spdx_meaning.specs.declared.relation.Relation.{Relation}
 use Rattle.spdx_meaning.specs.declared.relation.Relation.TheVariants.{Same, More, Less, Neither}
 
--- whether both trees are written alike: but for white space, parentheses and spellings the texts are
--- the same
+-- whether both trees are written alike: but for white space, parentheses and spellings the texts
+-- are the same
 abbrev pub alike : Tree → Tree → Bool
 alike t u = bytes_eq (normal_text t) (normal_text u)
 

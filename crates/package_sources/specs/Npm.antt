@@ -108,8 +108,8 @@ lies_by None = lies.AtPath
 lies_by (Some null) = lies.AtPath
 lies_by (Some entries) = lies.AtKey
 
--- where the packages lie: those of a lock file at their keys, those of a tree where they say it, and
--- that of a package.json here
+-- where the packages lie: those of a lock file at their keys, those of a tree where they say it,
+-- and that of a package.json here
 abbrev pub lies_in : Data → Lies
 lies_in d = if is_tree d then lies_by (get (codes "packages") d) else lies.Here
 

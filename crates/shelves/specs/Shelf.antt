@@ -13,8 +13,8 @@ pub record Named : Type 0 where
 abbrev pub entry_of : Entry → Named
 entry_of e = record { name = string_bytes e.name; kind = e.kind }
 
--- which bytes the file at a path holds and by what it is known, what is there, what is in a folder, what a variable says, and
--- which bytes the input has; and of each why it isn't told
+-- which bytes the file at a path holds and by what it is known, what is there, what is in a folder,
+-- what a variable says, and which bytes the input has; and of each why it isn't told
 pub record Shelved : Type 1 where
   pub Holds : List ℕ → List ℕ → Type 0
   -- the file at the path is known by this

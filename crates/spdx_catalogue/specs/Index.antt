@@ -38,7 +38,8 @@ sum_of_ends bytes =
 abbrev pub sum_of : List ℕ → ℕ
 sum_of bytes = if nat_lt (length bytes) 8 then fold mixed 0 bytes else sum_of_ends bytes
 
--- the key of some bytes: the product spreads their sum over all bits, of which the upper half counts
+-- the key of some bytes: the product spreads their sum over all bits, of which the upper half
+-- counts
 abbrev pub key_of : List ℕ → ℕ
 key_of bytes = (sum_of bytes * 11400714819323198485) % 2 ^ 64 / 2 ^ 32
 

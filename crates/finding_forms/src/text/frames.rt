@@ -40,7 +40,8 @@ impl Frame {
     // Where memory is refused, the text may have some of the parts.
     fn put_parts(&self, text: &mut Vec<u8>, line: u64) -> Result<(), AllocError>
         ensures ok { OnOk result (text.new.items ≡ text.old.items ++ framed self.now line) }
-        ensures err { OnErr result (take (length text.old.items) text.new.items ≡ text.old.items) }
+        ensures err { OnErr result
+            (take (length text.old.items) text.new.items ≡ text.old.items) }
     {
         let mut number = Buffer::new();
         text.extend_from_slice(self.before.as_bytes())?;

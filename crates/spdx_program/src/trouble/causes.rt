@@ -11,7 +11,6 @@ use list_program::ListTrouble;
 use meaning_program::{MeaningTrouble, Unsaid};
 use notice_program::NoticeTrouble;
 use package_files::FileFault;
-use source_trees::ReadingFault;
 use std::alloc::{AllocError, AllocFailed};
 
 impl From<AllocError> for Trouble {
@@ -53,17 +52,6 @@ impl From<FileFault> for Trouble {
             FileFault::Source(path, fault) => Trouble::Source(path, fault),
             FileFault::Empty(path) => Trouble::Empty(path),
             FileFault::Memory => Trouble::Memory,
-        }
-    }
-}
-
-impl From<ReadingFault> for Trouble {
-    fn from(fault: ReadingFault) -> Trouble {
-        match fault {
-            ReadingFault::Unreadable(path, error) => Trouble::of_path(path, error),
-            ReadingFault::NoManifest(path) => Trouble::NoManifest(path),
-            ReadingFault::Folder(path) => Trouble::Folder(path),
-            ReadingFault::Memory => Trouble::Memory,
         }
     }
 }
