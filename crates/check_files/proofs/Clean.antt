@@ -27,10 +27,10 @@ use Rattle.check_sources.specs.Written.{Written}
 use Rattle.check_told.specs.Decoding.{source_bytes, without_mark}
 use Rattle.check_files.specs.declared.trouble.CheckTrouble.{CheckTrouble}
 use Rattle.check_files.specs.Clean.{AreTagsClean, Declares, DeclaresClean, HasTags, IsAccepted, IsCleanBy, IsDeclaredUse, IsFileClean, IsFileLicensed, IsFileUse, IsFileUseBy, IsLicensedBy, IsManifestClean, IsPassing, IsReadClean, IsReadLicensed, IsReadUse, IsTaggedUse, IsWrittenAccepted, TagsClean}
-use Rattle.check_files.specs.Files.{DeclaresPart, IsFileChecked, IsFileStep, IsStepBy, NotesFile, TagsPart, is_wanted}
+use Rattle.check_files.specs.Files.{DeclaresPart, IsFileChecked, IsFileStep, IsStepBy, NotesFile, TagsPart, has_both, is_wanted}
 use Rattle.check_files.specs.Noted.{Grows, IsBare, Notes, with_bare}
 use Rattle.check_files.specs.Parts.{AreTagsChecked, IsManifestChecked, source_at}
-use Rattle.check_files.specs.Tally.{Tally, is_clean, passed_over, status_of, with_found, with_table}
+use Rattle.check_files.specs.Tally.{Tally, is_clean, once, passed_over, status_of, with_found, with_table}
 
 -- ---- counts
 
@@ -61,6 +61,10 @@ found_none s t h =
 table_none : (is : Bool) (path : List ℕ) (t : Tally) → IsPassing (with_table is path t) → IsPassing t
 table_none true path t h = record { is_whole = h.is_whole; none_refused = h.none_refused; none_owed = h.none_owed; none_bare = h.none_bare }
 table_none false path t h = h
+
+once_none : (both : Bool) (t : Tally) → IsPassing (once both t) → IsPassing t
+once_none true t h = record { is_whole = h.is_whole; none_refused = h.none_refused; none_owed = h.none_owed; none_bare = h.none_bare }
+once_none false t h = h
 
 -- ---- expressions
 
@@ -158,7 +162,7 @@ module _ (s : Shelved) (check : Check) (t : Taken) (folder : Option (List ℕ)) 
   checked_clean : (bytes text : List ℕ) (new : Tally) (noted' : Notes) → s.Holds path bytes → IsFileChecked s check t folder path bytes old noted text new noted'
       → IsPassing new → IsPassing old × IsReadClean s check t path
   checked_clean bytes text new noted' holds h passes =
-      let behind = part_clean check folder t.tags path bytes h.between h.used h.tagged h.tagged_count new noted'.used h.tags passes in
+      let behind = part_clean check folder t.tags path bytes h.between h.used h.tagged h.tagged_count h.behind noted'.used h.tags (once_none (has_both h.declared_count h.tagged_count) h.behind (subst IsPassing h.counts passes)) in
       let before = declares_clean check folder (form_below t path) path bytes old noted.used h.declared h.declared_count h.between h.used h.declares behind.0 in
       (before.0, record { bytes = bytes; holds = holds; declared = before.1; tags = behind.1 })
 
@@ -190,7 +194,7 @@ module _ (s : Shelved) (check : Check) (t : Taken) (folder : Option (List ℕ)) 
       → Grows noted.used noted'.used (IsReadUse s check t folder path)
   checked_use bytes text new noted' holds h =
       let first = declared_use check folder (form_below t path) path bytes old noted.used h.declared h.declared_count h.between h.used h.declares in
-      let second = tagged_use check folder t.tags path bytes h.between h.used h.tagged h.tagged_count new noted'.used h.tags in (
+      let second = tagged_use check folder t.tags path bytes h.between h.used h.tagged h.tagged_count h.behind noted'.used h.tags in (
         first.0 ++ second.0,
         second.1 ∙ ap (λ (names : List (List ℕ)). names ++ second.0) first.1 ∙ append_assoc noted.used first.0 second.0,
         record { bytes = bytes; declared = first.0; tagged = second.0; holds = holds; declared_are = first.2; tagged_are = second.2; names_are = refl },
@@ -263,11 +267,11 @@ module _ (s : Shelved) (check : Check) (t : Taken) (folder : Option (List ℕ)) 
   checked_licensed : (bytes text : List ℕ) (new : Tally) (noted' : Notes) → s.Holds path bytes → IsFileChecked s check t folder path bytes old noted text new noted'
       → IsPassing new → noted'.untagged ≡ [] → (noted.untagged ≡ []) × IsReadLicensed s t folder path
   checked_licensed bytes text new noted' holds h passes none =
-      let behind = part_clean check folder t.tags path bytes h.between h.used h.tagged h.tagged_count new noted'.used h.tags passes in
+      let behind = part_clean check folder t.tags path bytes h.between h.used h.tagged h.tagged_count h.behind noted'.used h.tags (once_none (has_both h.declared_count h.tagged_count) h.behind (subst IsPassing h.counts passes)) in
       let parts =
       told_by (h.declared_count == 0) (h.tagged_count == 0) bytes noted'.untagged h.untagged none
       (λ e. some_declared check folder (form_below t path) path bytes old noted.used h.declared h.declared_count h.between h.used h.declares behind.0 e)
-      (λ e. some_tagged check folder t.tags path bytes h.between h.used h.tagged h.tagged_count new noted'.used h.tags e) in
+      (λ e. some_tagged check folder t.tags path bytes h.between h.used h.tagged h.tagged_count h.behind noted'.used h.tags e) in
       (parts.0, record { bytes = bytes; holds = holds; tells = parts.1 })
 
   step_licensed : (wanted : Bool) (text : List ℕ) (told : List CheckTrouble) (new : Tally) (noted' : Notes) → IsStepBy wanted s check t folder path old noted text told new noted'

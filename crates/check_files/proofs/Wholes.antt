@@ -14,10 +14,10 @@ use Rattle.check_sources.specs.Manifests.{ChecksManifest}
 use Rattle.check_told.specs.Counted.{IsCounted, counted, written}
 use Rattle.check_told.specs.declared.sums.Sums.{Sums}
 use Rattle.check_files.specs.declared.trouble.CheckTrouble.{CheckTrouble}
-use Rattle.check_files.specs.Files.{DeclaresPart, IsFileChecked, IsFileStep, IsStepBy, NotesFile, TagsPart, is_wanted}
+use Rattle.check_files.specs.Files.{DeclaresPart, IsFileChecked, IsFileStep, IsStepBy, NotesFile, TagsPart, has_both, is_wanted}
 use Rattle.check_files.specs.Noted.{Notes}
 use Rattle.check_files.specs.Parts.{IsManifestChecked, NotesTable}
-use Rattle.check_files.specs.Tally.{Tally, is_clean, tally_of, with_found}
+use Rattle.check_files.specs.Tally.{Tally, is_clean, once, tally_of, with_found}
 use Rattle.check_files.specs.Told.{Does, Writes}
 use Rattle.check_files.proofs.Doing.{written_alone}
 
@@ -41,15 +41,16 @@ declared_written out out' check form source old mid new first found text summary
   },
 )
 
-pub file_written : (s : Shelved) (check : Check) (t : Taken) (folder : Option (List ℕ)) (path bytes : List ℕ) (old between new : Tally) (noted noted' : Notes)
-    (used : List (List ℕ)) (out mid out' : Told) (form : Option Form) (declared tagged : ℕ) (is : Bool)
+pub file_written : (s : Shelved) (check : Check) (t : Taken) (folder : Option (List ℕ)) (path bytes : List ℕ) (old between behind new : Tally) (noted noted' : Notes)
+    (used : List (List ℕ)) (out mid out' : Told) (form : Option Form) (declared tagged : ℕ) (both is : Bool)
     → form ≡ form_below t path
     → Writes out mid (λ x. DeclaresPart check folder form path bytes old noted.used x declared between used)
-    → Writes mid out' (λ x. TagsPart check folder t.tags path bytes between used x tagged new noted'.used)
+    → Writes mid out' (λ x. TagsPart check folder t.tags path bytes between used x tagged behind noted'.used)
+    → both ≡ has_both declared tagged → new ≡ once both behind
     → is ≡ ((declared == 0) && (tagged == 0)) → NotesFile is s folder path bytes noted.untagged noted'.untagged
     → noted'.left_behind ≡ noted.left_behind
     → Writes out out' (λ x. IsFileChecked s check t folder path bytes old noted x new noted')
-file_written s check t folder path bytes old between new noted noted' used out mid out' form declared tagged is form_is p q is_without notes left = (
+file_written s check t folder path bytes old between behind new noted noted' used out mid out' form declared tagged both is form_is p q are_both counts is_without notes left = (
   p.0 ++ q.0,
   Appends-trans out.bytes mid.bytes out'.bytes p.0 q.0 p.1 q.1,
   record {
@@ -59,8 +60,10 @@ file_written s check t folder path bytes old between new noted noted' used out m
     used = used;
     tagged = q.0;
     tagged_count = tagged;
+    behind = behind;
     declares = subst (λ (f : Option Form). DeclaresPart check folder f path bytes old noted.used p.0 declared between used) form_is p.2;
     tags = q.2;
+    counts = counts ∙ ap (λ (b : Bool). once b behind) are_both;
     text_is = refl;
     untagged = subst (λ (b : Bool). NotesFile b s folder path bytes noted.untagged noted'.untagged) is_without notes;
     left_behind = left;

@@ -1,5 +1,5 @@
 -- What is done with a file below a folder.
-use Rattle.std.specs.Prelude.{◌≡◌, ◌⊎◌, ℕ, ◌==◌, ◌&&◌, ◌||◌, Bool, true, false, List, [], ◌++◌, Option, Some, None, is_some}
+use Rattle.std.specs.Prelude.{◌≡◌, ◌⊎◌, ℕ, ◌==◌, ◌&&◌, ◌||◌, Bool, true, false, not, List, [], ◌++◌, Option, Some, None, is_some}
 use Rattle.manifests.specs.declared.form.Form.{Form}
 use Rattle.shelves.specs.Shelf.{Shelved}
 use Rattle.source_trees.specs.Readings.{form_below}
@@ -10,7 +10,7 @@ use Rattle.check_files.specs.declared.trouble.CheckTrouble.{CheckTrouble}
 use Rattle.check_files.specs.Noted.{Grows, IsUseOfManifest, IsUseOfTags, NotesBare, Notes}
 use Rattle.check_files.specs.Parts.{AreTagsChecked, IsManifestChecked, source_at}
 use Rattle.check_files.specs.Passing.{IsPassed}
-use Rattle.check_files.specs.Tally.{Tally}
+use Rattle.check_files.specs.Tally.{Tally, once}
 
 -- what it declares is found, and the license texts that it needs are noted; what is no manifest
 -- declares nothing
@@ -37,6 +37,10 @@ abbrev pub NotesFile : Bool → Shelved → Option (List ℕ) → List ℕ → L
 NotesFile true s folder path bytes old new = NotesBare s folder path bytes old new
 NotesFile false s folder path bytes old new = new ≡ old
 
+-- both a manifest and a tag have an expression
+abbrev pub has_both : ℕ → ℕ → Bool
+has_both declared tagged = not (declared == 0) && not (tagged == 0)
+
 -- what a file declares, if it is a manifest, and then its tags
 pub record IsFileChecked (s : Shelved) (check : Check) (t : Taken) (folder : Option (List ℕ))
     (path bytes : List ℕ) (old : Tally) (noted : Notes) (text : List ℕ) (new : Tally)
@@ -47,10 +51,12 @@ pub record IsFileChecked (s : Shelved) (check : Check) (t : Taken) (folder : Opt
   pub used : List (List ℕ)
   pub tagged : List ℕ
   pub tagged_count : ℕ
+  pub behind : Tally
   pub declares : DeclaresPart check folder (form_below t path) path bytes old noted.used
       declared declared_count between used
-  pub tags : TagsPart check folder t.tags path bytes between used tagged tagged_count new
+  pub tags : TagsPart check folder t.tags path bytes between used tagged tagged_count behind
       noted'.used
+  pub counts : new ≡ once (has_both declared_count tagged_count) behind
   pub text_is : text ≡ declared ++ tagged
   pub untagged : NotesFile ((declared_count == 0) && (tagged_count == 0)) s folder path bytes
       noted.untagged noted'.untagged

@@ -54,6 +54,11 @@ status_of t = if t.totals.is_short then 2 else if is_clean t then 0 else 1
 abbrev pub with_found : Summary → Tally → Tally
 with_found s t = record t { totals = counted t.totals s }
 
+-- a file counts for one, though it was counted both for what it declares and for its tags
+abbrev pub once : Bool → Tally → Tally
+once true t = record t { totals = record t.totals { files = t.totals.files - 1 } }
+once false t = t
+
 -- those of a file of lines
 abbrev pub with_lines : Summary → ℕ → Tally → Tally
 with_lines s blanks t = record t { totals = with_file t.totals (s.lines - blanks) s.refused }

@@ -6,10 +6,11 @@ ghost use Rattle.check_files.specs.Files as spec;
 ghost use Rattle.check_files.specs.Files.{
   IsFileChecked,
   IsFileStep,
+  has_both,
   is_wanted,
 };
 ghost use Rattle.check_files.specs.Noted.{notes_of};
-ghost use Rattle.check_files.specs.Tally.{tally_of};
+ghost use Rattle.check_files.specs.Tally.{once, tally_of};
 ghost use Rattle.check_files.specs.Told.{Does, IsBrokenOff, Writes};
 
 use crate::noted::{Noted, note_bare, note_declared, note_tagged};
@@ -120,6 +121,7 @@ fn check_bytes<S: Shelf, O: Sink>(
         sums,
         output,
     )?;
+    count_once(sums, has_both(declared, tagged));
     note_file(
         alloc,
         shelf,
@@ -137,6 +139,22 @@ fn has_none(declared: u64, tagged: u64) -> bool
     ensures { result ≡ ((declared == 0) && (tagged == 0)) }
 {
     declared == 0 && tagged == 0
+}
+
+// Whether both have one.
+fn has_both(declared: u64, tagged: u64) -> bool
+    ensures { result ≡ has_both declared tagged }
+{
+    declared != 0 && tagged != 0
+}
+
+// Takes back the second count of a file that was counted for both.
+fn count_once(sums: &mut Sums, has_both: bool)
+    ensures { tally_of sums.new ≡ once has_both (tally_of sums.old) }
+{
+    if has_both {
+        sums.totals.files = sums.totals.files.saturating_sub(1);
+    }
 }
 
 // Notes a file without an expression as one without a license, if it is one.

@@ -8,6 +8,6 @@ use Rattle.check_files.proofs.file.check_bytes.Goals as goal
 pub returns-clause-ok : goal.returns-clause-ok
 returns-clause-ok g c =
     file_written (g.S.Shelf.told c.args.shelf.now) c.args.check.now c.args.below.taken (option_copied c.args.below.folder) c.args.path.now c.args.bytes.now (tally_of c.args.sums.now)
-    (tally_of c.declared_part.new.sums) (tally_of c.tags_part.new.sums) (notes_of c.args.noted.now) _ _ (g.O.Sink.told c.args.output.now) (g.O.Sink.told c.declared_part.new.output)
-    (g.O.Sink.told c.tags_part.new.output) c.form_below-form.result c.in_ok-declared.declared c.in_ok-tagged.tagged c.has_none.result c.form_below-form.ensures c.in_ok-declared.ensures.ok c.in_ok-tagged.ensures.ok
-    c.has_none.ensures c.in_ok-note_file.ensures refl
+    (tally_of c.declared_part.new.sums) (tally_of c.tags_part.new.sums) (tally_of c.count_once.new.sums) (notes_of c.args.noted.now) _ _ (g.O.Sink.told c.args.output.now) (g.O.Sink.told c.declared_part.new.output)
+    (g.O.Sink.told c.tags_part.new.output) c.form_below-form.result c.in_ok-declared.declared c.in_ok-tagged.tagged c.has_both.result c.has_none.result c.form_below-form.ensures c.in_ok-declared.ensures.ok c.in_ok-tagged.ensures.ok
+    c.has_both.ensures c.count_once.ensures c.has_none.ensures c.in_ok-note_file.ensures refl
