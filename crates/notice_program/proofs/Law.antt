@@ -1,5 +1,5 @@
 -- A run whose page is written.
-use Rattle.std.proofs.Common.{◌≡◌, ℕ, ◌<◌, ◌==◌, Bool, true, false, List, [], ◌∷◌, map, refl, sym, ap, ◌∙◌, subst, arith}
+use Rattle.std.proofs.Common.{◌≡◌, ℕ, ◌<◌, ◌==◌, Bool, true, false, List, [], ◌∷◌, length, map, refl, sym, ap, ◌∙◌, subst, arith}
 use Rattle.std.specs.Prelude.{◌++◌, Option, None, Some, is_some, option_map}
 use Rattle.std.specs.Global.{Vec}
 use Rattle.std.proofs.lemmas.Option.{none-some}
@@ -31,11 +31,12 @@ use Rattle.notice_program.specs.Ends.{choice_status, end_status, page_status}
 use Rattle.notice_program.specs.Law.{AreAllNoticed, HasNoChoice, IsWhole, IsWrittenExactly, is_written, page_bytes, page_of}
 use Rattle.notice_program.specs.Noted.{AreSorted, Noted, noted_by, noted_in}
 use Rattle.notice_program.specs.Page as page
-use Rattle.notice_program.specs.Page.{IsChosenEnd, IsHeldEnd, IsNotedEnd, IsPackagesEnd, IsPlacedEnd, look_of}
+use Rattle.notice_program.specs.Page.{IsChosenEnd, IsHeldEnd, IsNotedEnd, IsPackagesEnd, IsPlacedEnd, look_of, reading_of}
 use Rattle.notice_program.specs.Run as run
 use Rattle.notice_program.specs.Run.{IsEnd, IsFilesEnd, IsRun, status_of}
 use Rattle.notice_program.specs.Taken.{Taken, packages_in, taken_in}
 use Rattle.notice_program.specs.Told.{IsTold, IsToldBy, has_own, lacking_of, missing_by, unless_missing}
+use Rattle.notice_program.proofs.Counts.{each_taken, none_left_out}
 use Rattle.notice_program.proofs.Standing.{each_is_there}
 
 -- ---- a page is written exactly if the status is 0
@@ -78,15 +79,16 @@ none_left true [] bytes v e = (e, λ _. refl)
 none_left false lacks bytes v e = (e, λ is. absurd (let bad : false ≡ true = is in cc))
 
 whole_page : (a : Request) (taken : List Taken) (reads : List (List Read)) (packages : List Package) (general : List GeneralText) (text : NoticeText) (n : ToldPage) → map noted_by packages ≡ noted_in taken reads
-    → IsNotice (look_of a) packages general text → option_map page_bytes n.page ≡ Some text.bytes.items
+    → length packages ≡ length taken → IsNotice (look_of a) packages general text → option_map page_bytes n.page ≡ Some text.bytes.items
     → (has_own a.folders.own ≡ true → map missing_by n.missing.items ≡ map lacking_of (map seen_lack text.missing.items)) → (has_own a.folders.own ≡ true → a.is_strict ≡ true → text.missing.items ≡ [])
     → IsWhole a taken n
-whole_page a taken reads packages general text n are is page_is missing_are none = record {
+whole_page a taken reads packages general text n are all is page_is missing_are none = record {
   reads = reads;
   packages = packages;
   told = told_of is.bands is.turned (is.own ++ is.others);
   missing = missing general (lacks_in packages);
   packages_are = are;
+  none_left_out = all;
   page_is = page_is ∙ ap (λ (z : List ℕ). Some z) is.bytes_are;
   each = each_is_there (has_own a.folders.own) packages general is.own is.others is.texts_are;
   missing_told = λ own. missing_are own ∙ ap (map lacking_of) is.missing_are;
@@ -94,12 +96,12 @@ whole_page a taken reads packages general text n are is page_is missing_are none
 }
 
 told_whole : (a : Request) (taken : List Taken) (reads : List (List Read)) (packages : List Package) (general : List GeneralText) (text : NoticeText) (n : ToldPage) (v : Vec ℕ) (own : Bool) → has_own a.folders.own ≡ own
-    → map noted_by packages ≡ noted_in taken reads → IsNotice (look_of a) packages general text → IsToldBy own a.is_strict text n → n.page ≡ Some v → IsWhole a taken n
-told_whole a taken reads packages general text n v true own are is told there =
+    → map noted_by packages ≡ noted_in taken reads → length packages ≡ length taken → IsNotice (look_of a) packages general text → IsToldBy own a.is_strict text n → n.page ≡ Some v → IsWhole a taken n
+told_whole a taken reads packages general text n v true own are all is told there =
     let left = none_left a.is_strict text.missing.items text.bytes v (sym told.page_is ∙ there) in
-    whole_page a taken reads packages general text n are is (ap (option_map page_bytes) (there ∙ sym left.0)) (λ _. told.missing_are) (λ _ strict. left.1 strict)
-told_whole a taken reads packages general text n v false own are is told there =
-    whole_page a taken reads packages general text n are is (ap (option_map page_bytes) told.page_is)
+    whole_page a taken reads packages general text n are all is (ap (option_map page_bytes) (there ∙ sym left.0)) (λ _. told.missing_are) (λ _ strict. left.1 strict)
+told_whole a taken reads packages general text n v false own are all is told there =
+    whole_page a taken reads packages general text n are all is (ap (option_map page_bytes) told.page_is)
     (λ other. absurd (let bad : false ≡ true = sym own ∙ other in cc)) (λ other strict. absurd (let bad : false ≡ true = sym own ∙ other in cc))
 
 -- ---- how the run ended
@@ -107,18 +109,19 @@ told_whole a taken reads packages general text n v false own are is told there =
 abbrev IsToldWhole : Request → List Taken → End → Type 0
 IsToldWhole a taken e = (n : ToldPage) × (e ≡ end.Told n) × IsWhole a taken n
 
-held_whole : (a : Request) (taken : List Taken) (reads : List (List Read)) (packages : List Package) (held : List Text) {e : End} → map noted_by packages ≡ noted_in taken reads → IsHeldEnd a packages held e → end_status e < 1 → IsToldWhole a taken e
-held_whole a taken reads packages held are (page.told general text {n = n} sorted is told) lt =
+held_whole : (a : Request) (taken : List Taken) (reads : List (List Read)) (packages : List Package) (held : List Text) {e : End} → map noted_by packages ≡ noted_in taken reads → length packages ≡ length taken → IsHeldEnd a packages held e → end_status e < 1 → IsToldWhole a taken e
+held_whole a taken reads packages held are all (page.told general text {n = n} sorted is told) lt =
     let there = page_there n.page lt in
-    (n, refl, told_whole a taken reads packages general text n there.0 (has_own a.folders.own) refl are is told there.1)
-held_whole a taken reads packages held are (page.not_utf8 general sorted is) lt = absurd (omega (arith, lt))
+    (n, refl, told_whole a taken reads packages general text n there.0 (has_own a.folders.own) refl are all is told there.1)
+held_whole a taken reads packages held are all (page.not_utf8 general sorted is) lt = absurd (omega (arith, lt))
 
-packages_whole : (s : Shelved) (a : Request) (taken : List Taken) (reads : List (List Read)) (packages : List Package) {e : End} → map noted_by packages ≡ noted_in taken reads → IsPackagesEnd s a packages e → end_status e < 1 → IsToldWhole a taken e
-packages_whole s a taken reads packages are (page.page held are_held none ends) lt = held_whole a taken reads packages _ are ends lt
-packages_whole s a taken reads packages are (page.no_general held are_held some) lt = absurd (omega (arith, lt))
+packages_whole : (s : Shelved) (a : Request) (taken : List Taken) (reads : List (List Read)) (packages : List Package) {e : End} → map noted_by packages ≡ noted_in taken reads → length packages ≡ length taken → IsPackagesEnd s a packages e → end_status e < 1 → IsToldWhole a taken e
+packages_whole s a taken reads packages are all (page.page held are_held none ends) lt = held_whole a taken reads packages _ are all ends lt
+packages_whole s a taken reads packages are all (page.no_general held are_held some) lt = absurd (omega (arith, lt))
 
 placed_whole : (s : Shelved) (a : Request) (taken : List Taken) {e : End} → IsPlacedEnd s a taken e → end_status e < 1 → IsToldWhole a taken e
-placed_whole s a taken (page.noted reads own ends) lt = packages_whole s a taken reads ends.0 ends.1 ends.2 lt
+placed_whole s a taken (page.noted reads own ends) lt =
+    packages_whole s a taken reads ends.0 ends.1 (none_left_out s (reading_of a) taken reads ends.0 own ends.1) ends.2 lt
 placed_whole s a taken (page.no_own reads own some) lt = absurd (omega (arith, lt))
 
 chosen_whole : (s : Shelved) (a : Request) (taken : List Taken) {e : End} → IsChosenEnd s a taken e → end_status e < 1 → IsToldWhole a taken e
@@ -153,6 +156,7 @@ all_noticed s inside heirs a r is lt =
       list_is = is.list_is;
       reads = whole s a.wanted (map path_in a.paths.now) r.files.items r.left_out.items is.runs.reads ends.0;
       chosen = ends.1.1;
+      each_taken = each_taken s heirs is.catalogue a.accepted a.one_for_all r.files.items ends.1.0 ends.1.1;
       ends = ends.1.2.1;
       whole = ends.1.2.2;
     }

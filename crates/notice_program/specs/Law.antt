@@ -1,5 +1,5 @@
 -- What a run says whose page is written.
-use Rattle.std.specs.Prelude.{◌≡◌, ℕ, ◌==◌, Bool, true, List, [], Option, None, Some, is_some, map, option_map}
+use Rattle.std.specs.Prelude.{◌≡◌, ℕ, ◌==◌, Bool, true, List, [], Option, None, Some, is_some, length, map, option_map}
 use Rattle.std.specs.Global.{Vec}
 use Rattle.std.specs.List.{AllZip}
 use Rattle.std.specs.Option.{option_copied}
@@ -41,14 +41,16 @@ is_written run = is_some (page_of run.end)
 
 -- ---- what is on it
 
--- each of the packages with its own files stands on the page, and each text that its choice wants,
--- but those that are told as missing; where all texts have to be there, none is missing
+-- each of the packages with its own files stands on the page, none is left out, and so does each text
+-- that its choice wants, but those that are told as missing; where all texts have to be there, none
+-- is missing
 pub record IsWhole (a : Request) (taken : List Taken) (n : ToldPage) : Type 0 where
   pub reads : List (List Read)
   pub packages : List Package
   pub told : Told
   pub missing : List Lacked
   pub packages_are : map noted_by packages ≡ noted_in taken reads
+  pub none_left_out : length packages ≡ length taken
   pub page_is : option_map page_bytes n.page ≡ Some (page_in a.format told)
   pub each : EachIsThere (has_own a.folders.own) packages told.texts missing
   pub missing_told : has_own a.folders.own ≡ true →
@@ -65,6 +67,8 @@ pub record AreAllNoticed (s : Shelved) (inside : InsideBytes) (heirs : List ℕ)
   pub reads : AllZip (IsListedAt s a.wanted) (map path_in a.paths.now) run.files.items
   pub chosen : IsChosen s heirs catalogue a.accepted a.one_for_all (packages_in run.files.items)
       choices
+  pub each_taken :
+      length (taken_in run.files.items choices) ≡ length (packages_in run.files.items)
   pub ends : run.end ≡ end.Told notice
   pub whole : IsWhole a (taken_in run.files.items choices) notice
 
