@@ -11,6 +11,7 @@ spdx_report spdx_slices_check(LIST, IN), spdx_slices_canonical(LIST, IN, OUT), s
 spdx_report spdx_slices_fix(spdx_list *, IN, OUT), spdx_slices_requirements(LIST, IN, OUT);
 spdx_report spdx_slices_evaluate(LIST, IN, IN), spdx_slices_evaluate_bits(LIST, IN, IN, size_t);
 spdx_report spdx_slices_simplify(LIST, IN, OUT), spdx_slices_compare(LIST, IN, IN);
+spdx_report spdx_slices_listed(spdx_list *, IN);
 spdx_report spdx_slices_choose(LIST, IN, IN, OUT), spdx_slices_lines(LIST, IN, IN, OUT);
 
 static const spdx_report wrong = {SPDX_ARGUMENT, 0, 0, 0, 0, 0, 0, 0};
@@ -42,6 +43,7 @@ spdx_report spdx_close(spdx_list *list) { return list ? spdx_slices_close(list) 
 spdx_report spdx_reason(uint32_t reason, spdx_buffer to) {
     return good(to, &unused, none, none) ? spdx_slices_reason(reason, GIVE(to)) : wrong;
 }
+spdx_report spdx_listed(const spdx_list *list, spdx_text name) { ASK(listed, nowhere, name, none, GIVE(name)); }
 spdx_report spdx_check(ON) { ASK(check, nowhere, text, none, TEXT); }
 spdx_report spdx_canonical(ON, spdx_buffer to) { ASK(canonical, to, text, none, TEXT, GIVE(to)); }
 spdx_report spdx_fix(const spdx_list *list, spdx_text text, spdx_buffer to) {

@@ -49,6 +49,13 @@ enum {
     SPDX_NEITHER = 3 /* each asks for what the other doesn't */
 };
 
+/* What spdx_listed says in `number`, at SPDX_OK. */
+enum {
+    SPDX_UNLISTED = 0,  /* the list has no such name */
+    SPDX_CURRENT = 1,   /* the list has it */
+    SPDX_DEPRECATED = 2 /* the list has it, and it is deprecated */
+};
+
 /* What a call answers. A field that the status does not speak of is 0. */
 typedef struct {
     uint32_t status;
@@ -56,7 +63,7 @@ typedef struct {
     size_t start;     /* the first byte of the fault */
     size_t end;       /* the byte behind the fault */
     size_t number;    /* a licensee, or which of two texts, counted from 0; how many licensees, requirements or sets
-                       * there are; or how two expressions compare */
+                       * there are; how two expressions compare; or what the list says of a name */
     size_t length;    /* the bytes of the text, at SPDX_OK and SPDX_SHORT */
     uint64_t lines;   /* of spdx_lines: how many lines there were */
     uint64_t refused; /* and how many of them were refused */
@@ -90,6 +97,10 @@ spdx_report spdx_open(spdx_text json, spdx_list *list);
 
 /* Frees the list of an open handle, which is closed then; SPDX_ARGUMENT where it was closed. */
 spdx_report spdx_close(spdx_list *list);
+
+/* What the list says of a name, the case of ASCII letters aside: SPDX_UNLISTED, SPDX_CURRENT or SPDX_DEPRECATED in
+ * `number`. It is asked for the licence of that name, and for the exception where it has no such licence. */
+spdx_report spdx_listed(const spdx_list *list, spdx_text name);
 
 /* Whether the text is an expression. */
 spdx_report spdx_check(const spdx_list *list, uint32_t mode, spdx_text text);

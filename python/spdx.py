@@ -8,6 +8,7 @@
     licences.simplify("MIT OR (MIT AND Zlib)")              # "MIT"
     licences.compare("MIT AND Zlib", "MIT")                 # spdx.Relation.MORE: the first asks for more
     licences.lines(["MIT", "Apache2"], ["MIT"])             # a verdict for each, in one call
+    licences.listed("GPL-2.0")                              # spdx.Listing.DEPRECATED
 
 Texts are str or bytes; places are in bytes of UTF-8. `TypeError` is raised where another value is given for a text, or
 one text for several; a number that has more than 32 bits is a `ValueError`.
@@ -57,6 +58,12 @@ class Relation(enum.IntEnum):
     SAME, MORE, LESS, NEITHER = range(4)
 
 
+class Listing(enum.IntEnum):
+    """What the list says of a name."""
+
+    UNLISTED, CURRENT, DEPRECATED = range(3)
+
+
 class Lines(NamedTuple):
     """The answers to lines, as spdx_lines writes them, and their counts."""
 
@@ -102,12 +109,12 @@ def _library() -> ctypes.CDLL:
     path = os.environ.get("SPDX_LIBRARY") or ctypes.util.find_library("spdx") or "libspdx.so"
     library = ctypes.CDLL(path)
     handle = ctypes.POINTER(_List)
-    texts = {"check": 1, "canonical": 1, "fix": 1, "normal": 1, "simplify": 1, "requirements": 1}
+    texts = {"listed": 1, "check": 1, "canonical": 1, "fix": 1, "normal": 1, "simplify": 1, "requirements": 1}
     texts |= {"compare": 2, "evaluate": 2, "choose": 2, "lines": 2}
     for name, count in texts.items():
         call = getattr(library, f"spdx_{name}")
-        mode = [] if name == "fix" else [ctypes.c_uint32]
-        out = [] if name in ("check", "compare", "evaluate") else [_Buffer]
+        mode = [] if name in ("fix", "listed") else [ctypes.c_uint32]
+        out = [] if name in ("listed", "check", "compare", "evaluate") else [_Buffer]
         call.restype, call.argtypes = _Report, [handle, *mode, *[_Bytes] * count, *out]
     bits = library.spdx_evaluate_bits
     bits.restype, bits.argtypes = _Report, [handle, ctypes.c_uint32, _Bytes, ctypes.c_char_p, ctypes.c_size_t]
@@ -218,6 +225,12 @@ class Licences:
         """The list of a file."""
         with open(path, "rb") as file:
             return cls(file.read())
+
+    def listed(self, name: Text) -> Listing:
+        """What the list says of a licence's or an exception's name, the case of ASCII letters aside."""
+        report = _LIBRARY.spdx_listed(self._list, _bytes(_encoded(name)))
+        _raise(report)
+        return Listing(report.number)
 
     def check(self, text: Text, mode: int = STRICT) -> None:
         """Raises `Refused` where the text is no expression."""

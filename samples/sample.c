@@ -190,6 +190,29 @@ static void meanings(const spdx_list *list) {
     expect(told.status == SPDX_TOO_MANY_SETS && told.number == 4160, "too many sets of the second");
 }
 
+/* What the list says of names. */
+static void names(const spdx_list *list) {
+    static const char *const unlisted[] = {"", "MIT OR Zlib", "GPL-2.0+", "Nope", "LicenseRef-Own"};
+    static const char *const current[] = {"MIT", "mit", "GPL-2.0-only", "LLVM-exception", "llvm-EXCEPTION"};
+    static const char *const deprecated[] = {"GPL-2.0", "gpl-2.0", "wxWindows", "Nokia-Qt-exception-1.1"};
+    spdx_report told;
+    for (size_t i = 0; i < sizeof unlisted / sizeof *unlisted; i++) {
+        told = spdx_listed(list, text_of(unlisted[i]));
+        expect(told.status == SPDX_OK && told.number == SPDX_UNLISTED, unlisted[i]);
+    }
+    for (size_t i = 0; i < sizeof current / sizeof *current; i++) {
+        told = spdx_listed(list, text_of(current[i]));
+        expect(told.status == SPDX_OK && told.number == SPDX_CURRENT, current[i]);
+    }
+    for (size_t i = 0; i < sizeof deprecated / sizeof *deprecated; i++) {
+        told = spdx_listed(list, text_of(deprecated[i]));
+        expect(told.status == SPDX_OK && told.number == SPDX_DEPRECATED, deprecated[i]);
+    }
+    told = spdx_listed(list, (spdx_text){"MIT\xff", 4});
+    expect(told.status == SPDX_NOT_TEXT && told.number == 0, "a name that is no text");
+    expect(spdx_listed(list, (spdx_text){NULL, 0}).status == SPDX_OK, "an empty name");
+}
+
 static void wrong(const spdx_list *list) {
     char out[64] = "MIT";
     spdx_buffer to = {out, sizeof out};
@@ -210,6 +233,8 @@ static void wrong(const spdx_list *list) {
     expect(spdx_simplify(list, SPDX_NORMAL, text_of("MIT"), to).status == SPDX_ARGUMENT, "simplify, a mode of lines");
     expect(spdx_simplify(list, 0, (spdx_text){out, 3}, to).status == SPDX_ARGUMENT, "simplify over its text");
     expect(spdx_compare(list, 0, text_of("MIT"), (spdx_text){NULL, 9}).status == SPDX_ARGUMENT, "a null second text");
+    expect(spdx_listed(list, (spdx_text){NULL, 9}).status == SPDX_ARGUMENT, "a null name");
+    expect(spdx_listed(NULL, text_of("MIT")).status == SPDX_ARGUMENT, "a name, and a null list");
     expect(spdx_reason(0, to).status == SPDX_ARGUMENT && spdx_reason(13, to).status == SPDX_ARGUMENT, "a reason");
 }
 
@@ -224,6 +249,7 @@ static void handles(spdx_text json) {
     expect(spdx_open(json, NULL).status == SPDX_ARGUMENT && spdx_close(NULL).status == SPDX_ARGUMENT, "a null handle");
     for (int round = 0; round < 3; round++) {
         expect(spdx_close(&list).status == SPDX_ARGUMENT, "closed twice");
+        expect(spdx_listed(&list, text).status == SPDX_ARGUMENT, "listed, closed");
         expect(spdx_check(&list, 0, text).status == SPDX_ARGUMENT, "check, closed");
         expect(spdx_canonical(&list, 0, text, to).status == SPDX_ARGUMENT, "canonical, closed");
         expect(spdx_normal(&list, 0, text, to).status == SPDX_ARGUMENT, "normal, closed");
@@ -291,6 +317,7 @@ int main(int count, char **words) {
     free((void *)bits.bytes);
     singles(list);
     meanings(list);
+    names(list);
     wrong(list);
     threads(list, corpus, wanted[0]);
     for (int i = 0; i < 3; i++) free((void *)wanted[i].bytes);

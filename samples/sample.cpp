@@ -79,6 +79,8 @@ int main(int count, char **words) {
     expect(meant.status == SPDX_OK && meaning == "Zlib", "what it means");
     const spdx_report compared = spdx_compare(list, SPDX_STRICT, text_of(both), text_of("MIT"));
     expect(compared.status == SPDX_OK && compared.number == SPDX_MORE, "how two compare");
+    const spdx_report listed = spdx_listed(list, text_of("GPL-2.0"));
+    expect(listed.status == SPDX_OK && listed.number == SPDX_DEPRECATED, "a deprecated name");
     const spdx_report report =
         written(fix, [&](spdx_buffer to) { return spdx_fix(list, text_of("apache 2.0"), to); });
     expect(report.status == SPDX_OK && fix == "Apache-2.0", "a fix");

@@ -100,6 +100,9 @@ def main(list_path, corpus_path, *wanted_paths):
             expect(False, "too many sets")
         except spdx.SpdxError as error:
             expect("4160 sets" in str(error), "too many sets")
+    for name, said in (("mit", "CURRENT"), ("GPL-2.0", "DEPRECATED"), ("Nokia-Qt-exception-1.1", "DEPRECATED"), ("Nope", "UNLISTED")):
+        expect(licences.listed(name) is spdx.Listing[said], f"what is said of {name}")
+    expect(raises(spdx.SpdxError, licences.listed, b"\xff"), "a name that is no text")
     expect(licences.evaluate("MIT OR Zlib", ["0BSD", "Zlib"]), "met")
     expect(not licences.evaluate("MIT AND Zlib", ["Zlib"]), "unmet")
     expect(refused_by(licences.evaluate, "MIT", ["MIT", "Nope"]) == (0, 4, 9, 1), "a licensee")

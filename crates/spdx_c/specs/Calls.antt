@@ -7,13 +7,13 @@ use Rattle.spdx_calls.specs.declared.buffer.Put.{Put}
 use Rattle.spdx_calls.specs.declared.fault.CallFault.{CallFault}
 use Rattle.spdx_calls.specs.Buffer.{IsPut}
 use Rattle.spdx_calls.specs.Reasons.{IsReasonNumber, number_of}
-use Rattle.spdx_calls.specs.Faults.{IsTextFault, IsCanonicalFault, IsFixFault, IsLinesFault}
+use Rattle.spdx_calls.specs.Faults.{IsTextFault, IsCanonicalFault, IsFixFault, IsLinesFault, IsNameFault}
 use Rattle.spdx_calls.specs.Questions.{IsQuestionFault, IsChoiceFault}
-use Rattle.spdx_calls.specs.Answers.{Reads, PutsCanonical, PutsFix, PutsNormal, PutsChoice, PutsLines, PutsRequirements, IsTruth}
+use Rattle.spdx_calls.specs.Answers.{Reads, PutsCanonical, PutsFix, PutsNormal, PutsChoice, PutsLines, PutsRequirements, IsTruth, listing_of}
 use Rattle.spdx_calls.specs.Bits.{IsTruthByBits, IsBitsFault}
 use Rattle.spdx_calls.specs.Meanings.{PutsMeaning, IsMeaningFault, IsCompared, IsComparisonFault}
 use Rattle.spdx_c.specs.declared.report.Report.{Report}
-use Rattle.spdx_c.specs.Reports.{plain, with_length, of_check, of_put, of_fix, of_truth, of_relation, of_answered}
+use Rattle.spdx_c.specs.Reports.{plain, with_length, of_check, of_put, of_fix, of_truth, of_relation, of_listing, of_answered}
 use Rattle.spdx_c.specs.Modes.{mode_of, line_mode_of, IsUnmade}
 
 -- the call on this list answered in these numbers, P of a value and E of a fault
@@ -46,6 +46,11 @@ abbrev pub IsCheck : Option Rows → ℕ → List ℕ → Report → Type 0
 IsCheck list mode text report =
     IsCall list (mode_of mode) of_check (λ c m _. Reads c m text) (λ c m. IsTextFault c m text)
     report
+
+abbrev pub IsListedCall : Option Rows → List ℕ → Report → Type 0
+IsListedCall list name report =
+    IsCall list (mode_of 0) of_listing (λ c m listing. listing ≡ listing_of c name)
+    (λ c m. IsNameFault name) report
 
 abbrev pub IsCanonicalCall : Option Rows → ℕ → List ℕ → List ℕ → List ℕ → Report → Type 0
 IsCanonicalCall list mode text old new report =

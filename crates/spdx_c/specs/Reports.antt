@@ -6,6 +6,8 @@ use Rattle.spdx_calls.specs.declared.fault.Refusal.{Refusal}
 use Rattle.spdx_calls.specs.declared.fault.CallFault.{CallFault}
 use Rattle.spdx_calls.specs.declared.fault.CallFault.TheVariants.{NotText, Refused, OtherNotText, OtherRefused, LicenseeNotText, Licensee, Unmet, TooMany, BitCount, TooManySets, Memory}
 use Rattle.spdx_calls.specs.declared.texts.Answered.{Answered}
+use Rattle.spdx_calls.specs.declared.questions.Listing.{Listing}
+use Rattle.spdx_calls.specs.declared.questions.Listing.TheVariants.{Unlisted, Current, Deprecated}
 use Rattle.spdx_meaning.specs.declared.relation.Relation.{Relation}
 use Rattle.spdx_meaning.specs.declared.relation.Relation.TheVariants.{Same, More, Less, Neither}
 use Rattle.spdx_c.specs.declared.report.Report.{Report}
@@ -112,6 +114,15 @@ relation_number Neither = 3
 abbrev pub of_relation : Result Relation CallFault → Report
 of_relation (Ok relation) = with_number 0 (relation_number relation)
 of_relation (Err fault) = of_fault fault
+
+abbrev pub listing_number : Listing → ℕ
+listing_number Unlisted = 0
+listing_number Current = 1
+listing_number Deprecated = 2
+
+abbrev pub of_listing : Result Listing CallFault → Report
+of_listing (Ok listing) = with_number 0 (listing_number listing)
+of_listing (Err fault) = of_fault fault
 
 abbrev pub of_answered : Result Answered CallFault → Report
 of_answered (Ok answered) = put_with answered.summary.lines answered.summary.refused answered.put

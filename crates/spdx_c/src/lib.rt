@@ -10,13 +10,15 @@
 ghost use Rattle.std.specs.Prelude.{◌≡◌, ◌≢◌, None};
 ghost use Rattle.spdx_handle.specs.Lists.{rows_of, rows_lent};
 ghost use Rattle.spdx_c.specs.Modes.{IsOpening, IsClosing};
-ghost use Rattle.spdx_c.specs.Calls.{IsReasonCall, IsCheck, IsCanonicalCall, IsFixCall, IsNormalCall, IsEvaluation, IsBitsCall, IsRequirementsCall, IsChoiceCall, IsLinesCall, IsSimplifyCall, IsCompareCall};
+ghost use Rattle.spdx_c.specs.Calls.{IsReasonCall, IsCheck, IsCanonicalCall, IsFixCall, IsNormalCall, IsEvaluation, IsBitsCall, IsRequirementsCall, IsChoiceCall, IsLinesCall, IsSimplifyCall, IsCompareCall, IsListedCall};
 
 mod opening;
 pub mod report;
 
 use crate::opening::{line_mode_of, mode_of, read};
-use crate::report::{Report, of_answered, of_check, of_fix, of_put, of_relation, of_truth, plain};
+use crate::report::{
+    Report, of_answered, of_check, of_fix, of_listing, of_put, of_relation, of_truth, plain,
+};
 use spdx_calls::buffer::put_text;
 use spdx_handle::{ListHandle, ListLoan};
 use std::alloc::Global;
@@ -63,6 +65,20 @@ pub extern "C" fn spdx_slices_close(alloc: Global, handle: &mut ListHandle) -> R
         }
         None => plain(report::ARGUMENT),
     }
+}
+
+/// Tells what the list says of a name.
+#[unsafe(no_mangle)]
+pub extern "C" fn spdx_slices_listed(list: &mut ListLoan, name: &[u8]) -> Report
+    ensures call { IsListedCall (rows_lent list.old) name.now result }
+    ensures kept { rows_lent list.new ≡ rows_lent list.old }
+{
+    let Some(seen) = list.take() else {
+        return plain(report::ARGUMENT);
+    };
+    let report = of_listing(spdx_calls::listed(seen.get(), name));
+    list.put_back(seen);
+    report
 }
 
 /// Whether the text is an expression.

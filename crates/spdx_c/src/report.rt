@@ -3,7 +3,7 @@
 ghost use Rattle.std.specs.Prelude.{◌≡◌};
 ghost use Rattle.spdx_c.specs.Reports as spec;
 
-use spdx_calls::{Answered, CallFault, Put, Refusal};
+use spdx_calls::{Answered, CallFault, Listing, Put, Refusal};
 use spdx_meaning::Relation;
 
 /// What was asked is so, and what was to be written is.
@@ -46,7 +46,7 @@ pub struct Report {
     /// The byte behind the fault.
     pub end: usize,
     /// Which licensee or which of two texts, counted from 0; how many licensees are useful, or sets are made; how many bits
-    /// are wanted; or how two expressions compare.
+    /// are wanted; how two expressions compare; or what the list says of a name.
     pub number: usize,
     /// How many bytes the text has that was to be written, at `OK` and `SHORT`.
     pub length: usize,
@@ -180,6 +180,26 @@ pub(crate) fn of_relation(answer: Result<Relation, CallFault>) -> Report
 {
     match answer {
         Ok(relation) => with_number(OK, relation_number(relation)),
+        Err(fault) => of_fault(fault),
+    }
+}
+
+// The number of what a list says of a name.
+fn listing_number(listing: Listing) -> usize
+    ensures { result ≡ spec.listing_number listing }
+{
+    match listing {
+        Listing::Unlisted => 0,
+        Listing::Current => 1,
+        Listing::Deprecated => 2,
+    }
+}
+
+pub(crate) fn of_listing(answer: Result<Listing, CallFault>) -> Report
+    ensures { result ≡ spec.of_listing answer }
+{
+    match answer {
+        Ok(listing) => with_number(OK, listing_number(listing)),
         Err(fault) => of_fault(fault),
     }
 }

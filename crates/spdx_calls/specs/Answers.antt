@@ -1,11 +1,13 @@
 -- What the calls answer.
-use Rattle.std.specs.Prelude.{◌≡◌, ℕ, Bool, List, [], ◌∷◌, ◌++◌, Option, Some, None, Ok}
+use Rattle.std.specs.Prelude.{◌≡◌, ℕ, Bool, true, false, List, [], ◌∷◌, ◌++◌, Option, Some, None, Ok}
 use Rattle.std.specs.List.{flat_map}
 use Rattle.line_engine.specs.Lines.{lines_of}
 use Rattle.line_engine.specs.Output.{output_of, summary_of}
-use Rattle.spdx_requirement.specs.Rows.{Rows}
+use Rattle.spdx_requirement.specs.Rows.{Rows, LicenseRow, ExceptionRow}
+use Rattle.spdx_requirement.specs.Flags.{is_deprecated}
 use Rattle.spdx_requirement.specs.Items.{Requirement}
 use Rattle.spdx_requirement.specs.Texts.{requirement_text}
+use Rattle.spdx_catalogue.specs.LookUps.{listed_caseless, listed_exception_caseless}
 use Rattle.spdx_lexer.specs.declared.token.ParseMode.{ParseMode}
 use Rattle.spdx_parser.specs.Tree.{leaves}
 use Rattle.spdx_canonical.specs.Canonical.{canonical_of}
@@ -20,6 +22,8 @@ use Rattle.spdx_lines.specs.Verdict.{Verdict, IsTheVerdict}
 use Rattle.spdx_lines.specs.Lines.{rule_by}
 use Rattle.spdx_calls.specs.declared.buffer.Put.{Put}
 use Rattle.spdx_calls.specs.declared.texts.Answered.{Answered}
+use Rattle.spdx_calls.specs.declared.questions.Listing.{Listing}
+use Rattle.spdx_calls.specs.declared.questions.Listing.TheVariants.{Unlisted, Current, Deprecated}
 use Rattle.spdx_calls.specs.Buffer.{IsPut}
 use Rattle.spdx_calls.specs.Licensees.{AreNamed, accepts}
 
@@ -87,3 +91,18 @@ pub record PutsLines (c : Rows) (mode : LineMode) (licensees input old new : Lis
   pub verdicts : (line : List ℕ) → IsTheVerdict c mode line (verdict line)
   pub is_put : IsPut (output_of (rule_by verdict accepted) input) old new answer.put
   pub counts : answer.summary ≡ summary_of (rule_by verdict accepted) (lines_of input)
+
+-- what is said of a listed name
+abbrev pub listing_by : Bool → Listing
+listing_by false = Current
+listing_by true = Deprecated
+
+abbrev pub listing_among : Option LicenseRow → Option ExceptionRow → Listing
+listing_among (Some r) e = listing_by (is_deprecated r.flags)
+listing_among None (Some e) = listing_by (is_deprecated e.flags)
+listing_among None None = Unlisted
+
+-- what the list says of the licence of a name, in some case, else of the exception
+abbrev pub listing_of : Rows → List ℕ → Listing
+listing_of c name =
+    listing_among (listed_caseless c.licenses name) (listed_exception_caseless c.exceptions name)

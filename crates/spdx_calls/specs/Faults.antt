@@ -42,6 +42,11 @@ IsFixFault text NotText = ¬ (IsUtf8 text)
 IsFixFault text Memory = Unit {0}
 IsFixFault text _ = ⊥
 
+-- nothing is wrong with a name but that it is no text
+abbrev pub IsNameFault : List ℕ → CallFault → Type 0
+IsNameFault name NotText = ¬ (IsUtf8 name)
+IsNameFault name _ = ⊥
+
 -- why a line names no licensee, which would have this number
 abbrev pub IsFaultOfLine : Rows → List ℕ → ℕ → CallFault → Type 0
 IsFaultOfLine c line n (LicenseeNotText k) = (k ≡ n) × ¬ (IsUtf8 line)

@@ -25,5 +25,5 @@ pub use crate::buffer::Put;
 pub use crate::fault::{CallFault, Refusal, reason_text};
 pub use crate::listing::requirements;
 pub use crate::meaning::{compare, simplify};
-pub use crate::questions::{check, choose, evaluate};
+pub use crate::questions::{Listing, check, choose, evaluate, listed};
 pub use crate::texts::{Answered, canonical, fix, lines, normal};

@@ -1,8 +1,9 @@
-//! Whether a text is an expression, whether licensees meet it, and which of them it takes.
+//! Whether a text is an expression, whether licensees meet it, which of them it takes, and what the list says of a name.
 
 ghost use Rattle.std.specs.Prelude.{◌≡◌, ◌++◌, [], OnOk, OnErr, IfOk, IfErr, map};
-ghost use Rattle.spdx_calls.specs.Faults.{IsTextFault};
+ghost use Rattle.spdx_calls.specs.Faults.{IsTextFault, IsNameFault};
 ghost use Rattle.spdx_calls.specs.Questions.{IsQuestionFault, IsChoiceFault};
+ghost use Rattle.spdx_calls.specs.Answers as spec;
 ghost use Rattle.spdx_calls.specs.Answers.{Reads, IsTruth, PutsChoice, lines_text};
 ghost use Rattle.spdx_requirement.specs.Items.{requirement_of};
 ghost use Rattle.spdx_requirement.specs.Texts.{requirement_text};
@@ -14,6 +15,55 @@ use crate::listing::requirement_lines;
 use crate::reading::read;
 use spdx::{Catalogue, Failure, LicenseReq, MinimizeError, ParseMode};
 use std::alloc::Global;
+
+/// What a list says of a name.
+#[derive(Clone, Copy, PartialEq, Eq, Debug)]
+pub enum Listing {
+    /// It has no such name.
+    Unlisted,
+    /// It has the name, which isn't deprecated.
+    Current,
+    /// It has the name, which is deprecated.
+    Deprecated,
+}
+
+/// What the list says of a name, the case of ASCII letters aside: of the licence of that name, else of the exception.
+/// Takes the time of two look-ups, and no memory.
+///
+/// # Errors
+///
+/// `NotText`.
+pub fn listed(catalogue: &Catalogue, name: &[u8]) -> Result<Listing, CallFault>
+    ensures ok { IfOk result (λ listing. listing ≡ spec.listing_of catalogue.now name.now) }
+    ensures err { IfErr result (IsNameFault name.now) }
+{
+    match str::from_utf8(name) {
+        Ok(name) => Ok(listing_of(catalogue, name)),
+        Err(_) => Err(CallFault::NotText),
+    }
+}
+
+fn listing_of(catalogue: &Catalogue, name: &str) -> Listing
+    ensures { result ≡ spec.listing_of catalogue.now name.now }
+{
+    if let Some(id) = catalogue.license_id_caseless(name) {
+        return listing_by(id.is_deprecated());
+    }
+    match catalogue.exception_id_caseless(name) {
+        Some(id) => listing_by(id.is_deprecated()),
+        None => Listing::Unlisted,
+    }
+}
+
+fn listing_by(is_deprecated: bool) -> Listing
+    ensures { result ≡ spec.listing_by is_deprecated }
+{
+    if is_deprecated {
+        Listing::Deprecated
+    } else {
+        Listing::Current
+    }
+}
 
 /// Whether the text is an expression in this mode. Linear in the text, besides the look-up of each name.
 ///
