@@ -4,8 +4,8 @@
 //! the report alone, so it says of each package what the policy says of it.
 //!
 //! ```rust
-//! // crates/spdx_program/src/gate.rt
-//! let run = gate_program::gate(alloc, &shelf, inside(), HEIRS.as_bytes(), asked)?;
+//! // crates/package_commands/src/gated.rt
+//! let outcome = gate_program::gate(alloc, shelf, inside, heirs, asked.run)?;
 //! ```
 //!
 //! It stands on `list_program`, `package_files`, `gate_told` and `spdx_gate`.

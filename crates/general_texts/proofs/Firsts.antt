@@ -56,7 +56,7 @@ kept_with n x es false false same there =
     ∙ sym (ap (λ (c : Bool). if c || has_name (filter (is_other n) es) x then n ∷ filter (is_other n) es else n ∷ filter (is_other n) es ++ x ∷ []) same
     ∙ ap (λ (c : Bool). if c then n ∷ filter (is_other n) es else n ∷ filter (is_other n) es ++ x ∷ []) (has_kept n x es same ∙ there))
 
-first_more : (names : List (List ℕ)) (x : List ℕ) → each_first (names ++ x ∷ []) ≡ with_name (each_first names) x
+pub first_more : (names : List (List ℕ)) (x : List ℕ) → each_first (names ++ x ∷ []) ≡ with_name (each_first names) x
 first_more [] x = refl
 first_more (n ∷ names) x =
     ap (λ (z : List (List ℕ)). n ∷ filter (is_other n) z) (first_more names x)

@@ -2,8 +2,8 @@
 //! differs from an older one.
 //!
 //! ```rust
-//! // crates/spdx_program/src/list/show.rt
-//! let shown = list_told::show(alloc, &shelf, inside(), HEIRS.as_bytes(), asked)?;
+//! // crates/spdx_commands/src/lists.rt
+//! let shown = list_told::show(alloc, shelf, inside, heirs, asked)?;
 //! ```
 //!
 //! It stands on `list_program`, `spdx_list`, `spdx_canonical` and `spdx_hints`.

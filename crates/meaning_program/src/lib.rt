@@ -2,8 +2,8 @@
 //! each line of a file means.
 //!
 //! ```rust
-//! // crates/spdx_program/src/compare.rt
-//! let told = meaning_program::compare(rt.alloc(), &SystemShelf::new(rt), inside(), asked)?;
+//! // crates/spdx_commands/src/comparison.rt
+//! let told = meaning_program::compare(alloc, shelf, inside, asked)?;
 //! ```
 //!
 //! It stands on `list_program`, `spdx_meaning` and `spdx_canonical`.

@@ -1,15 +1,16 @@
 // The command `diff`: what changed between two lists of packages.
 
-use crate::console::Console;
+use crate::console::{Console, Teller};
 use crate::files::system::System;
 use crate::list::{HEIRS, inside};
-use crate::packages::{read_as, tell_forms};
-use crate::trouble::Trouble;
+use crate::packages::read_as;
 use changes_program::{Request, Run, Totals};
 use line_engine::lines::write_all;
 use package_changes::Format;
+use package_commands::{tell_forms, tell_left_out};
 use package_files::Wanted;
 use shelves::SystemShelf;
+use spdx_troubles::Trouble;
 use spdx_words::{ChangesFormat, ChangesRequest};
 use std::alloc::{AllocError, Global};
 use std::io::Write;
@@ -31,10 +32,9 @@ pub(crate) fn changes<R: System, O: Write + Drop, F: Write + Drop>(
         left_out,
         told,
     } = run;
-    for fault in left_out {
-        console.tell(alloc, &Trouble::from(fault));
-    }
-    tell_forms(alloc, &files, console)?;
+    let mut teller = Teller::new(&mut console.faults, console.screen);
+    tell_left_out(alloc, left_out, &mut teller)?;
+    tell_forms(alloc, &files, &mut teller)?;
     let Some(told) = told else {
         return Ok(status);
     };

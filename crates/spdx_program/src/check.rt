@@ -4,10 +4,10 @@ use crate::console::{Console, Teller};
 use crate::files::system::{System, paths_or_input};
 use crate::list::{self, HEIRS, mode_of};
 use crate::readings::asked;
-use crate::trouble::Trouble;
 use check_program::{Inside, Request};
 use finding_forms::{Format, Style};
 use open_shelves::OpenSystem;
+use spdx_troubles::Trouble;
 use spdx_words::{CheckRequest, FindingFormat};
 use std::io::Write;
 

@@ -1,11 +1,13 @@
 // What each package is used under.
 
+use crate::console::Console;
 use crate::list::mode_of;
-use crate::trouble::Trouble;
 use choice_program::{ChoiceTrouble, Unchosen, Why};
 use policy_choices::Accepted;
+use spdx_troubles::Trouble;
 use spdx_words::Accepted as Words;
 use std::alloc::{AllocError, Global};
+use std::io::Write;
 
 // Whom one choice for all is for, and why there is none.
 const ALL: &str = "all packages together";
@@ -21,26 +23,38 @@ pub(crate) fn accepted<'a>(words: Words<'a>) -> Accepted<'a> {
     }
 }
 
-/// Why nothing is chosen, as it is told.
-pub(crate) fn trouble_of(alloc: Global, trouble: ChoiceTrouble) -> Result<Trouble, AllocError> {
+/// Tells why nothing is chosen, and answers the greatest status.
+pub(crate) fn tell_unchosen<O: Write + Drop, F: Write + Drop>(
+    alloc: Global,
+    trouble: ChoiceTrouble,
+    console: &mut Console<O, F>,
+) -> Result<u8, Trouble> {
     match trouble {
         ChoiceTrouble::NoLicensee(name, reason) => {
-            Ok(Trouble::Accepted(name, format!(in alloc; "{reason}")?))
+            Err(Trouble::Accepted(name, format!(in alloc; "{reason}")?))
         }
-        ChoiceTrouble::Policy(trouble) => Ok(Trouble::from(trouble)),
-        ChoiceTrouble::NoChoices(lacking) => {
-            let mut all = Vec::new(alloc);
-            for one in lacking {
-                let Unchosen { name, why } = one;
-                all.push(Trouble::NoChoice(name, why_text(alloc, why)?))?;
-            }
-            Ok(Trouble::Several(all))
-        }
+        ChoiceTrouble::Policy(trouble) => Err(Trouble::from(trouble)),
+        ChoiceTrouble::NoChoices(lacking) => tell_each(alloc, lacking, console),
         ChoiceTrouble::NoneTogether(why) => {
-            Ok(Trouble::NoChoice(String::from_str(alloc, ALL)?, why_text(alloc, why)?))
+            let name = String::from_str(alloc, ALL)?;
+            Err(Trouble::NoChoice(name, why_text(alloc, why)?))
         }
-        ChoiceTrouble::Memory => Ok(Trouble::Memory),
+        ChoiceTrouble::Memory => Err(Trouble::Memory),
     }
+}
+
+fn tell_each<O: Write + Drop, F: Write + Drop>(
+    alloc: Global,
+    lacking: Vec<Unchosen>,
+    console: &mut Console<O, F>,
+) -> Result<u8, Trouble> {
+    let mut status = 0;
+    for one in lacking {
+        let Unchosen { name, why } = one;
+        let trouble = Trouble::NoChoice(name, why_text(alloc, why)?);
+        status = console.tell(alloc, &trouble).max(status);
+    }
+    Ok(status)
 }
 
 fn why_text(alloc: Global, why: Why) -> Result<String, AllocError> {

@@ -3,10 +3,9 @@
 use crate::console::Console;
 use crate::files::system::System;
 use crate::list::inside;
-use crate::trouble::Trouble;
-use line_engine::lines::write_all;
 use meaning_program::Asked;
 use shelves::SystemShelf;
+use spdx_troubles::Trouble;
 use spdx_words::CompareRequest;
 use std::io::Write;
 
@@ -22,7 +21,6 @@ pub(crate) fn compare<R: System, O: Write + Drop, F: Write + Drop>(
         one: request.one,
         other: request.other,
     };
-    let told = meaning_program::compare(rt.alloc(), &SystemShelf::new(rt), inside(), asked)?;
-    write_all(&mut console.output, &told.text)?;
-    Ok(u8::from(!told.is_same))
+    let shelf = SystemShelf::new(rt);
+    spdx_commands::compare(rt.alloc(), &shelf, inside(), asked, &mut console.output)
 }

@@ -2,11 +2,12 @@
 
 ghost use Rattle.std.specs.Prelude.{None};
 
-use crate::trouble::Trouble;
 use check_files::{CheckTrouble, Telling};
 use fix_program::Progress;
 use line_engine::lines::write_all;
 use line_engine::stream::Output;
+use spdx_commands::Listener;
+use spdx_troubles::Trouble;
 use std::alloc::{AllocError, Global};
 use std::io::{self, Write};
 
@@ -58,35 +59,32 @@ pub(crate) struct Console<O: Drop, F: Drop> {
 }
 
 impl<O: Write + Drop, F: Write + Drop> Console<O, F> {
-    /// Tells a trouble, or each of several, as far as that goes, and answers the greatest status.
+    /// Tells a trouble, as far as that goes, and answers its status.
     pub(crate) fn tell(&mut self, alloc: Global, trouble: &Trouble) -> u8 {
-        let Trouble::Several(all) = trouble else {
-            return self.tell_one(alloc, trouble);
-        };
-        let mut status = 0;
-        for one in all {
-            status = self.tell_one(alloc, one).max(status);
-        }
-        status
-    }
-
-    fn tell_one(&mut self, alloc: Global, trouble: &Trouble) -> u8 {
         tell_on(alloc, trouble, &mut self.faults)
     }
 }
 
-// Tells a trouble that is not several.
+// Tells a trouble; where memory for its line is refused, that is told instead.
 fn tell_on<F: Write + Drop>(alloc: Global, trouble: &Trouble, faults: &mut Output<F>) -> u8 {
-    match trouble.line(alloc) {
-        Ok(line) => {
-            let _ = write_all(faults, &line);
-            trouble.status()
-        }
+    match put_line(alloc, trouble, faults) {
+        Ok(()) => trouble.status(),
         Err(AllocError) => {
             let _ = write_all(faults, b"spdx: out of memory\n");
             3
         }
     }
+}
+
+// Writes the line of a trouble, as far as that goes.
+fn put_line<F: Write + Drop>(
+    alloc: Global,
+    trouble: &Trouble,
+    faults: &mut Output<F>,
+) -> Result<(), AllocError> {
+    let line = trouble.line(alloc)?;
+    let _ = write_all(faults, line.as_bytes());
+    Ok(())
 }
 
 // Shows how many files a walk has seen, each thousand of them.
@@ -125,7 +123,7 @@ impl<O: Write + Drop, F: Write + Drop> Progress for Console<O, F> {
     }
 }
 
-/// Who is told of a check's troubles, while its output is in use.
+/// Who is told of troubles while the output is in use.
 #[derive(Drop)]
 pub(crate) struct Teller<'c, F: Drop> {
     faults: &'c mut Output<F>,
@@ -142,8 +140,7 @@ impl<F: Write + Drop> Telling for Teller<'_, F> {
     ghost told = { λ _. None };
 
     fn tell(&mut self, alloc: Global, trouble: CheckTrouble) -> Result<(), AllocError> {
-        tell_on(alloc, &Trouble::from(trouble), self.faults);
-        Ok(())
+        put_line(alloc, &Trouble::from(trouble), self.faults)
     }
 
     fn seen(&mut self, alloc: Global, files: u64) -> Result<(), AllocError> {
@@ -152,5 +149,13 @@ impl<F: Write + Drop> Telling for Teller<'_, F> {
 
     fn ended(&mut self) {
         end_on(self.screen, self.faults);
+    }
+}
+
+impl<F: Write + Drop> Listener for Teller<'_, F> {
+    ghost heard = { λ _. None };
+
+    fn hear(&mut self, alloc: Global, trouble: Trouble) -> Result<(), AllocError> {
+        put_line(alloc, &trouble, self.faults)
     }
 }

@@ -2,17 +2,17 @@
 
 use crate::console::Console;
 use crate::files::left::{tell_left, tell_left_beside};
-use crate::files::replace::{Loss, replace};
+use crate::files::replace::{Loss, Obstacle, replace};
 use crate::files::system::{System, paths_or_input};
 use crate::list::inside;
 use crate::readings;
-use crate::trouble::Trouble;
 use fix_program::{Deed, FileEnd, Fixed, Manner, PathEnd, Replacement, Request, Run, file_fixed};
 use line_engine::lines::write_all;
 use shelves::{Stamp, SystemShelf};
 use spdx::Catalogue;
+use spdx_troubles::Trouble;
 use spdx_words::FixRequest;
-use std::alloc::AllocError;
+use std::alloc::{AllocError, Global};
 use std::collections::BTreeSet;
 use std::io::Write;
 
@@ -166,7 +166,7 @@ fn write<R: System, O: Write + Drop, F: Write + Drop>(
             tell_loss(rt, path.as_str(), loss, console)?;
             Ok(0)
         }
-        Err(obstacle) => pass_over(rt, Trouble::kept(alloc, path.as_str(), obstacle), console),
+        Err(obstacle) => pass_over(rt, kept(alloc, path.as_str(), obstacle), console),
     }
 }
 
@@ -176,11 +176,25 @@ fn tell_loss<R: System, O: Write + Drop, F: Write + Drop>(
     loss: Loss,
     console: &mut Console<O, F>,
 ) -> Result<(), AllocError> {
-    if loss != Loss::Nothing {
-        let lost = Trouble::Lost(String::from_str(rt.alloc(), path)?, loss);
+    if loss == Loss::SetId {
+        let lost = Trouble::Lost(String::from_str(rt.alloc(), path)?);
         console.tell(rt.alloc(), &lost);
     }
     Ok(())
+}
+
+// Why the file at the path stays as it is.
+fn kept(alloc: Global, path: &str, obstacle: Obstacle) -> Trouble {
+    let error = match obstacle {
+        Obstacle::Failed(error) => return Trouble::unwritable(alloc, path, error),
+        obstacle => obstacle,
+    };
+    match (String::from_str(alloc, path), error) {
+        (Ok(path), Obstacle::Changed) => Trouble::Changed(path),
+        (Ok(path), Obstacle::Linked) => Trouble::Linked(path),
+        (Ok(path), Obstacle::Owner(error) | Obstacle::Failed(error)) => Trouble::Owner(path, error),
+        (Err(AllocError), _) => Trouble::Memory,
+    }
 }
 
 // Tells the trouble, if other files are still mended after it.

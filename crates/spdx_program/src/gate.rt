@@ -1,19 +1,18 @@
 // The command `gate`.
 
 use crate::check::VERSION;
-use crate::console::Console;
+use crate::console::{Console, Teller};
 use crate::files::system::{System, paths_or_input};
 use crate::list::{HEIRS, inside};
-use crate::packages::{read_as, tell_forms, tell_shared};
-use crate::trouble::Trouble;
+use crate::packages::read_as;
 use finding_forms::Style;
-use gate_program::{End, GateText, Look, Request, Run};
+use gate_program::{Look, Request};
 use gate_told::Format;
-use line_engine::lines::write_all;
-use package_files::{FileFault, Listed, Wanted};
+use package_commands::Asked;
+use package_files::Wanted;
 use shelves::SystemShelf;
+use spdx_troubles::Trouble;
 use spdx_words::{GateFormat, GateRequest};
-use std::alloc::{AllocError, Global};
 use std::io::Write;
 
 /// Judges the packages that the request names, and answers the status: 0 exactly if every file is read and every package
@@ -23,30 +22,21 @@ pub(crate) fn gate<R: System, O: Write + Drop, F: Write + Drop>(
     request: &GateRequest<'_>,
     console: &mut Console<O, F>,
 ) -> Result<u8, Trouble> {
-    let alloc = rt.alloc();
-    let asked = asked(request, console.screen.colours);
+    let asked = Asked {
+        run: asked(request, console.screen.colours),
+        is_quiet: request.quiet,
+    };
     let shelf = SystemShelf::new(rt);
-    let run = gate_program::gate(alloc, &shelf, inside(), HEIRS.as_bytes(), asked)?;
-    let status = run.status();
-    let Run {
-        files,
-        left_out,
-        end,
-    } = run;
-    tell_read(alloc, request, &files, left_out, console)?;
-    match end {
-        End::NoFile => Ok(status),
-        End::NoBaseline(fault) => Err(Trouble::from(fault)),
-        End::Told(text) => {
-            write(&text, console)?;
-            Ok(status)
-        }
-        End::NoPackage(text) => {
-            write(&text, console)?;
-            let name = request.explain.unwrap_or("");
-            Err(Trouble::NoPackage(String::from_str(alloc, name)?))
-        }
-    }
+    let mut teller = Teller::new(&mut console.faults, console.screen);
+    package_commands::gate(
+        rt.alloc(),
+        &shelf,
+        inside(),
+        HEIRS.as_bytes(),
+        asked,
+        &mut console.output,
+        &mut teller,
+    )
 }
 
 // What the request asks of a run.
@@ -73,32 +63,6 @@ fn asked<'r>(request: &'r GateRequest<'r>, colours: bool) -> Request<'r> {
             tells_unused: request.tells_unused,
         },
     }
-}
-
-// Tells which files are left out, and how the others were read.
-fn tell_read<O: Write + Drop, F: Write + Drop>(
-    alloc: Global,
-    request: &GateRequest<'_>,
-    files: &[Listed],
-    left_out: Vec<FileFault>,
-    console: &mut Console<O, F>,
-) -> Result<(), AllocError> {
-    for fault in left_out {
-        console.tell(alloc, &Trouble::from(fault));
-    }
-    if !request.quiet {
-        tell_forms(alloc, files, console)?;
-        tell_shared(alloc, request.source, files, console)?;
-    }
-    Ok(())
-}
-
-fn write<O: Write + Drop, F: Write + Drop>(
-    text: &GateText,
-    console: &mut Console<O, F>,
-) -> Result<(), Trouble> {
-    write_all(&mut console.output, &text.bytes)?;
-    Ok(())
 }
 
 // The form that was asked for, in this style where it has one.

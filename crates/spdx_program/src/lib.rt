@@ -26,7 +26,6 @@ mod packages;
 mod readings;
 mod serve;
 mod simplify;
-mod trouble;
 
 pub use crate::console::Screen;
 pub use crate::files::system::System;

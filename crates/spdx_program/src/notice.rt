@@ -1,17 +1,18 @@
 // The command `notice`.
 
-use crate::chosen::{accepted, trouble_of};
-use crate::console::Console;
+use crate::chosen::{accepted, tell_unchosen};
+use crate::console::{Console, Teller};
 use crate::files::system::{System, paths_or_input};
 use crate::list::{HEIRS, inside};
-use crate::packages::{read_as, tell_forms, tell_shared};
-use crate::trouble::Trouble;
+use crate::packages::read_as;
 use line_engine::lines::write_all;
 use notice_forms::Format;
 use notice_program::{End, Missing, Request, Run, ToldPage};
 use own_texts::{Folders, OwnTexts as Own};
+use package_commands::{tell_forms, tell_left_out, tell_shared};
 use package_files::Wanted;
 use shelves::SystemShelf;
+use spdx_troubles::Trouble;
 use spdx_words::{NoticeRequest, OwnTexts, PageFormat};
 use std::alloc::{AllocError, Global};
 use std::io::{self, ErrorKind, Write};
@@ -38,17 +39,16 @@ pub(crate) fn notice<R: System, O: Write + Drop, F: Write + Drop>(
         left_out,
         end,
     } = run;
-    for fault in left_out {
-        console.tell(alloc, &Trouble::from(fault));
-    }
-    tell_forms(alloc, &files, console)?;
-    tell_shared(alloc, request.source, &files, console)?;
+    let mut teller = Teller::new(&mut console.faults, console.screen);
+    tell_left_out(alloc, left_out, &mut teller)?;
+    tell_forms(alloc, &files, &mut teller)?;
+    tell_shared(alloc, asked.wanted.source, &files, &mut teller)?;
     match end {
         End::LeftOut => Ok(status),
-        End::NoChoice(trouble) => Err(trouble_of(alloc, trouble)?),
+        End::NoChoice(trouble) => tell_unchosen(alloc, trouble, console),
         End::NoFolder(trouble) => Err(folder_trouble(trouble)),
-        End::NoOwn(troubles) => Err(all_told(alloc, troubles, OWN_LINK)?),
-        End::NoGeneral(troubles) => Err(all_told(alloc, troubles, GENERAL_LINK)?),
+        End::NoOwn(troubles) => tell_texts(alloc, troubles, OWN_LINK, console),
+        End::NoGeneral(troubles) => tell_texts(alloc, troubles, GENERAL_LINK, console),
         End::NotUtf8(name) => Err(no_utf8(alloc, name)?),
         End::Told(notice) => {
             put(alloc, console, &notice)?;
@@ -128,13 +128,19 @@ fn no_utf8(alloc: Global, name: String) -> Result<Trouble, AllocError> {
     Ok(Trouble::Text(name, why))
 }
 
-// Each of the texts that aren't had; of a link that leads out of the folder this is told.
-fn all_told(alloc: Global, troubles: Vec<TextTrouble>, link: &str) -> Result<Trouble, AllocError> {
-    let mut all = Vec::new(alloc);
+// Tells each of the texts that aren't had, and answers the greatest status; of a link that leads out of the folder this is told.
+fn tell_texts<O: Write + Drop, F: Write + Drop>(
+    alloc: Global,
+    troubles: Vec<TextTrouble>,
+    link: &str,
+    console: &mut Console<O, F>,
+) -> Result<u8, Trouble> {
+    let mut status = 0;
     for trouble in troubles {
-        all.push(told(alloc, trouble, link)?)?;
+        let trouble = told(alloc, trouble, link)?;
+        status = console.tell(alloc, &trouble).max(status);
     }
-    Ok(Trouble::Several(all))
+    Ok(status)
 }
 
 fn told(alloc: Global, trouble: TextTrouble, link: &str) -> Result<Trouble, AllocError> {

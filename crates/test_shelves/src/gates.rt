@@ -1,17 +1,21 @@
-// What the gate says of files, over a shelf of values.
+// What `gate` writes and tells of files, and with which status it ends, over a shelf of values.
 //
-// The first rows are the shelf's files, as `shelf` reads them. A row `PATHS | POLICY | WORDS => WANTED` has the status and the
-// faults of files that are left out, in brackets; and then what is told in the short form, with ` / ` between lines, or how else
-// the run ends. The words are `list PATH`, `before PATH`, `explain NAME` or `empty`. A line that begins with `#` says something
-// to readers.
+// The first rows are the shelf's files, as `shelf` reads them. A row `PATHS | POLICY | WORDS => WANTED` has the status, what is
+// written in the short form, with ` / ` between lines, and each line that is told, in brackets. The words are `list PATH`,
+// `before PATH`, `explain NAME`, `empty`, or `auto`, by which the form of the files is guessed; else each of their lines is a
+// package. A line that begins with `#` says something to readers.
 
-use crate::shelf::{HEIRS, inside, lines_of, shelf_of, told_fault, told_faults};
+use crate::commands::Told;
+use crate::shelf::{HEIRS, inside, lines_of, shelf_of};
 use finding_forms::Style;
-use gate_program::{End, GateTrouble, Look, PolicyTrouble, Request, Run, gate};
+use gate_program::{Look, Request};
 use gate_told::Format;
+use line_engine::stream::Output;
+use package_commands::{Asked, gate};
 use package_files::{Source, Wanted};
 use package_sources::Form;
 use shelves::Held;
+use spdx_commands::Listener;
 use std::alloc::{AllocError, Global};
 use test_rows::Tally;
 
@@ -35,15 +39,34 @@ fn answer(alloc: Global, shelf: &Held, given: &str) -> Result<String, AllocError
     let (policy, words) = rest.split_once(" | ").unwrap_or((rest, ""));
     let paths: Vec<&str> = paths.split(' ').collect(alloc)?;
     let request = request(&paths, policy, words);
-    match gate(alloc, shelf, inside(), HEIRS.as_bytes(), request) {
-        Ok(run) => told(alloc, &run),
-        Err(GateTrouble::List(_)) => String::from_str(alloc, "no list"),
-        Err(GateTrouble::Policy(PolicyTrouble::Memory) | GateTrouble::Memory) => Err(AllocError),
-        Err(GateTrouble::Policy(PolicyTrouble::Unreadable(path, _))) => {
-            format!(in alloc; "unreadable policy {path}")
+    let asked = Asked {
+        run: request,
+        is_quiet: false,
+    };
+    let mut written = Output::new(Vec::new(alloc));
+    let mut told = Told::new(alloc);
+    let heirs = HEIRS.as_bytes();
+    let end = gate(
+        alloc,
+        shelf,
+        inside(),
+        heirs,
+        asked,
+        &mut written,
+        &mut told,
+    );
+    let status = match end {
+        Ok(status) => status,
+        Err(trouble) => {
+            let status = trouble.status();
+            told.hear(alloc, trouble)?;
+            status
         }
-        Err(GateTrouble::Policy(_)) => String::from_str(alloc, "no policy"),
-    }
+    };
+    let mut answer = format!(in alloc; "{status}:")?;
+    answer.push_str(lines_of(alloc, &written.into_inner())?.as_str())?;
+    answer.push_str(told.in_brackets(alloc)?.as_str())?;
+    Ok(answer)
 }
 
 fn request<'r>(paths: &'r [&'r str], policy: &'r str, words: &'r str) -> Request<'r> {
@@ -51,7 +74,11 @@ fn request<'r>(paths: &'r [&'r str], policy: &'r str, words: &'r str) -> Request
         list: words.strip_prefix("list "),
         policy,
         wanted: Wanted {
-            source: Source::Named(Form::Lines),
+            source: if words == "auto" {
+                Source::Auto
+            } else {
+                Source::Named(Form::Lines)
+            },
             allow_empty: words == "empty",
             exclude_own: false,
         },
@@ -63,28 +90,5 @@ fn request<'r>(paths: &'r [&'r str], policy: &'r str, words: &'r str) -> Request
             explain: words.strip_prefix("explain "),
             tells_unused: false,
         },
-    }
-}
-
-fn told(alloc: Global, run: &Run) -> Result<String, AllocError> {
-    let status = run.status();
-    let mut told = format!(in alloc; "{status}:")?;
-    told.push_str(told_faults(alloc, &run.left_out)?.as_str())?;
-    told.push_str(told_end(alloc, &run.end)?.as_str())?;
-    Ok(told)
-}
-
-fn told_end(alloc: Global, end: &End) -> Result<String, AllocError> {
-    match end {
-        End::NoFile => String::from_str(alloc, " no file"),
-        End::NoBaseline(fault) => {
-            let fault = told_fault(alloc, fault)?;
-            format!(in alloc; " no baseline: {fault}")
-        }
-        End::Told(text) => lines_of(alloc, &text.bytes),
-        End::NoPackage(text) => {
-            let text = lines_of(alloc, &text.bytes)?;
-            format!(in alloc; " no package{text}")
-        }
     }
 }

@@ -1,7 +1,7 @@
 //! The rows of what is read over a shelf of values: which list, which packages, what the gate
 //! says of them, what changed between two lists of them, how two expressions compare, what each line means, what a
 //! list says of names, by what two lists differ, which files are below a folder, what mends files, what packages are used
-//! under, the page of their texts, and what is found in files and folders.
+//! under, the page of their texts, what is found in files and folders, and what commands write and tell.
 //!
 //! Each part has its rows in a file that lies where the program runs, NAME.rows, and is told behind a line `== PART`: those
 //! that don't hold, then how many do. The head of each module has the form of its rows.
@@ -9,6 +9,7 @@
 
 mod checks;
 mod choices;
+mod commands;
 mod compares;
 mod diffs;
 mod fixes;
@@ -68,6 +69,9 @@ fn start(rt: &HostRuntime) -> io::Result<u8> {
     shown.push_str("== checks\n")?;
     let rows = fs::read_to_string(rt, "checks.rows")?;
     let are_checks_good = checks::try_rows(rt.alloc(), &mut shown, rows.as_str())?;
+    shown.push_str("== commands\n")?;
+    let rows = fs::read_to_string(rt, "commands.rows")?;
+    let are_commands_good = commands::try_rows(rt.alloc(), &mut shown, rows.as_str())?;
     io::writer(rt).write_all(shown.as_bytes())?;
     let are_good = are_lists_good
         && are_packages_good
@@ -81,7 +85,8 @@ fn start(rt: &HostRuntime) -> io::Result<u8> {
         && are_trees_good
         && are_fixes_good
         && are_choices_good
-        && are_checks_good;
+        && are_checks_good
+        && are_commands_good;
     Ok(u8::from(!are_good))
 }
 

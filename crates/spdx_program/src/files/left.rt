@@ -2,8 +2,8 @@
 
 use crate::console::Console;
 use crate::files::system::{System, is_folder};
-use crate::trouble::Trouble;
 use source_trees::is_beside;
+use spdx_troubles::Trouble;
 use std::alloc::Global;
 use std::collections::BTreeSet;
 use std::fs;

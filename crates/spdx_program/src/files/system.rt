@@ -1,6 +1,6 @@
 // What the program asks of the system.
 
-use crate::trouble::Trouble;
+use spdx_troubles::Trouble;
 use std::fs;
 use std::io::Input;
 use std::random::RandomSource;

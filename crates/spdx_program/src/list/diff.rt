@@ -3,10 +3,9 @@
 use crate::console::Console;
 use crate::files::system::System;
 use crate::list::{HEIRS, inside};
-use crate::trouble::Trouble;
-use line_engine::lines::write_all;
 use list_told::Lists;
 use shelves::SystemShelf;
+use spdx_troubles::Trouble;
 use spdx_words::DiffRequest;
 use std::io::Write;
 
@@ -21,7 +20,14 @@ pub(crate) fn diff<R: System, O: Write + Drop, F: Write + Drop>(
         old: request.old,
         new: request.new,
     };
-    let text = list_told::diff(rt.alloc(), &shelf, inside(), HEIRS.as_bytes(), lists)?;
-    write_all(&mut console.output, &text)?;
+    let heirs = HEIRS.as_bytes();
+    spdx_commands::diff(
+        rt.alloc(),
+        &shelf,
+        inside(),
+        heirs,
+        lists,
+        &mut console.output,
+    )?;
     Ok(0)
 }

@@ -2,9 +2,9 @@
 
 use crate::console::Console;
 use crate::files::system::System;
-use crate::trouble::Trouble;
-use list_program::{MadeOf, put_made_list};
+use list_program::MadeOf;
 use shelves::SystemShelf;
+use spdx_troubles::Trouble;
 use spdx_words::MakeRequest;
 use std::io::Write;
 
@@ -19,11 +19,7 @@ pub(crate) fn make<R: System, O: Write + Drop, F: Write + Drop>(
         exceptions: request.exceptions,
         extras: request.extras,
     };
-    put_made_list(
-        rt.alloc(),
-        &SystemShelf::new(rt),
-        paths,
-        &mut console.output,
-    )?;
+    let shelf = SystemShelf::new(rt);
+    spdx_commands::make(rt.alloc(), &shelf, paths, &mut console.output)?;
     Ok(0)
 }

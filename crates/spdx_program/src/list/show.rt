@@ -1,12 +1,11 @@
 // The command `list show`.
 
-use crate::console::Console;
+use crate::console::{Console, Teller};
 use crate::files::system::System;
 use crate::list::{HEIRS, inside};
-use crate::trouble::Trouble;
-use line_engine::lines::write_all;
-use list_told::{Asked, Shown, Unlisted};
+use list_told::Asked;
 use shelves::SystemShelf;
+use spdx_troubles::Trouble;
 use spdx_words::ShowRequest;
 use std::io::Write;
 
@@ -16,20 +15,19 @@ pub(crate) fn show<R: System, O: Write + Drop, F: Write + Drop>(
     request: &ShowRequest<'_>,
     console: &mut Console<O, F>,
 ) -> Result<u8, Trouble> {
-    let alloc = rt.alloc();
-    let shelf = SystemShelf::new(rt);
     let asked = Asked {
         list: request.list,
         names: request.names.as_slice(),
     };
-    let shown = list_told::show(alloc, &shelf, inside(), HEIRS.as_bytes(), asked)?;
-    let mut status = shown.status();
-    let Shown { text, unlisted } = shown;
-    write_all(&mut console.output, &text)?;
-    for Unlisted { name, told } in unlisted {
-        status = console
-            .tell(alloc, &Trouble::Unlisted(name, told))
-            .max(status);
-    }
-    Ok(status)
+    let shelf = SystemShelf::new(rt);
+    let mut teller = Teller::new(&mut console.faults, console.screen);
+    spdx_commands::show(
+        rt.alloc(),
+        &shelf,
+        inside(),
+        HEIRS.as_bytes(),
+        asked,
+        &mut console.output,
+        &mut teller,
+    )
 }

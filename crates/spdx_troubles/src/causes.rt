@@ -14,24 +14,44 @@ use package_files::FileFault;
 use std::alloc::{AllocError, AllocFailed};
 
 impl From<AllocError> for Trouble {
+    ghost use Rattle.std.specs.Prelude.{◌≡◌};
+    ghost use Rattle.spdx_troubles.specs.declared.trouble.Trouble.TheVariants.{Memory};
+
+    ghost from_gives = { λ _ t. t ≡ Memory };
+
     fn from(_error: AllocError) -> Trouble {
         Trouble::Memory
     }
 }
 
 impl<T: Drop> From<AllocFailed<T>> for Trouble {
+    ghost use Rattle.std.specs.Prelude.{◌≡◌};
+    ghost use Rattle.spdx_troubles.specs.declared.trouble.Trouble.TheVariants.{Memory};
+
+    ghost from_gives = { λ _ t. t ≡ Memory };
+
     fn from(_error: AllocFailed<T>) -> Trouble {
         Trouble::Memory
     }
 }
 
 impl From<Failed> for Trouble {
+    ghost use Rattle.std.specs.Prelude.{◌≡◌};
+    ghost use Rattle.spdx_troubles.specs.declared.trouble.Trouble.TheVariants.{Output};
+
+    ghost from_gives = { λ _ t. t ≡ Output };
+
     fn from(_error: Failed) -> Trouble {
         Trouble::Output
     }
 }
 
 impl From<ListTrouble> for Trouble {
+    ghost use Rattle.std.specs.Prelude.{◌≡◌};
+    ghost use Rattle.spdx_troubles.specs.Causes.{list_trouble};
+
+    ghost from_gives = { λ trouble t. t ≡ list_trouble trouble };
+
     fn from(trouble: ListTrouble) -> Trouble {
         match trouble {
             ListTrouble::Unreadable(path, error) => Trouble::of_path(path, error),
@@ -46,6 +66,11 @@ impl From<ListTrouble> for Trouble {
 }
 
 impl From<FileFault> for Trouble {
+    ghost use Rattle.std.specs.Prelude.{◌≡◌};
+    ghost use Rattle.spdx_troubles.specs.Causes.{file_trouble};
+
+    ghost from_gives = { λ fault t. t ≡ file_trouble fault };
+
     fn from(fault: FileFault) -> Trouble {
         match fault {
             FileFault::Unreadable(path, error) => Trouble::of_path(path, error),
@@ -57,6 +82,11 @@ impl From<FileFault> for Trouble {
 }
 
 impl From<PolicyTrouble> for Trouble {
+    ghost use Rattle.std.specs.Prelude.{◌≡◌};
+    ghost use Rattle.spdx_troubles.specs.Causes.{policy_trouble};
+
+    ghost from_gives = { λ trouble t. t ≡ policy_trouble trouble };
+
     fn from(trouble: PolicyTrouble) -> Trouble {
         match trouble {
             PolicyTrouble::Unreadable(path, error) => Trouble::of_path(path, error),
@@ -68,6 +98,11 @@ impl From<PolicyTrouble> for Trouble {
 }
 
 impl From<GateTrouble> for Trouble {
+    ghost use Rattle.std.specs.Prelude.{◌≡◌};
+    ghost use Rattle.spdx_troubles.specs.Causes.{gate_trouble};
+
+    ghost from_gives = { λ trouble t. t ≡ gate_trouble trouble };
+
     fn from(trouble: GateTrouble) -> Trouble {
         match trouble {
             GateTrouble::List(trouble) => Trouble::from(trouble),
@@ -78,6 +113,11 @@ impl From<GateTrouble> for Trouble {
 }
 
 impl From<NoticeTrouble> for Trouble {
+    ghost use Rattle.std.specs.Prelude.{◌≡◌};
+    ghost use Rattle.spdx_troubles.specs.Causes.{notice_trouble};
+
+    ghost from_gives = { λ trouble t. t ≡ notice_trouble trouble };
+
     fn from(trouble: NoticeTrouble) -> Trouble {
         match trouble {
             NoticeTrouble::List(trouble) => Trouble::from(trouble),
@@ -87,6 +127,11 @@ impl From<NoticeTrouble> for Trouble {
 }
 
 impl From<MeaningTrouble> for Trouble {
+    ghost use Rattle.std.specs.Prelude.{◌≡◌};
+    ghost use Rattle.spdx_troubles.specs.Causes.{meaning_trouble};
+
+    ghost from_gives = { λ trouble t. t ≡ meaning_trouble trouble };
+
     fn from(trouble: MeaningTrouble) -> Trouble {
         match trouble {
             MeaningTrouble::List(trouble) => Trouble::from(trouble),
@@ -97,6 +142,11 @@ impl From<MeaningTrouble> for Trouble {
 }
 
 impl From<CheckEnd> for Trouble {
+    ghost use Rattle.std.specs.Prelude.{◌≡◌};
+    ghost use Rattle.spdx_troubles.specs.Causes.{check_end_trouble};
+
+    ghost from_gives = { λ end t. t ≡ check_end_trouble end };
+
     fn from(end: CheckEnd) -> Trouble {
         match end {
             CheckEnd::List(trouble) => Trouble::from(trouble),
@@ -107,6 +157,11 @@ impl From<CheckEnd> for Trouble {
 }
 
 impl From<CheckTrouble> for Trouble {
+    ghost use Rattle.std.specs.Prelude.{◌≡◌};
+    ghost use Rattle.spdx_troubles.specs.Causes.{check_trouble};
+
+    ghost from_gives = { λ trouble t. t ≡ check_trouble trouble };
+
     fn from(trouble: CheckTrouble) -> Trouble {
         match trouble {
             CheckTrouble::Unreadable(path, error) => Trouble::of_path(path, error),
@@ -120,6 +175,11 @@ impl From<CheckTrouble> for Trouble {
 }
 
 impl From<FixFault> for Trouble {
+    ghost use Rattle.std.specs.Prelude.{◌≡◌};
+    ghost use Rattle.spdx_troubles.specs.Causes.{fix_fault_trouble};
+
+    ghost from_gives = { λ fault t. t ≡ fix_fault_trouble fault };
+
     fn from(fault: FixFault) -> Trouble {
         match fault {
             FixFault::List(trouble) => Trouble::from(trouble),
@@ -129,6 +189,10 @@ impl From<FixFault> for Trouble {
 }
 
 impl From<FixTrouble> for Trouble {
+    ghost use Rattle.spdx_troubles.specs.Causes.{IsFixTrouble};
+
+    ghost from_gives = { IsFixTrouble };
+
     fn from(trouble: FixTrouble) -> Trouble {
         match trouble {
             FixTrouble::Unreadable(path, error) => Trouble::of_path(path, error),

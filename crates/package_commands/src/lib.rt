@@ -1,0 +1,17 @@
+//! What the commands over packages write and tell, over a shelf of files, and with which status they end.
+//!
+//! ```rust
+//! // crates/spdx_program/src/gate.rt
+//! package_commands::gate(
+//! ```
+//!
+//! Here is `gate`. It stands on `gate_program`, `document_references` and `spdx_commands`.
+#![tactic(auto)]
+
+mod forms;
+mod gated;
+mod shared;
+
+pub use crate::forms::tell_forms;
+pub use crate::gated::{Asked, gate, tell_left_out};
+pub use crate::shared::tell_shared;

@@ -1,0 +1,4 @@
+pub mod Stops
+pub mod Compare
+pub mod Lists
+pub mod Simplify

@@ -1,0 +1,22 @@
+// Who is told of troubles.
+
+ghost use Rattle.std.specs.Prelude.{Option, List, ◌∷◌, [], OnOk};
+ghost use Rattle.check_files.specs.Told.{Hears};
+ghost use Rattle.spdx_troubles.specs.declared.trouble.Trouble as the_trouble;
+
+use spdx_troubles::Trouble;
+use std::alloc::{AllocError, Global};
+
+/// Who is told of troubles when they happen.
+pub trait Listener {
+    // The troubles that it was told so far, where it keeps them.
+    ghost heard: { Self → Option (List the_trouble.Trouble) };
+
+    /// Takes a trouble.
+    ///
+    /// # Errors
+    ///
+    /// Memory was refused.
+    fn hear(&mut self, alloc: Global, trouble: Trouble) -> Result<(), AllocError>
+        ensures { OnOk result (Hears (heard self.old) (heard self.new) (trouble ∷ [])) };
+}

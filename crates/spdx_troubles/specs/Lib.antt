@@ -1,0 +1,3 @@
+pub mod Status
+pub mod Causes
+pub mod Lines
