@@ -17,8 +17,8 @@ use std::alloc::{AllocError, AllocFailed, Global};
 #[cfg(test)]
 mod tests;
 
-// How long a piece of the input is in bytes: what a pipe holds.
-const PIECE: usize = 65_536;
+// How long a piece of the input is in bytes: a short input needs no more room, and a long one few reads.
+const PIECE: usize = 16_384;
 
 /// How many lines were read, and how many of them were refused. A count at `u64::MAX` stays there.
 #[derive(Clone, Copy, PartialEq, Eq, Debug)]
@@ -287,7 +287,7 @@ fn unread<I: Source>(input: &I) -> RunFault
     }
 }
 
-/// `run_in` with a buffer of 65,536 bytes, which is let go at the end. Where no memory is found for it, nothing is read:
+/// `run_in` with a buffer of 16,384 bytes, which is let go at the end. Where no memory is found for it, nothing is read:
 /// that is `Memory`, unless the input has failed before.
 pub fn run<V: Verdicts, I: Source, O: Sink>(
     alloc: Global,

@@ -147,7 +147,7 @@ impl Verdicts for File<'_, '_> {
 /// the findings of the other lines as they are, but for their numbers. `file` names the input; `is_first` says that no
 /// finding was written before.
 ///
-/// The input is read by pieces of 65,536 bytes, and the findings of the lines that end in a piece are written together
+/// The input is read by pieces of 16,384 bytes, and the findings of the lines that end in a piece are written together
 /// before the input is read on; the output is flushed once, at the end. `Read` comes exactly where the input has failed,
 /// and `Write` only where the output has. After a fault, also one of memory, what was written is a beginning of the
 /// findings of the lines that were read whole; after `Read` it is all of them.

@@ -7,6 +7,9 @@ ghost use Rattle.spdx_check.specs.Known.{IsKnownOf, IsHeld, AreHeld};
 use crate::known::Known;
 use std::alloc::{AllocError, Global};
 
+// Most runs have few expressions: room for those is made first, and takes little time.
+const FEW: usize = 16;
+
 const SLOTS: usize = 1024;
 
 // What is longer isn't remembered, so that the slots stay small.
@@ -69,22 +72,19 @@ fn hash_of(expression: &[u8]) -> u64 {
     mixed(hash, expression.len() as u64)
 }
 
-// The two slots that an expression may stand in.
-fn places_of(expression: &[u8]) -> (usize, usize) {
+// The two slots that an expression may stand in, of this many, which are a power of two.
+fn places_of(expression: &[u8], slots: usize) -> (usize, usize) {
     let hash = hash_of(expression);
-    let slots = SLOTS as u64;
-    (
-        ((hash >> 32) % slots) as usize,
-        ((hash >> 48) % slots) as usize,
-    )
+    let last = slots.wrapping_sub(1);
+    ((hash >> 32) as usize & last, (hash >> 48) as usize & last)
 }
 
-fn empty_slots<'c>(alloc: Global) -> Result<Vec<Slot<'c>>, AllocError>
+fn empty_slots<'c>(alloc: Global, count: usize) -> Result<Vec<Slot<'c>>, AllocError>
     ensures { IfOk result (λ slots. (check : Check) (file : List ℕ) →
         AreHeld check file slots.items) }
 {
-    let mut slots = Vec::with_capacity(alloc, SLOTS)?;
-    for _ in 0..SLOTS {
+    let mut slots = Vec::with_capacity(alloc, count)?;
+    for _ in 0..count {
         slots.push(Slot::new(alloc))?;
     }
     Ok(slots)
@@ -95,6 +95,8 @@ fn empty_slots<'c>(alloc: Global) -> Result<Vec<Slot<'c>>, AllocError>
 #[derive(Drop)]
 pub(crate) struct Remembered<'c> {
     slots: Vec<Slot<'c>>,
+    // How many expressions were kept so far.
+    kept: usize,
 }
 
 impl<'c> Remembered<'c> {
@@ -103,6 +105,7 @@ impl<'c> Remembered<'c> {
     {
         Remembered {
             slots: Vec::new(alloc),
+            kept: 0,
         }
     }
 
@@ -115,7 +118,7 @@ impl<'c> Remembered<'c> {
         if expression.len() > LONGEST {
             return None;
         }
-        let (first, second) = places_of(expression);
+        let (first, second) = places_of(expression, self.slots.len());
         match self.held_at(first, expression) {
             Some(known) => Some(known),
             None => self.held_at(second, expression),
@@ -141,7 +144,7 @@ impl<'c> Remembered<'c> {
 
     // The slot that an expression takes.
     fn place_for(&self, expression: &[u8]) -> usize {
-        let (first, second) = places_of(expression);
+        let (first, second) = places_of(expression, self.slots.len());
         if self.is_free(first) || !self.is_free(second) {
             first
         } else {
@@ -149,20 +152,26 @@ impl<'c> Remembered<'c> {
         }
     }
 
-    // Makes the slots where there are none, and says whether memory was there.
+    // How many slots there are to be.
+    fn wanted(&self) -> usize {
+        if self.kept < FEW { FEW } else { SLOTS }
+    }
+
+    // Makes few slots where there are none, and many behind few expressions, which are forgotten then. Says whether there are any.
     fn has_slots(&mut self, alloc: Global) -> bool
         ensures { (check : Check) (file : List ℕ) → AreHeld check file self.old.slots.items →
             AreHeld check file self.new.slots.items }
     {
-        if !self.slots.is_empty() {
+        let wanted = self.wanted();
+        if self.slots.len() >= wanted {
             return true;
         }
-        match empty_slots(alloc) {
+        match empty_slots(alloc, wanted) {
             Ok(slots) => {
                 self.slots = slots;
                 true
             }
-            Err(AllocError) => false,
+            Err(AllocError) => !self.slots.is_empty(),
         }
     }
 
@@ -178,6 +187,7 @@ impl<'c> Remembered<'c> {
         if !self.has_slots(alloc) {
             return;
         }
+        self.kept = self.kept.saturating_add(1);
         let place = self.place_for(expression);
         if let Some(slot) = self.slots.get_mut(place) {
             slot.fill(expression, known);

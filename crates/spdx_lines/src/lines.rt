@@ -63,7 +63,7 @@ pub fn run_in<'c, I: Source, O: Sink>(
     engine::run_in(alloc, &mut each, input, output, buffer)
 }
 
-/// `run_in` with a buffer of 65,536 bytes, which is let go at the end. Where no memory is found for it, nothing is
+/// `run_in` with a buffer of 16,384 bytes, which is let go at the end. Where no memory is found for it, nothing is
 /// read: that is `Memory`, unless the input has failed before.
 pub fn run<'c, I: Source, O: Sink>(
     alloc: Global,
@@ -106,7 +106,7 @@ pub fn run_all_in<'c, I: Source, O: Sink>(
     engine::run_in(alloc, &mut all, input, output, buffer)
 }
 
-/// `run_all_in` with a buffer of 65,536 bytes, which is let go at the end. Where no memory is found for it, nothing is
+/// `run_all_in` with a buffer of 16,384 bytes, which is let go at the end. Where no memory is found for it, nothing is
 /// read: that is `Memory`, unless the input has failed before.
 pub fn run_all<'c, I: Source, O: Sink>(
     alloc: Global,
