@@ -1,10 +1,9 @@
 -- The lines of a text, by the place of its first newline.
-use Rattle.std.proofs.Common.{◌≡◌, ◌∙◌, ◌<◌, ◌==◌, ◌+◌, ◌++◌, ℕ, Bool, false, cond, List, [], ◌∷◌, None, Some, length, take, drop, get_or, ap, sym, refl, arith, All}
+use Rattle.std.proofs.Common.{◌≡◌, ◌∙◌, ◌<◌, ◌==◌, ◌+◌, ℕ, Bool, false, cond, List, [], ◌∷◌, None, Some, length, take, drop, get_or, ap, refl, arith, All}
 use Rattle.std.specs.List.{slice_split, before_first, after_first}
 use Rattle.std.specs.Str.Lines.{lines, lines_of_parts, strip_carriage_return}
 use Rattle.std.proofs.lemmas.List.Splits.{slice_split_first, slice_split_none, length-slice_split}
 use Rattle.std.proofs.lemmas.Bool.Decides.{nat_tests}
-use Rattle.std.proofs.lemmas.List.{append-nil}
 use Rattle.std.proofs.lemmas.List.Elements.{All-from_get_or}
 use Rattle.memchr.specs.Find.{IsFirstByte, is_byte}
 use Rattle.list_lines.proofs.Parted.{found_place, not_true}
@@ -33,21 +32,6 @@ line_nowhere bs h some =
     let none : All (λ (b : ℕ). (b == 10) ≡ false) bs = All-from_get_or (λ (b : ℕ). (b == 10) ≡ false) bs 0 (λ i lt. not_true (get_or bs i 0 == 10) (h i (omega arith) lt)) in
     ap lines_of_parts (slice_split_none (λ b. b == 10) bs none) ∙ lone bs some
 
-behind : (done : List (List ℕ)) (line : List ℕ) (more : List (List ℕ)) → (done ++ line ∷ []) ++ more ≡ done ++ line ∷ more
-behind [] line more = refl
-behind (d ∷ done) line more = ap (λ (ls : List (List ℕ)). d ∷ ls) (behind done line more)
-
--- a line more is done
-pub line_more : (done all : List (List ℕ)) (bs : List ℕ) (k : ℕ) → IsFirstByte (is_byte 10) bs (Some k) → done ++ lines bs ≡ all
-    → (done ++ strip_carriage_return (take k bs) ∷ []) ++ lines (drop (k + 1) bs) ≡ all
-line_more done all bs k h e =
-    behind done (strip_carriage_return (take k bs)) (lines (drop (k + 1) bs)) ∙ ap (λ (ls : List (List ℕ)). done ++ ls) (sym (line_there bs k h)) ∙ e
-
--- the last line, behind which there is no newline
-pub line_last : (done all : List (List ℕ)) (bs : List ℕ) → IsFirstByte (is_byte 10) bs None → 0 < length bs → done ++ lines bs ≡ all → done ++ bs ∷ [] ≡ all
-line_last done all bs h some e = ap (λ (ls : List (List ℕ)). done ++ ls) (sym (line_nowhere bs h some)) ∙ e
-
--- nothing is left
-pub line_none : (done all : List (List ℕ)) (bs : List ℕ) → length bs ≡ 0 → done ++ lines bs ≡ all → done ≡ all
-line_none done all [] h e = sym (append-nil done) ∙ e
-line_none done all (b ∷ bs) h e = absurd (omega arith)
+pub line_none : (bs : List ℕ) → length bs ≡ 0 → lines bs ≡ []
+line_none [] h = refl
+line_none (b ∷ bs) h = absurd (omega arith)

@@ -6,9 +6,9 @@
 //! ..
 //! ```
 //!
-//! The version, behind which a tab and its day may stand, the exceptions, the licences and the imprecise names stand in this order, with a form feed between each two. A
-//! row is a line, with a tab between its cells: its flags as one byte, counted from `0`, and its names. It stands on
-//! `spdx_catalogue` and `memchr`.
+//! The version, behind which a tab and its day may stand, the exceptions, the licences and the imprecise names stand in this
+//! order, with a form feed between each two. A row is a line, with a tab between its cells: its flags as one byte, counted from
+//! `0`, and its names. It stands on `spdx_catalogue` and `memchr`.
 #![tactic(auto)]
 
 mod cells;

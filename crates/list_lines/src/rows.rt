@@ -4,6 +4,7 @@ ghost use Rattle.std.specs.Prelude.{◌≡◌, ℕ, List, Option, IfOk, map, opt
 ghost use Rattle.std.specs.Str.Lines.{lines, strip_carriage_return};
 ghost use Rattle.spdx_requirement.specs.Rows.{LicenseRow, ExceptionRow, ImpreciseRow, row_of, exception_of, imprecise_of};
 ghost use Rattle.list_lines.specs.Lines as spec;
+ghost use Rattle.list_lines.specs.Rows.{IsPut};
 
 use crate::cells::{at_tab, flags_in};
 use memchr::memchr;
@@ -92,14 +93,40 @@ impl LineRow for ImpreciseName {
     }
 }
 
-/// The rows of a text, if each of its lines is one.
+/// The rows of a text, if each of its lines is one. Each newline is found by a quick search.
 pub(crate) fn rows_of<R: LineRow>(alloc: Global, text: &str) -> Result<Option<Vec<R>>, AllocError>
     ensures { IfOk result (λ o. option_map (λ v. map R.shown v.items) o
         ≡ spec.rows_from R.row_at 0 (lines text.now)) }
 {
-    let lines = lines_of(alloc, text)?;
-    let rows = rows_from(alloc, &lines)?;
-    Ok(rows)
+    let mut rows = Vec::with_capacity(alloc, text.len() / SHORT)?;
+    let mut rest = text;
+    while let Some(end) = memchr(b'\n', rest.as_bytes()) {
+        if !put_row(alloc, &mut rows, without_return(&rest[..end]))? {
+            return Ok(None);
+        }
+        rest = &rest[end + 1..];
+    }
+    if rest.is_empty() {
+        return Ok(Some(rows));
+    }
+    if !put_row(alloc, &mut rows, rest)? {
+        return Ok(None);
+    }
+    Ok(Some(rows))
+}
+
+// Puts the row that a line is behind the others, and says whether it is one.
+fn put_row<R: LineRow>(alloc: Global, rows: &mut Vec<R>, line: &str) -> Result<bool, AllocError>
+    ensures { IfOk result (λ is_row.
+        IsPut R.shown R.row_at line.now rows.old.items rows.new.items is_row) }
+{
+    match R::read(alloc, line, rows.len())? {
+        Some(row) => {
+            rows.push(row)?;
+            Ok(true)
+        }
+        None => Ok(false),
+    }
 }
 
 // A line whose newline was taken off, without the carriage return before that.
@@ -112,35 +139,4 @@ fn without_return(line: &str) -> &str
     } else {
         line
     }
-}
-
-// The lines, by a quick search for each newline.
-fn lines_of<'t>(alloc: Global, text: &'t str) -> Result<Vec<&'t str>, AllocError>
-    ensures { IfOk result (λ v. map (λ x. x.now) v.items ≡ lines text.now) }
-{
-    let mut lines = Vec::with_capacity(alloc, text.len() / SHORT)?;
-    let mut rest = text;
-    while let Some(end) = memchr(b'\n', rest.as_bytes()) {
-        lines.push(without_return(&rest[..end]))?;
-        rest = &rest[end + 1..];
-    }
-    if !rest.is_empty() {
-        lines.push(rest)?;
-    }
-    Ok(lines)
-}
-
-// The rows that the lines are, if each of them is one.
-fn rows_from<R: LineRow>(alloc: Global, lines: &[&str]) -> Result<Option<Vec<R>>, AllocError>
-    ensures { IfOk result (λ o. option_map (λ v. map R.shown v.items) o
-        ≡ spec.rows_from R.row_at 0 (map (λ x. x.now) lines.now)) }
-{
-    let mut rows = Vec::with_capacity(alloc, lines.len())?;
-    for (index, line) in lines.iter().enumerate() {
-        match R::read(alloc, line, index)? {
-            Some(row) => rows.push(row)?,
-            None => return Ok(None),
-        }
-    }
-    Ok(Some(rows))
 }
