@@ -78,6 +78,7 @@ pub enum Trouble {
     Above(String),
     /// What is told can't be written.
     Output,
+    /// Memory was refused.
     Memory,
 }
 
