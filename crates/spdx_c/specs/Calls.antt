@@ -9,7 +9,7 @@ use Rattle.spdx_calls.specs.Buffer.{IsPut}
 use Rattle.spdx_calls.specs.Reasons.{IsReasonNumber, number_of}
 use Rattle.spdx_calls.specs.Faults.{IsTextFault, IsCanonicalFault, IsFixFault, IsLinesFault, IsNameFault}
 use Rattle.spdx_calls.specs.Questions.{IsQuestionFault, IsChoiceFault}
-use Rattle.spdx_calls.specs.Answers.{Reads, PutsCanonical, PutsFix, PutsNormal, PutsChoice, PutsLines, PutsRequirements, IsTruth, listing_of}
+use Rattle.spdx_calls.specs.Answers.{Reads, PutsCanonical, PutsFix, PutsNormal, PutsChoice, PutsLines, PutsRequirements, IsTruth, IsListing}
 use Rattle.spdx_calls.specs.Bits.{IsTruthByBits, IsBitsFault}
 use Rattle.spdx_calls.specs.Meanings.{PutsMeaning, IsMeaningFault, IsCompared, IsComparisonFault}
 use Rattle.spdx_c.specs.declared.report.Report.{Report}
@@ -49,7 +49,7 @@ IsCheck list mode text report =
 
 abbrev pub IsListedCall : Option Rows → List ℕ → Report → Type 0
 IsListedCall list name report =
-    IsCall list (mode_of 0) of_listing (λ c m listing. listing ≡ listing_of c name)
+    IsCall list (mode_of 0) of_listing (λ c m. IsListing c name)
     (λ c m. IsNameFault name) report
 
 abbrev pub IsCanonicalCall : Option Rows → ℕ → List ℕ → List ℕ → List ℕ → Report → Type 0

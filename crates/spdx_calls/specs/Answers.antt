@@ -1,5 +1,5 @@
 -- What the calls answer.
-use Rattle.std.specs.Prelude.{◌≡◌, ℕ, Bool, true, false, List, [], ◌∷◌, ◌++◌, Option, Some, None, Ok}
+use Rattle.std.specs.Prelude.{◌≡◌, ℕ, Bool, true, false, List, [], ◌∷◌, ◌++◌, Option, Some, None, Ok, IsUtf8}
 use Rattle.std.specs.List.{flat_map}
 use Rattle.line_engine.specs.Lines.{lines_of}
 use Rattle.line_engine.specs.Output.{output_of, summary_of}
@@ -106,3 +106,8 @@ listing_among None None = Unlisted
 abbrev pub listing_of : Rows → List ℕ → Listing
 listing_of c name =
     listing_among (listed_caseless c.licenses name) (listed_exception_caseless c.exceptions name)
+
+-- the name is a text, and this is what the list says of it
+pub record IsListing (c : Rows) (name : List ℕ) (listing : Listing) : Type 0 where
+  pub is_text : IsUtf8 name
+  pub listing_is : listing ≡ listing_of c name

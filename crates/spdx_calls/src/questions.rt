@@ -4,7 +4,7 @@ ghost use Rattle.std.specs.Prelude.{◌≡◌, ◌++◌, [], OnOk, OnErr, IfOk, 
 ghost use Rattle.spdx_calls.specs.Faults.{IsTextFault, IsNameFault};
 ghost use Rattle.spdx_calls.specs.Questions.{IsQuestionFault, IsChoiceFault};
 ghost use Rattle.spdx_calls.specs.Answers as spec;
-ghost use Rattle.spdx_calls.specs.Answers.{Reads, IsTruth, PutsChoice, lines_text};
+ghost use Rattle.spdx_calls.specs.Answers.{Reads, IsTruth, IsListing, PutsChoice, lines_text};
 ghost use Rattle.spdx_requirement.specs.Items.{requirement_of};
 ghost use Rattle.spdx_requirement.specs.Texts.{requirement_text};
 
@@ -34,7 +34,7 @@ pub enum Listing {
 ///
 /// `NotText`.
 pub fn listed(catalogue: &Catalogue, name: &[u8]) -> Result<Listing, CallFault>
-    ensures ok { IfOk result (λ listing. listing ≡ spec.listing_of catalogue.now name.now) }
+    ensures ok { IfOk result (IsListing catalogue.now name.now) }
     ensures err { IfErr result (IsNameFault name.now) }
 {
     match str::from_utf8(name) {
