@@ -36,9 +36,10 @@ quotes:
 	@tools/completions --check
 	@tools/try_completions
 
-# Whether docs/THEOREM.md is what the sources say; tools/theorem writes it.
+# Whether docs/THEOREM.md is what the sources say, which tools/theorem writes; and whether what docs/PROMISES.md names is there.
 theorem:
 	@tools/theorem --check
+	@tools/promises
 
 growths:
 	@tools/growths
@@ -91,6 +92,6 @@ library_speed:
 
 # What takes seconds comes first. The programs are run as rt ci has built them.
 test:
-	@tools/gate tools/quotes "tools/crates --check" "tools/calling --check" "tools/theorem --check" "tools/list --check" "tools/known --check" "tools/planted --check" \
+	@tools/gate tools/quotes "tools/crates --check" "tools/calling --check" "tools/theorem --check" tools/promises "tools/list --check" "tools/known --check" "tools/planted --check" \
 		"rt ci" tools/growths "tools/program $(LINES)" "tools/commands $(SPDX)" "tools/verdicts $(SPDX)" "tools/hostile $(SPDX)" tools/truth_tables \
 		"tools/planted --few"
