@@ -1,7 +1,8 @@
 //! The rows of what is read over a shelf of values: which list, which packages, what the gate
 //! says of them, what changed between two lists of them, how two expressions compare, what each line means, what a
 //! list says of names, by what two lists differ, which files are below a folder, what mends files, what packages are used
-//! under, the page of their texts, what is found in files and folders, and what commands write and tell.
+//! under, the page of their texts, what is found in files and folders, what commands write and tell, and how an error of the
+//! system is told.
 //!
 //! Each part has its rows in a file that lies where the program runs, NAME.rows, and is told behind a line `== PART`: those
 //! that don't hold, then how many do. The head of each module has the form of its rows.
@@ -23,6 +24,7 @@ mod shelf;
 mod shows;
 mod simplifies;
 mod trees;
+mod troubles;
 
 use std::io::Write;
 use std::process::ExitCode;
@@ -72,6 +74,9 @@ fn start(rt: &HostRuntime) -> io::Result<u8> {
     shown.push_str("== commands\n")?;
     let rows = fs::read_to_string(rt, "commands.rows")?;
     let are_commands_good = commands::try_rows(rt.alloc(), &mut shown, rows.as_str())?;
+    shown.push_str("== troubles\n")?;
+    let rows = fs::read_to_string(rt, "troubles.rows")?;
+    let are_troubles_good = troubles::try_rows(rt.alloc(), &mut shown, rows.as_str())?;
     io::writer(rt).write_all(shown.as_bytes())?;
     let are_good = are_lists_good
         && are_packages_good
@@ -86,7 +91,8 @@ fn start(rt: &HostRuntime) -> io::Result<u8> {
         && are_fixes_good
         && are_choices_good
         && are_checks_good
-        && are_commands_good;
+        && are_commands_good
+        && are_troubles_good;
     Ok(u8::from(!are_good))
 }
 

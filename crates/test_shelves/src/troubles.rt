@@ -1,0 +1,64 @@
+// Which trouble an error of the system is, how it is told, and with which status it ends.
+//
+// A row `ACT KIND | PATH => STATUS LINE`, where the act is `unreadable`, `unwritable` or `owner` and the kind that of the error, has
+// the status and the line that is told. In a path `\0` is a byte 0, and `\e` the byte that begins a terminal's commands.
+
+use spdx_troubles::Trouble;
+use std::alloc::{AllocError, Global};
+use std::io::{self, ErrorKind};
+use test_rows::Tally;
+
+/// Appends the rows that don't hold, and how many do; gives whether all do.
+pub(crate) fn try_rows(alloc: Global, shown: &mut String, text: &str) -> Result<bool, AllocError> {
+    let mut tally = Tally::new();
+    for row in text.lines() {
+        if let Some((given, wanted)) = row.split_once(" => ") {
+            let answered = answer(alloc, given)?;
+            let told = tally.count(alloc, row, wanted.trim(), answered.as_str())?;
+            shown.push_str(told.as_str())?;
+        }
+    }
+    shown.push_str(tally.line(alloc)?.as_str())?;
+    Ok(tally.is_good())
+}
+
+fn answer(alloc: Global, given: &str) -> Result<String, AllocError> {
+    let (head, path) = given.split_once(" | ").unwrap_or((given, ""));
+    let (act, kind) = head.split_once(' ').unwrap_or((head, ""));
+    let path = path_of(alloc, path)?;
+    let error = io::Error::from(kind_of(kind));
+    let trouble = match act {
+        "unreadable" => Trouble::unreadable(alloc, path.as_str(), error),
+        "unwritable" => Trouble::unwritable(alloc, path.as_str(), error),
+        _ => Trouble::Owner(path, error),
+    };
+    let line = trouble.line(alloc)?;
+    let line = line.as_str().trim_end();
+    let status = trouble.status();
+    format!(in alloc; "{status} {line}")
+}
+
+fn path_of(alloc: Global, written: &str) -> Result<String, AllocError> {
+    let mut path = String::new(alloc);
+    let mut rest = written;
+    while let Some((front, behind)) = rest.split_once('\\') {
+        path.push_str(front)?;
+        path.push(if behind.starts_with('0') {
+            '\0'
+        } else {
+            '\u{1b}'
+        })?;
+        rest = behind.get(1..).unwrap_or("");
+    }
+    path.push_str(rest)?;
+    Ok(path)
+}
+
+fn kind_of(name: &str) -> ErrorKind {
+    match name {
+        "NotFound" => ErrorKind::NotFound,
+        "PermissionDenied" => ErrorKind::PermissionDenied,
+        "OutOfMemory" => ErrorKind::OutOfMemory,
+        _ => ErrorKind::Other,
+    }
+}
