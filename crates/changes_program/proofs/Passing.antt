@@ -101,7 +101,7 @@ none_left : (left_out : List FileFault) → length left_out ≡ 0 → left_out �
 none_left [] e = refl
 none_left (f ∷ fs) e = absurd (omega (arith, e))
 
-both_listed : (s : Shelved) (w : Wanted) (p q : List ℕ) (f g : Listed) (left_out : List FileFault)
+pub both_listed : (s : Shelved) (w : Wanted) (p q : List ℕ) (f g : Listed) (left_out : List FileFault)
     → AreListed s w (p ∷ q ∷ []) (f ∷ g ∷ []) left_out → IsListedAt s w p f × IsListedAt s w q g
 both_listed s w p q f g left_out is =
     let each = whole s w (p ∷ q ∷ []) (f ∷ g ∷ []) left_out is (none_left left_out (omega (arith, as_many is))) in
@@ -121,7 +121,7 @@ the_policy : (s : Shelved) (heirs : List ℕ) (c : Rows) (path : List ℕ) (o : 
 the_policy s heirs c path None h = absurd h
 the_policy s heirs c path (Some p) h = (p, refl, h)
 
-the_files : (c : Rows) (p : Option Rules) (format : Format) (files : List Listed) (t : Told) → IsToldOfBoth c p format files (Some t)
+pub the_files : (c : Rows) (p : Option Rules) (format : Format) (files : List Listed) (t : Told) → IsToldOfBoth c p format files (Some t)
     → (f : Listed) × (g : Listed) × (files ≡ f ∷ g ∷ []) × IsTold c p format f.packages.items g.packages.items t
 the_files c p format [] t e = absurd (none-some t (sym e))
 the_files c p format (f ∷ []) t e = absurd (none-some t (sym e))

@@ -1,8 +1,8 @@
 //! The command `spdx diff` over a shelf of files: what changed between two lists of packages, and what a policy refuses of it.
 //!
 //! ```rust
-//! // crates/spdx_program/src/changes.rt
-//! let run = changes_program::changes(alloc, &shelf, inside(), HEIRS.as_bytes(), asked)?;
+//! // crates/package_commands/src/differences.rt
+//! let outcome = changes(alloc, shelf, inside, heirs, asked.run)?;
 //! ```
 //!
 //! It stands on `package_files`, `package_changes` and `gate_program`.

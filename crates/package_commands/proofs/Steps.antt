@@ -3,12 +3,12 @@ use Rattle.std.proofs.Common.{◌≡◌, ◌∙◌, refl, sym, ap, ℕ, ◌+◌,
 use Rattle.std.specs.declared.alloc.Global.{Global}
 use Rattle.std.specs.Prelude.{Option, None, Some, String, filter}
 use Rattle.std.specs.Borrow.{Bor}
-use Rattle.std.specs.List.{AllZip, filter_map}
+use Rattle.std.specs.List.{filter_map}
 use Rattle.std.proofs.lemmas.List.{map-append, take_more}
 use Rattle.std.proofs.lemmas.List.Elements.{filter-append, filter_map-append}
 use Rattle.check_files.specs.Told.{Hears, Tells}
 use Rattle.check_files.proofs.Doing.{hears_nil, hears_trans}
-use Rattle.general_texts.specs.Held.{each_first, name_in, with_name}
+use Rattle.general_texts.specs.Held.{each_first, name_in}
 use Rattle.general_texts.proofs.Firsts.{first_more}
 use Rattle.package_items.specs.Rows.{PackageRow}
 use Rattle.package_files.specs.declared.listed.Listed.{Listed}

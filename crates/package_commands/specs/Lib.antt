@@ -1,3 +1,4 @@
 pub mod Forms
 pub mod Shared
 pub mod Gate
+pub mod Changes

@@ -5,13 +5,16 @@
 //! package_commands::gate(
 //! ```
 //!
-//! Here is `gate`. It stands on `gate_program`, `document_references` and `spdx_commands`.
+//! Here are `gate` and `diff`. It stands on `gate_program`, `changes_program`, `document_references` and
+//! `spdx_commands`.
 #![tactic(auto)]
 
+mod differences;
 mod forms;
 mod gated;
 mod shared;
 
+pub use crate::differences::{AskedDiff, Changed, diff};
 pub use crate::forms::tell_forms;
 pub use crate::gated::{Asked, gate, tell_left_out};
 pub use crate::shared::tell_shared;

@@ -63,6 +63,13 @@ impl<O: Write + Drop, F: Write + Drop> Console<O, F> {
     pub(crate) fn tell(&mut self, alloc: Global, trouble: &Trouble) -> u8 {
         tell_on(alloc, trouble, &mut self.faults)
     }
+
+    /// Writes the line of totals, if there is one, as far as that goes.
+    pub(crate) fn put_totals(&mut self, totals: &Option<String>) {
+        if let Some(totals) = totals {
+            let _ = write_all(&mut self.faults, totals.as_bytes());
+        }
+    }
 }
 
 // Tells a trouble; where memory for its line is refused, that is told instead.

@@ -8,6 +8,7 @@
 //! that don't hold, then how many do. The head of each module has the form of its rows.
 #![tactic(auto)]
 
+mod changes;
 mod checks;
 mod choices;
 mod commands;
@@ -47,6 +48,9 @@ fn start(rt: &HostRuntime) -> io::Result<u8> {
     shown.push_str("== diffs\n")?;
     let rows = fs::read_to_string(rt, "diffs.rows")?;
     let are_diffs_good = diffs::try_rows(rt.alloc(), &mut shown, rows.as_str())?;
+    shown.push_str("== changes\n")?;
+    let rows = fs::read_to_string(rt, "changes.rows")?;
+    let are_changes_good = changes::try_rows(rt.alloc(), &mut shown, rows.as_str())?;
     shown.push_str("== compares\n")?;
     let rows = fs::read_to_string(rt, "compares.rows")?;
     let are_compares_good = compares::try_rows(rt.alloc(), &mut shown, rows.as_str())?;
@@ -83,6 +87,7 @@ fn start(rt: &HostRuntime) -> io::Result<u8> {
         && are_gates_good
         && are_notices_good
         && are_diffs_good
+        && are_changes_good
         && are_compares_good
         && are_simplifies_good
         && are_shows_good

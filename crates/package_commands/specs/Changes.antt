@@ -1,0 +1,84 @@
+-- What `diff` writes and tells, and with which status it ends.
+use Rattle.std.specs.Prelude.{◌≡◌, ℕ, Bool, true, false, List, [], ◌++◌, Option, None, Some, String, codes, map, nat_lt, option_map, string_bytes, if◌then◌else◌}
+use Rattle.std.specs.declared.alloc.Global.{Global}
+use Rattle.std.specs.Fmt.{decimal}
+use Rattle.changes_program.specs.Run.{IsRun, status_of}
+use Rattle.changes_program.specs.declared.run.Request.{Request}
+use Rattle.changes_program.specs.declared.run.Run.{Run}
+use Rattle.changes_program.specs.declared.run.Told.{Told}
+use Rattle.changes_program.specs.declared.run.Totals.{Totals}
+use Rattle.list_program.specs.Named.{InsideBytes}
+use Rattle.package_files.specs.Listed.{IsListedAt}
+use Rattle.package_files.specs.declared.listed.Listed.{Listed}
+use Rattle.shelves.specs.Shelf.{Shelved}
+use Rattle.package_commands.specs.Forms.{AreFormsTold}
+use Rattle.package_commands.specs.declared.differences.AskedDiff.{AskedDiff}
+use Rattle.package_commands.specs.declared.differences.Changed.{Changed}
+use Rattle.spdx_troubles.specs.Causes.{file_trouble}
+use Rattle.spdx_troubles.specs.declared.trouble.Trouble.{Trouble}
+
+-- ---- the line of totals
+
+abbrev pub packages_text : Totals → List ℕ
+packages_text t =
+    decimal t.before ++ (codes " packages before, " ++ (decimal t.now ++ (codes " now: " ++
+    (decimal t.came ++ (codes " came, " ++ (decimal t.went ++ codes " went"))))))
+
+abbrev pub changed_text : Totals → List ℕ
+changed_text t =
+    codes ", " ++ (decimal t.changed ++ (codes " changed license (" ++
+    (decimal t.more ++ codes " ask for more)")))
+
+-- nothing where none is refused
+abbrev pub refused_text : ℕ → List ℕ
+refused_text refused =
+    if nat_lt 0 refused then codes ", " ++ (decimal refused ++ codes " refused") else []
+
+abbrev pub totals_line : Totals → List ℕ
+totals_line t =
+    packages_text t ++ (changed_text t ++ (refused_text t.refused ++ codes "\n"))
+
+abbrev pub line_if : Bool → Totals → Option (List ℕ)
+line_if true t = Some (totals_line t)
+line_if false t = None
+
+-- where it is wanted and both files are read
+abbrev pub totals_if : Bool → Option Told → Option (List ℕ)
+totals_if wanted None = None
+totals_if wanted (Some told) = line_if wanted told.totals
+
+abbrev pub line_of : Option (String Global) → Option (List ℕ)
+line_of line = option_map string_bytes line
+
+-- ---- the command
+
+-- nothing where a file is left out
+abbrev pub text_of : Option Told → List ℕ
+text_of None = []
+text_of (Some told) = told.text.items
+
+-- what comes of a run is written and told: first why files are left out, then how others were read
+pub record IsDiff (s : Shelved) (inside : InsideBytes) (heirs : List ℕ) (a : AskedDiff)
+    (text : List ℕ) (told : List Trouble) (c : Changed) : Type 0 where
+  pub run : Run
+  pub forms : List Trouble
+  pub is_run : IsRun s inside heirs a.run run
+  pub text_is : text ≡ text_of run.told
+  pub forms_are : AreFormsTold run.files.items forms
+  pub told_are : told ≡ map file_trouble run.left_out.items ++ forms
+  pub totals_are : line_of c.totals ≡ totals_if a.tells_totals run.told
+  pub status_is : c.status ≡ status_of run
+
+-- both files list packages
+pub record AreBothRead (s : Shelved) (a : Request) : Type 0 where
+  pub older : Listed
+  pub newer : Listed
+  pub older_is : IsListedAt s a.wanted a.old.now older
+  pub newer_is : IsListedAt s a.wanted a.new.now newer
+
+-- ---- the parts of it, which only private clauses cite
+
+pub record IsPut (wanted : Bool) (told : Option Told) (totals : Option (String Global))
+    (text : List ℕ) : Type 0 where
+  pub text_is : text ≡ text_of told
+  pub totals_are : line_of totals ≡ totals_if wanted told

@@ -1,0 +1,180 @@
+// The command `diff`.
+
+ghost use Rattle.std.specs.Prelude.{◌≡◌, ◌<◌, ℕ, List, Some, IfErr, IfOk, OnOk, string_bytes, ◌++◌};
+ghost use Rattle.std.specs.Option.{option_copied};
+ghost use Rattle.changes_program.specs.Run.{IsNoRun, NewOnesPass};
+ghost use Rattle.check_files.specs.Told.{Does, Writes};
+ghost use Rattle.list_program.specs.Named.{inside_of};
+ghost use Rattle.package_commands.specs.Changes as spec;
+ghost use Rattle.package_commands.specs.Changes.{AreBothRead, IsDiff, IsPut, totals_line};
+ghost use Rattle.spdx_commands.specs.Stops.{IsBroken, IsStopped};
+ghost use Rattle.spdx_troubles.specs.Causes.{gate_trouble};
+
+use crate::forms::tell_forms;
+use crate::gated::tell_left_out;
+use changes_program::{Request, Run, Told, Totals, changes};
+use line_engine::device::Sink;
+use line_engine::lines::write_all;
+use list_program::Inside;
+use shelves::Shelf;
+use spdx_commands::Listener;
+use spdx_troubles::Trouble;
+use std::alloc::{AllocError, Global};
+
+/// What is asked of the command.
+#[derive(Clone, Copy)]
+pub struct AskedDiff<'a> {
+    /// What is asked of the run.
+    pub run: Request<'a>,
+    /// Whether the line of totals is wanted.
+    pub tells_totals: bool,
+}
+
+/// How the command ended.
+#[derive(Drop)]
+pub struct Changed {
+    pub status: u8,
+    /// The line of totals, where it is wanted and both files are read.
+    pub totals: Option<String>,
+}
+
+/// Writes what changed between the packages of two files, tells which files are left out and how others were read, and
+/// answers the status: 0 exactly if both are read and the policy, if there is one, refuses no package that came or
+/// whose licence changed; 1 if both are read; else 2.
+///
+/// # Errors
+///
+/// The list or the policy isn't had: nothing is written. Or the output fails; or memory was refused.
+pub fn diff<S: Shelf, O: Sink, T: Listener>(
+    alloc: Global,
+    shelf: &S,
+    inside: Inside<'_>,
+    heirs: &[u8],
+    asked: AskedDiff<'_>,
+    output: &mut O,
+    listener: &mut T,
+) -> Result<Changed, Trouble>
+    ensures ok { IfOk result (λ changed. Does (O.told output.old) (O.told output.new)
+        (T.heard listener.old) (T.heard listener.new) (λ text told. IsDiff (S.told shelf.now)
+        (inside_of inside.entry.list.now inside.entry.extras.now) heirs.now asked.entry text told
+        changed)) }
+    ensures err { IfErr result (IsStopped gate_trouble (IsNoRun (S.told shelf.now)
+        (inside_of inside.entry.list.now inside.entry.extras.now) heirs.now asked.entry.run)
+        (O.told output.old) (O.told output.new)) }
+    ensures read { IfOk result (λ changed. changed.status < 2 →
+        AreBothRead (S.told shelf.now) asked.entry.run) }
+    ensures passes { IfOk result (λ changed. changed.status < 1 → (path : List ℕ) →
+        option_copied asked.entry.run.policy ≡ Some path → NewOnesPass (S.told shelf.now)
+        (inside_of inside.entry.list.now inside.entry.extras.now) heirs.now asked.entry.run
+        path) }
+{
+    let outcome = changes(alloc, shelf, inside, heirs, asked.run)?;
+    let status = outcome.status();
+    let Run {
+        files,
+        left_out,
+        told,
+    } = outcome;
+    tell_left_out(alloc, left_out, listener)?;
+    tell_forms(alloc, &files, listener)?;
+    let totals = put_told(alloc, asked.tells_totals, told, output)?;
+    Ok(Changed { status, totals })
+}
+
+// Writes what is told of the changes, if anything is; answers the line of totals, where it is wanted.
+#[tactic(auto, using(crate::proofs::Diffs::none_put, crate::proofs::Diffs::some_put))]
+fn put_told<O: Sink>(
+    alloc: Global,
+    tells_totals: bool,
+    told: Option<Told>,
+    output: &mut O,
+) -> Result<Option<String>, Trouble>
+    ensures ok { IfOk result (λ totals. Writes (O.told output.old) (O.told output.new)
+        (IsPut tells_totals told totals)) }
+    ensures err { IfErr result (IsBroken (O.told output.new)) }
+{
+    match told {
+        Some(told) => put_changes(alloc, tells_totals, told, output),
+        None => Ok(None),
+    }
+}
+
+#[tactic(auto, using(crate::proofs::Diffs::changes_put))]
+fn put_changes<O: Sink>(
+    alloc: Global,
+    tells_totals: bool,
+    told: Told,
+    output: &mut O,
+) -> Result<Option<String>, Trouble>
+    ensures ok { IfOk result (λ totals. Writes (O.told output.old) (O.told output.new)
+        (IsPut tells_totals (Some told) totals)) }
+    ensures err { IfErr result (IsBroken (O.told output.new)) }
+{
+    write_all(output, &told.text)?;
+    let totals = totals_if(alloc, tells_totals, told.totals)?;
+    Ok(totals)
+}
+
+fn totals_if(
+    alloc: Global,
+    tells_totals: bool,
+    totals: Totals,
+) -> Result<Option<String>, AllocError>
+    ensures { IfOk result (λ line. spec.line_of line ≡ spec.line_if tells_totals totals) }
+{
+    if tells_totals {
+        Ok(Some(totals_text(alloc, totals)?))
+    } else {
+        Ok(None)
+    }
+}
+
+fn totals_text(alloc: Global, totals: Totals) -> Result<String, AllocError>
+    ensures { IfOk result (λ line. string_bytes line ≡ totals_line totals) }
+{
+    let mut line = String::new(alloc);
+    put_packages(&mut line, totals)?;
+    put_changed(&mut line, totals)?;
+    put_refused(&mut line, totals.refused)?;
+    line.push_str("\n")?;
+    Ok(line)
+}
+
+// How many packages there are, and how many came and went.
+fn put_packages(line: &mut String, totals: Totals) -> Result<(), AllocError>
+    ensures { OnOk result (string_bytes line.new
+        ≡ string_bytes line.old ++ spec.packages_text totals) }
+{
+    let Totals {
+        before,
+        now,
+        came,
+        went,
+        ..
+    } = totals;
+    write!(
+        line,
+        "{before} packages before, {now} now: {came} came, {went} went"
+    )
+}
+
+// How many changed their licence.
+fn put_changed(line: &mut String, totals: Totals) -> Result<(), AllocError>
+    ensures { OnOk result (string_bytes line.new
+        ≡ string_bytes line.old ++ spec.changed_text totals) }
+{
+    let Totals { changed, more, .. } = totals;
+    write!(line, ", {changed} changed license ({more} ask for more)")
+}
+
+// How many the policy refuses, if it refuses some.
+fn put_refused(line: &mut String, refused: usize) -> Result<(), AllocError>
+    ensures { OnOk result (string_bytes line.new
+        ≡ string_bytes line.old ++ spec.refused_text refused) }
+{
+    if refused > 0 {
+        write!(line, ", {refused} refused")
+    } else {
+        Ok(())
+    }
+}
