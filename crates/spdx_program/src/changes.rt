@@ -1,5 +1,7 @@
 // The command `diff`: what changed between two lists of packages.
 
+ghost use Rattle.std.specs.Prelude.{◌<◌, IfOk};
+
 use crate::console::{Console, Teller};
 use crate::files::system::System;
 use crate::list::{HEIRS, inside};
@@ -15,11 +17,14 @@ use std::io::Write;
 
 /// Tells which packages came and went between two files, and whose license changed, and how. Answers the status: 1 where
 /// a policy refuses one that came or changed.
+#[tactic(auto, using(crate::proofs::Statuses::diff_ends))]
 pub(crate) fn changes<R: System, O: Write + Drop, F: Write + Drop>(
     rt: &R,
     request: &ChangesRequest<'_>,
     console: &mut Console<O, F>,
-) -> Result<u8, Trouble> {
+) -> Result<u8, Trouble>
+    ensures { IfOk result (λ status. status < 4) }
+{
     let asked = AskedDiff {
         run: asked(request),
         tells_totals: request.tells_totals,

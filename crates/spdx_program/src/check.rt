@@ -1,5 +1,7 @@
 // The command `check`.
 
+ghost use Rattle.std.specs.Prelude.{◌<◌, IfOk};
+
 use crate::console::{Console, Teller};
 use crate::files::system::{System, paths_or_input};
 use crate::list::{self, HEIRS, mode_of};
@@ -15,11 +17,14 @@ use std::io::Write;
 pub(crate) const VERSION: &str = "0.1.0";
 
 /// Checks what the request names, and answers the status.
+#[tactic(auto, using(crate::proofs::Statuses::check_ends))]
 pub(crate) fn check<R: System, O: Write + Drop, F: Write + Drop>(
     rt: &R,
     request: &CheckRequest<'_>,
     console: &mut Console<O, F>,
-) -> Result<u8, Trouble> {
+) -> Result<u8, Trouble>
+    ensures { IfOk result (λ status. status < 4) }
+{
     let inside = Inside {
         list: list::inside(),
         heirs: HEIRS.as_bytes(),

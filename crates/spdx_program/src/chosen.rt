@@ -1,5 +1,7 @@
 // What each package is used under.
 
+ghost use Rattle.std.specs.Prelude.{◌<◌, IfOk};
+
 use crate::console::Console;
 use crate::list::mode_of;
 use choice_program::{ChoiceTrouble, Unchosen, Why};
@@ -28,7 +30,9 @@ pub(crate) fn tell_unchosen<O: Write + Drop, F: Write + Drop>(
     alloc: Global,
     trouble: ChoiceTrouble,
     console: &mut Console<O, F>,
-) -> Result<u8, Trouble> {
+) -> Result<u8, Trouble>
+    ensures { IfOk result (λ status. status < 4) }
+{
     match trouble {
         ChoiceTrouble::NoLicensee(name, reason) => {
             Err(Trouble::Accepted(name, format!(in alloc; "{reason}")?))
@@ -47,7 +51,9 @@ fn tell_each<O: Write + Drop, F: Write + Drop>(
     alloc: Global,
     lacking: Vec<Unchosen>,
     console: &mut Console<O, F>,
-) -> Result<u8, Trouble> {
+) -> Result<u8, Trouble>
+    ensures { IfOk result (λ status. status < 4) }
+{
     let mut status = 0;
     for one in lacking {
         let Unchosen { name, why } = one;

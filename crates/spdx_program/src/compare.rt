@@ -1,5 +1,7 @@
 // The command `compare`.
 
+ghost use Rattle.std.specs.Prelude.{◌<◌, IfOk};
+
 use crate::console::Console;
 use crate::files::system::System;
 use crate::list::inside;
@@ -10,11 +12,14 @@ use spdx_words::CompareRequest;
 use std::io::Write;
 
 /// Tells how what two expressions ask compares, and answers the status: 0 exactly if they mean the same.
+#[tactic(auto, using(crate::proofs::Statuses::compare_ends))]
 pub(crate) fn compare<R: System, O: Write + Drop, F: Write + Drop>(
     rt: &R,
     request: &CompareRequest<'_>,
     console: &mut Console<O, F>,
-) -> Result<u8, Trouble> {
+) -> Result<u8, Trouble>
+    ensures { IfOk result (λ status. status < 4) }
+{
     let asked = Asked {
         list: request.list,
         is_lax: request.is_lax,

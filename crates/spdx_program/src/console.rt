@@ -1,6 +1,6 @@
 // Where the program writes.
 
-ghost use Rattle.std.specs.Prelude.{None};
+ghost use Rattle.std.specs.Prelude.{◌<◌, None};
 
 use check_files::{CheckTrouble, Telling};
 use fix_program::Progress;
@@ -60,7 +60,9 @@ pub(crate) struct Console<O: Drop, F: Drop> {
 
 impl<O: Write + Drop, F: Write + Drop> Console<O, F> {
     /// Tells a trouble, as far as that goes, and answers its status.
-    pub(crate) fn tell(&mut self, alloc: Global, trouble: &Trouble) -> u8 {
+    pub(crate) fn tell(&mut self, alloc: Global, trouble: &Trouble) -> u8
+        ensures { result < 4 }
+    {
         tell_on(alloc, trouble, &mut self.faults)
     }
 
@@ -73,7 +75,9 @@ impl<O: Write + Drop, F: Write + Drop> Console<O, F> {
 }
 
 // Tells a trouble; where memory for its line is refused, that is told instead.
-fn tell_on<F: Write + Drop>(alloc: Global, trouble: &Trouble, faults: &mut Output<F>) -> u8 {
+fn tell_on<F: Write + Drop>(alloc: Global, trouble: &Trouble, faults: &mut Output<F>) -> u8
+    ensures { result < 4 }
+{
     match put_line(alloc, trouble, faults) {
         Ok(()) => trouble.status(),
         Err(AllocError) => {

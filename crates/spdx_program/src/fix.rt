@@ -1,5 +1,7 @@
 // The command `fix`.
 
+ghost use Rattle.std.specs.Prelude.{◌<◌, IfOk};
+
 use crate::console::Console;
 use crate::files::left::{tell_left, tell_left_beside};
 use crate::files::replace::{Loss, Obstacle, replace};
@@ -17,11 +19,14 @@ use std::collections::BTreeSet;
 use std::io::Write;
 
 /// Mends what the request names, and answers the status: 1 where some expression is refused and has no mended text.
+#[tactic(auto, using(crate::proofs::Statuses::fix_ends))]
 pub(crate) fn fix<R: System, O: Write + Drop, F: Write + Drop>(
     rt: &R,
     request: &FixRequest<'_>,
     console: &mut Console<O, F>,
-) -> Result<u8, Trouble> {
+) -> Result<u8, Trouble>
+    ensures { IfOk result (λ status. status < 4) }
+{
     let run = run_of(rt, request, console)?;
     let mut status = run.status();
     let Run { catalogue, paths } = run;
@@ -71,7 +76,9 @@ fn do_path<R: System, O: Write + Drop, F: Write + Drop>(
     writing: &mut Writing<'_>,
     path: PathEnd,
     console: &mut Console<O, F>,
-) -> Result<u8, Trouble> {
+) -> Result<u8, Trouble>
+    ensures { IfOk result (λ status. status < 4) }
+{
     let alloc = rt.alloc();
     let mut left = Vec::new(alloc);
     let mut status = 0;
@@ -96,7 +103,9 @@ fn do_deed<R: System, O: Write + Drop, F: Write + Drop>(
     writing: &mut Writing<'_>,
     fixed: Fixed,
     console: &mut Console<O, F>,
-) -> Result<u8, Trouble> {
+) -> Result<u8, Trouble>
+    ensures { IfOk result (λ status. status < 4) }
+{
     let Fixed { deed, .. } = fixed;
     match deed {
         Deed::Nothing => Ok(0),
@@ -121,7 +130,9 @@ fn do_again<R: System, O: Write + Drop, F: Write + Drop>(
     writing: &mut Writing<'_>,
     old: Replacement,
     console: &mut Console<O, F>,
-) -> Result<u8, Trouble> {
+) -> Result<u8, Trouble>
+    ensures { IfOk result (λ status. status < 4) }
+{
     let manner = Manner {
         catalogue: writing.catalogue,
         is_written: true,
@@ -138,7 +149,9 @@ fn write_again<R: System, O: Write + Drop, F: Write + Drop>(
     writing: &mut Writing<'_>,
     fixed: Fixed,
     console: &mut Console<O, F>,
-) -> Result<u8, Trouble> {
+) -> Result<u8, Trouble>
+    ensures { IfOk result (λ status. status < 4) }
+{
     let Fixed { deed, .. } = fixed;
     match deed {
         Deed::Replace(new) => write(rt, writing, new, console),
@@ -152,7 +165,9 @@ fn write<R: System, O: Write + Drop, F: Write + Drop>(
     writing: &mut Writing<'_>,
     new: Replacement,
     console: &mut Console<O, F>,
-) -> Result<u8, Trouble> {
+) -> Result<u8, Trouble>
+    ensures { IfOk result (λ status. status < 4) }
+{
     let alloc = rt.alloc();
     let Replacement {
         path,
@@ -202,7 +217,9 @@ fn pass_over<R: System, O: Write + Drop, F: Write + Drop>(
     rt: &R,
     trouble: Trouble,
     console: &mut Console<O, F>,
-) -> Result<u8, Trouble> {
+) -> Result<u8, Trouble>
+    ensures { IfOk result (λ status. status < 4) }
+{
     if trouble.is_passed_over() {
         Ok(console.tell(rt.alloc(), &trouble))
     } else {

@@ -1,5 +1,7 @@
 // The command `gate`.
 
+ghost use Rattle.std.specs.Prelude.{◌<◌, IfOk};
+
 use crate::check::VERSION;
 use crate::console::{Console, Teller};
 use crate::files::system::{System, paths_or_input};
@@ -17,11 +19,14 @@ use std::io::Write;
 
 /// Judges the packages that the request names, and answers the status: 0 exactly if every file is read and every package
 /// allowed, or refused in the baseline too.
+#[tactic(auto, using(crate::proofs::Statuses::gate_ends))]
 pub(crate) fn gate<R: System, O: Write + Drop, F: Write + Drop>(
     rt: &R,
     request: &GateRequest<'_>,
     console: &mut Console<O, F>,
-) -> Result<u8, Trouble> {
+) -> Result<u8, Trouble>
+    ensures { IfOk result (λ status. status < 4) }
+{
     let asked = Asked {
         run: asked(request, console.screen.colours),
         is_quiet: request.quiet,

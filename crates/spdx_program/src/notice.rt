@@ -1,5 +1,7 @@
 // The command `notice`.
 
+ghost use Rattle.std.specs.Prelude.{◌<◌, IfOk};
+
 use crate::chosen::{accepted, tell_unchosen};
 use crate::console::{Console, Teller};
 use crate::files::system::{System, paths_or_input};
@@ -24,11 +26,14 @@ const OWN_LINK: &str = "a link out of the folder";
 const GENERAL_LINK: &str = "a link out of the folder; --follow reads it";
 
 /// Writes the page that the request asks for, and answers the status. Nothing is written unless all of it is there.
+#[tactic(auto, using(crate::proofs::Statuses::notice_ends_low))]
 pub(crate) fn notice<R: System, O: Write + Drop, F: Write + Drop>(
     rt: &R,
     request: &NoticeRequest<'_>,
     console: &mut Console<O, F>,
-) -> Result<u8, Trouble> {
+) -> Result<u8, Trouble>
+    ensures { IfOk result (λ status. status < 4) }
+{
     let alloc = rt.alloc();
     let shelf = SystemShelf::new(rt);
     let asked = asked(request);
@@ -134,7 +139,9 @@ fn tell_texts<O: Write + Drop, F: Write + Drop>(
     troubles: Vec<TextTrouble>,
     link: &str,
     console: &mut Console<O, F>,
-) -> Result<u8, Trouble> {
+) -> Result<u8, Trouble>
+    ensures { IfOk result (λ status. status < 4) }
+{
     let mut status = 0;
     for trouble in troubles {
         let trouble = told(alloc, trouble, link)?;

@@ -1,5 +1,7 @@
 // What is asked for, done.
 
+ghost use Rattle.std.specs.Prelude.{◌<◌};
+
 use crate::changes::changes;
 use crate::check::check;
 use crate::compare::compare;
@@ -25,7 +27,9 @@ pub fn run<R: System, O: Write + Drop, F: Write + Drop>(
     screen: Screen,
     output: O,
     faults: F,
-) -> u8 {
+) -> u8
+    ensures { result < 4 }
+{
     let is_quiet = match request {
         Request::Check(request) => request.quiet,
         Request::Gate(request) => request.quiet,

@@ -1,5 +1,7 @@
 // The command `simplify`.
 
+ghost use Rattle.std.specs.Prelude.{◌<◌, IfOk};
+
 use crate::console::{Console, Teller};
 use crate::files::system::{System, paths_or_input};
 use crate::list::inside;
@@ -11,11 +13,14 @@ use std::io::Write;
 
 /// Writes each line's expression as its meaning text, and answers the status: 1 where some line has none, which is then
 /// written as it stands.
+#[tactic(auto, using(crate::proofs::Statuses::simplify_ends))]
 pub(crate) fn simplify<R: System, O: Write + Drop, F: Write + Drop>(
     rt: &R,
     request: &SimplifyRequest<'_>,
     console: &mut Console<O, F>,
-) -> Result<u8, Trouble> {
+) -> Result<u8, Trouble>
+    ensures { IfOk result (λ status. status < 4) }
+{
     let asked = Request {
         list: request.list,
         is_lax: request.is_lax,

@@ -1,5 +1,7 @@
 // The command `list diff`.
 
+ghost use Rattle.std.specs.Prelude.{◌<◌, IfOk};
+
 use crate::console::Console;
 use crate::files::system::System;
 use crate::list::{HEIRS, inside};
@@ -14,7 +16,9 @@ pub(crate) fn diff<R: System, O: Write + Drop, F: Write + Drop>(
     rt: &R,
     request: &DiffRequest<'_>,
     console: &mut Console<O, F>,
-) -> Result<u8, Trouble> {
+) -> Result<u8, Trouble>
+    ensures { IfOk result (λ status. status < 4) }
+{
     let shelf = SystemShelf::new(rt);
     let lists = Lists {
         old: request.old,

@@ -1,5 +1,7 @@
 // The command `list make`.
 
+ghost use Rattle.std.specs.Prelude.{◌<◌, IfOk};
+
 use crate::console::Console;
 use crate::files::system::System;
 use list_program::MadeOf;
@@ -13,7 +15,9 @@ pub(crate) fn make<R: System, O: Write + Drop, F: Write + Drop>(
     rt: &R,
     request: &MakeRequest<'_>,
     console: &mut Console<O, F>,
-) -> Result<u8, Trouble> {
+) -> Result<u8, Trouble>
+    ensures { IfOk result (λ status. status < 4) }
+{
     let paths = MadeOf {
         licenses: request.licenses,
         exceptions: request.exceptions,

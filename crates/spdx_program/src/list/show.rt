@@ -1,5 +1,7 @@
 // The command `list show`.
 
+ghost use Rattle.std.specs.Prelude.{◌<◌, IfOk};
+
 use crate::console::{Console, Teller};
 use crate::files::system::System;
 use crate::list::{HEIRS, inside};
@@ -10,11 +12,14 @@ use spdx_words::ShowRequest;
 use std::io::Write;
 
 /// Shows what the list says of the names, and answers the status.
+#[tactic(auto, using(crate::proofs::Statuses::show_ends))]
 pub(crate) fn show<R: System, O: Write + Drop, F: Write + Drop>(
     rt: &R,
     request: &ShowRequest<'_>,
     console: &mut Console<O, F>,
-) -> Result<u8, Trouble> {
+) -> Result<u8, Trouble>
+    ensures { IfOk result (λ status. status < 4) }
+{
     let asked = Asked {
         list: request.list,
         names: request.names.as_slice(),
