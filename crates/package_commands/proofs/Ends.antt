@@ -18,7 +18,7 @@ use Rattle.package_files.specs.declared.fault.FileFault.{FileFault}
 use Rattle.package_files.specs.declared.listed.Listed.{Listed}
 use Rattle.package_files.specs.declared.listed.Source.{Source}
 use Rattle.package_commands.specs.Forms.{AreFormsTold}
-use Rattle.package_commands.specs.Gate.{IsGateEnd, IsReadTold, IsUnexplained}
+use Rattle.package_commands.specs.Gate.{AreBothTold, IsGateEnd, IsReadTold, IsUnexplained}
 use Rattle.package_commands.specs.Shared.{AreSharedTold, AreToldAs, documents_in, names_text}
 use Rattle.spdx_troubles.specs.Causes.{file_trouble}
 use Rattle.spdx_troubles.specs.declared.trouble.Trouble.{Trouble}
@@ -30,14 +30,15 @@ pub quiet_told : (quiet : Bool) (how : Source) (files : List Listed) (heard : Op
 quiet_told quiet how files heard e =
     subst (λ (b : Bool). Tells heard heard (IsReadTold b how files)) (sym e) (record { told = []; tells = hears_nil heard; is = refl })
 
-pub read_told : (quiet : Bool) (how : Source) (files : List Listed) (h k l : Option (List Trouble)) → quiet ≡ false → Tells h k (AreFormsTold files) → Tells k l (AreSharedTold how files)
-    → Tells h l (IsReadTold quiet how files)
-read_told quiet how files h k l e p q =
-    subst (λ (b : Bool). Tells h l (IsReadTold b how files)) (sym e) (record {
-      told = p.told ++ q.told;
-      tells = hears_trans h k l p.told q.told p.tells q.tells;
-      is = record { forms = p.told; shared = q.told; forms_are = p.is; shared_are = q.is; told_are = refl };
-    })
+pub read_told : (quiet : Bool) (how : Source) (files : List Listed) (h l : Option (List Trouble)) → quiet ≡ false → Tells h l (AreBothTold how files) → Tells h l (IsReadTold quiet how files)
+read_told quiet how files h l e p = subst (λ (b : Bool). Tells h l (IsReadTold b how files)) (sym e) p
+
+pub both_told : (how : Source) (files : List Listed) (h k l : Option (List Trouble)) → Tells h k (AreFormsTold files) → Tells k l (AreSharedTold how files) → Tells h l (AreBothTold how files)
+both_told how files h k l p q = record {
+  told = p.told ++ q.told;
+  tells = hears_trans h k l p.told q.told p.tells q.tells;
+  is = record { forms = p.told; shared = q.told; forms_are = p.is; shared_are = q.is; told_are = refl };
+}
 
 -- ---- references
 

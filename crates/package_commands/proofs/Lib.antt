@@ -1,3 +1,6 @@
 pub mod Steps
 pub mod Ends
 pub mod Diffs
+pub mod Choosing
+pub mod Obstacles
+pub mod Noticing

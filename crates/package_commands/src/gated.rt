@@ -6,7 +6,7 @@ ghost use Rattle.check_files.specs.Told.{Does, Hears, Tells};
 ghost use Rattle.gate_program.specs.Run.{AreAllAllowed, IsNoRun};
 ghost use Rattle.list_program.specs.Named.{inside_of};
 ghost use Rattle.package_commands.specs.Gate as spec;
-ghost use Rattle.package_commands.specs.Gate.{IsGate, IsGateEnd, IsReadTold};
+ghost use Rattle.package_commands.specs.Gate.{AreBothTold, IsGate, IsGateEnd, IsReadTold};
 ghost use Rattle.spdx_commands.specs.Stops.{IsBroken, IsStopped};
 ghost use Rattle.spdx_troubles.specs.Causes.{file_trouble, gate_trouble};
 
@@ -105,8 +105,27 @@ fn tell_read<T: Listener>(
     if asked.is_quiet {
         return Ok(());
     }
+    tell_both(alloc, asked.run.wanted.source, files, listener)?;
+    Ok(())
+}
+
+/// Tells in which forms files were read without being asked, and which references several of SPDX's documents have.
+///
+/// # Errors
+///
+/// Memory was refused.
+#[tactic(auto, using(crate::proofs::Ends::both_told))]
+pub(crate) fn tell_both<T: Listener>(
+    alloc: Global,
+    source: Source<'_>,
+    files: &[Listed],
+    listener: &mut T,
+) -> Result<(), AllocError>
+    ensures { OnOk result (Tells (T.heard listener.old) (T.heard listener.new)
+        (AreBothTold source.entry files.now)) }
+{
     tell_forms(alloc, files, listener)?;
-    tell_shared(alloc, asked.run.wanted.source, files, listener)?;
+    tell_shared(alloc, source, files, listener)?;
     Ok(())
 }
 

@@ -5,16 +5,20 @@
 //! package_commands::gate(
 //! ```
 //!
-//! Here are `gate` and `diff`. It stands on `gate_program`, `changes_program`, `document_references` and
-//! `spdx_commands`.
+//! Here are `gate`, `diff` and `notice`. It stands on `gate_program`, `changes_program`, `notice_program`,
+//! `document_references` and `spdx_commands`.
 #![tactic(auto)]
 
 mod differences;
 mod forms;
 mod gated;
+mod pages;
 mod shared;
+mod texts;
+mod unchosen;
 
 pub use crate::differences::{AskedDiff, Changed, diff};
 pub use crate::forms::tell_forms;
 pub use crate::gated::{Asked, gate, tell_left_out};
+pub use crate::pages::{Noticed, notice};
 pub use crate::shared::tell_shared;

@@ -23,14 +23,17 @@ use Rattle.choice_program.specs.declared.choosing.ChoiceTrouble.{ChoiceTrouble}
 use Rattle.choice_program.specs.declared.choosing.ChoiceTrouble.TheVariants as trouble
 use Rattle.notice_program.specs.Ends as notice
 use Rattle.notice_program.specs.declared.end.End as notice_end
-use Rattle.notice_program.specs.declared.end.End.TheVariants as notice_ends
+use Rattle.notice_program.specs.declared.end.End.TheVariants as ends
+use Rattle.notice_program.specs.declared.end.Request as notice_asked
 use Rattle.meaning_program.specs.declared.compared.Asked as compare_asked
 use Rattle.meaning_program.specs.declared.files.Request as simplify_asked
 use Rattle.package_commands.specs.Changes.{IsDiff}
 use Rattle.package_commands.specs.declared.differences.AskedDiff.{AskedDiff}
 use Rattle.package_commands.specs.declared.differences.Changed.{Changed}
 use Rattle.package_commands.specs.Gate.{IsGate}
+use Rattle.package_commands.specs.Notice.{IsNotice}
 use Rattle.package_commands.specs.declared.gated.Asked as gate_asked
+use Rattle.package_commands.specs.declared.pages.Noticed.{Noticed}
 use Rattle.spdx_commands.specs.Compare.{IsCompare}
 use Rattle.spdx_commands.specs.Lists.{IsShow}
 use Rattle.spdx_commands.specs.Simplify.{IsSimplify}
@@ -110,13 +113,14 @@ page_low None = omega arith
 page_low (Some page) = omega arith
 
 notice_low : (e : notice_end.End) → notice.end_status e < 4
-notice_low notice_ends.LeftOut = omega arith
-notice_low (notice_ends.NoChoice t) = choice_low t
-notice_low (notice_ends.NoFolder t) = omega arith
-notice_low (notice_ends.NoOwn ts) = omega arith
-notice_low (notice_ends.NoGeneral ts) = omega arith
-notice_low (notice_ends.NotUtf8 n) = omega arith
-notice_low (notice_ends.Told n) = page_low n.page
+notice_low ends.LeftOut = omega arith
+notice_low (ends.NoChoice t) = choice_low t
+notice_low (ends.NoFolder t) = omega arith
+notice_low (ends.NoOwn ts) = omega arith
+notice_low (ends.NoGeneral ts) = omega arith
+notice_low (ends.NotUtf8 n) = omega arith
+notice_low (ends.Told n) = page_low n.page
 
-pub notice_ends_low : (e : notice_end.End) (status : ℕ) → status ≡ notice.end_status e → status < 4
-notice_ends_low e status is = as_is status _ is (notice_low e)
+pub notice_ends : (s : Shelved) (inside : InsideBytes) (heirs : List ℕ) (a : notice_asked.Request) (out out' : Told) (h h' : Option (List Trouble)) (noticed : Noticed)
+    → Does out out' h h' (λ text told. IsNotice s inside heirs a text told noticed) → noticed.status < 4
+notice_ends s inside heirs a out out' h h' noticed d = as_is noticed.status _ d.is.status_is (notice_low _)

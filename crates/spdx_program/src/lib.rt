@@ -14,7 +14,6 @@
 
 mod changes;
 mod check;
-mod chosen;
 mod compare;
 mod console;
 mod files;
