@@ -4,8 +4,8 @@
 //! Nothing is written. A page is there only where all of it is.
 //!
 //! ```rust
-//! // crates/spdx_program/src/notice.rt
-//! let run = notice_program::notice(alloc, &shelf, inside(), HEIRS.as_bytes(), asked)?;
+//! // crates/package_commands/src/pages.rt
+//! let outcome = notice_program::notice(alloc, shelf, inside, heirs, request)?;
 //! ```
 //!
 //! It stands on `package_files`, `policy_choices`, `own_texts`, `general_texts` and `notice_told`.

@@ -19,7 +19,7 @@ use std::alloc::{AllocError, Global};
 /// # Errors
 ///
 /// Memory was refused.
-pub fn tell_forms<T: Listener>(
+pub(crate) fn tell_forms<T: Listener>(
     alloc: Global,
     files: &[Listed],
     listener: &mut T,

@@ -77,7 +77,7 @@ pub fn gate<S: Shelf, O: Sink, T: Listener>(
 /// # Errors
 ///
 /// Memory was refused.
-pub fn tell_left_out<T: Listener>(
+pub(crate) fn tell_left_out<T: Listener>(
     alloc: Global,
     left_out: Vec<FileFault>,
     listener: &mut T,

@@ -18,7 +18,5 @@ mod texts;
 mod unchosen;
 
 pub use crate::differences::{AskedDiff, Changed, diff};
-pub use crate::forms::tell_forms;
-pub use crate::gated::{Asked, gate, tell_left_out};
+pub use crate::gated::{Asked, gate};
 pub use crate::pages::{Noticed, notice};
-pub use crate::shared::tell_shared;

@@ -24,7 +24,7 @@ const NAMED: usize = 5;
 ///
 /// Memory was refused.
 #[tactic(auto, using(crate::proofs::Ends::shared_told))]
-pub fn tell_shared<T: Listener>(
+pub(crate) fn tell_shared<T: Listener>(
     alloc: Global,
     source: Source<'_>,
     files: &[Listed],

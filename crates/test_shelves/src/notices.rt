@@ -48,7 +48,11 @@ fn answer(alloc: Global, shelf: &Held, given: &str) -> Result<String, AllocError
     }
 }
 
-pub(crate) fn request<'r>(paths: &'r [&'r str], accepted: &'r str, words: &'r [&'r str]) -> Request<'r> {
+pub(crate) fn request<'r>(
+    paths: &'r [&'r str],
+    accepted: &'r str,
+    words: &'r [&'r str],
+) -> Request<'r> {
     Request {
         list: behind(words, "list"),
         wanted: Wanted {
