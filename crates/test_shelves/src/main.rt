@@ -21,7 +21,6 @@ mod list_diffs;
 mod lists;
 mod notices;
 mod packages;
-mod pages;
 mod shelf;
 mod shows;
 mod simplifies;
@@ -46,9 +45,6 @@ fn start(rt: &HostRuntime) -> io::Result<u8> {
     shown.push_str("== notices\n")?;
     let rows = fs::read_to_string(rt, "notices.rows")?;
     let are_notices_good = notices::try_rows(rt.alloc(), &mut shown, rows.as_str())?;
-    shown.push_str("== pages\n")?;
-    let rows = fs::read_to_string(rt, "pages.rows")?;
-    let are_pages_good = pages::try_rows(rt.alloc(), &mut shown, rows.as_str())?;
     shown.push_str("== diffs\n")?;
     let rows = fs::read_to_string(rt, "diffs.rows")?;
     let are_diffs_good = diffs::try_rows(rt.alloc(), &mut shown, rows.as_str())?;
@@ -90,7 +86,6 @@ fn start(rt: &HostRuntime) -> io::Result<u8> {
         && are_packages_good
         && are_gates_good
         && are_notices_good
-        && are_pages_good
         && are_diffs_good
         && are_changes_good
         && are_compares_good

@@ -48,11 +48,7 @@ fn answer(alloc: Global, shelf: &Held, given: &str) -> Result<String, AllocError
     }
 }
 
-pub(crate) fn request<'r>(
-    paths: &'r [&'r str],
-    accepted: &'r str,
-    words: &'r [&'r str],
-) -> Request<'r> {
+fn request<'r>(paths: &'r [&'r str], accepted: &'r str, words: &'r [&'r str]) -> Request<'r> {
     Request {
         list: behind(words, "list"),
         wanted: Wanted {
@@ -92,7 +88,7 @@ fn own<'r>(words: &'r [&'r str]) -> OwnTexts<'r> {
     }
 }
 
-pub(crate) fn has(words: &[&str], word: &str) -> bool {
+fn has(words: &[&str], word: &str) -> bool {
     words.iter().any(|one| *one == word)
 }
 
@@ -164,7 +160,7 @@ fn told_notice(alloc: Global, notice: &ToldPage) -> Result<String, AllocError> {
 }
 
 // The lines that aren't blank, nor rules.
-pub(crate) fn lines_told(alloc: Global, page: &[u8]) -> Result<String, AllocError> {
+fn lines_told(alloc: Global, page: &[u8]) -> Result<String, AllocError> {
     let text = String::from_utf8_lossy(alloc, page)?;
     let mut told = String::new(alloc);
     for line in text.as_str().lines() {

@@ -1,7 +1,7 @@
 // Which trouble an error of the system is, how it is told, and with which status it ends.
 //
 // A row `ACT KIND | PATH => STATUS LINE`, where the act is `unreadable`, `unwritable` or `owner` and the kind that of the error, has
-// the status and the line that is told. In a path `\0` is a byte 0, and `\e` the byte that begins a terminal's commands.
+// the status and the line that is told. In a path `\0` is a byte 0, or `\e` the byte that begins a terminal's commands, once.
 
 use spdx_troubles::Trouble;
 use std::alloc::{AllocError, Global};
@@ -40,17 +40,18 @@ fn answer(alloc: Global, given: &str) -> Result<String, AllocError> {
 
 fn path_of(alloc: Global, written: &str) -> Result<String, AllocError> {
     let mut path = String::new(alloc);
-    let mut rest = written;
-    while let Some((front, behind)) = rest.split_once('\\') {
-        path.push_str(front)?;
-        path.push(if behind.starts_with('0') {
-            '\0'
-        } else {
-            '\u{1b}'
-        })?;
-        rest = behind.get(1..).unwrap_or("");
+    match written.split_once('\\') {
+        Some((front, behind)) => {
+            path.push_str(front)?;
+            path.push(if behind.starts_with('0') {
+                '\0'
+            } else {
+                '\u{1b}'
+            })?;
+            path.push_str(behind.get(1..).unwrap_or(""))?;
+        }
+        None => path.push_str(written)?,
     }
-    path.push_str(rest)?;
     Ok(path)
 }
 
