@@ -4,7 +4,7 @@ use Rattle.json.specs.Token.{end_object, key, string}
 use Rattle.json.specs.Lex.{tokens}
 use Rattle.json.specs.Json.{max_depth, document}
 use Rattle.json.specs.Tree.{json_tokens, members_tokens, depth, members_depth}
-use Rattle.finding_forms.specs.Finding.{Aid, nothing, write, names, Told, from_of, to_of}
+use Rattle.finding_forms.specs.Finding.{Aid, nothing, write, names, note, Told, from_of, to_of}
 use Rattle.finding_forms.specs.Json.{aid_members, json_of, json_text, HasNoNewline}
 use Rattle.finding_forms.proofs.JsonLines.{items_depth-texts_of, document-from, AreOneLine, one_line-print_from, one_line-decimal, texts_one_line}
 
@@ -13,6 +13,7 @@ members_depth-aid nothing = omega arith
 members_depth-aid (write mended) = omega arith
 members_depth-aid (names [] rule) = omega arith
 members_depth-aid (names (first ∷ others) rule) = omega (arith, items_depth-texts_of others)
+members_depth-aid (note words) = omega arith
 
 depth-json_of : (t : Told) → depth (json_of t) ≤ max_depth
 depth-json_of t = omega (arith, members_depth-aid t.aid)
@@ -25,6 +26,7 @@ aid_one_line nothing = tt
 aid_one_line (write mended) = tt
 aid_one_line (names [] rule) = tt
 aid_one_line (names (first ∷ others) rule) = texts_one_line others (key (codes "rule") ∷ string rule ∷ end_object ∷ []) tt
+aid_one_line (note words) = tt
 
 pub one_line-json_text : (t : Told) → HasNoNewline (json_text t)
 one_line-json_text t =

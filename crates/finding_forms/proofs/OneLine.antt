@@ -8,7 +8,7 @@ use Rattle.finding_forms.specs.Json.{HasNoNewline}
 use Rattle.foreign_text.specs.Hidden.{is_hidden}
 use Rattle.foreign_text.specs.Written.{text_for, char_for, visible, numbered, percent, is_command_mark, is_property_mark}
 use Rattle.foreign_text.proofs.Bytes.{hidden_newline}
-use Rattle.finding_forms.specs.Finding.{Aid, nothing, write, names, Seen, Told}
+use Rattle.finding_forms.specs.Finding.{Aid, nothing, write, names, note, Seen, Told}
 use Rattle.finding_forms.specs.Forms.{IsOneLine, short_text, github_place, github_text}
 use Rattle.finding_forms.specs.Message.{helps, named, other_names, names_text, help_text, message_text, place_text}
 use Rattle.finding_forms.proofs.JsonLines.{joined, one_line-digits_onto, one_line-decimal}
@@ -92,6 +92,7 @@ one_line-help how clean nothing = tt
 one_line-help how clean (write mended) =
     (omega arith, (omega arith, (omega arith, (omega arith, (omega arith, (omega arith, one_line-named how clean mended))))))
 one_line-help how clean (names listed rule) = one_line-names how clean listed
+one_line-help how clean (note text) = one_line-text_for how clean text
 
 one_line-message : (how : Sink) → Clean how → (t : Told) → HasNoNewline (message_text how t)
 one_line-message how clean t =

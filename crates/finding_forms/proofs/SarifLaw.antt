@@ -6,7 +6,7 @@ use Rattle.json.proofs.Printed.Decimals.{IsNumber-decimal}
 use Rattle.foreign_text.specs.declared.sinks.Sink.TheVariants.{Message, Path}
 use Rattle.foreign_text.specs.Written.{text_for}
 use Rattle.finding_forms.specs.Message.{message_text}
-use Rattle.finding_forms.specs.Finding.{Aid, nothing, write, names, Told, column_behind, fault_of}
+use Rattle.finding_forms.specs.Finding.{Aid, nothing, write, names, note, Told, column_behind, fault_of}
 use Rattle.finding_forms.specs.SarifLog.{text_object, artifact, items_of}
 use Rattle.finding_forms.specs.Sarif.{region, location, replacement, result_of, fixes_of, IsNumbered, AreNumbered, LogReadsBack}
 use Rattle.finding_forms.proofs.SarifLogLaw as log
@@ -38,6 +38,7 @@ fixes_numbers path t (write mended) h k =
     let put : HasNumbers (replacement t mended) = ((h, (k, (is_column t.column t.expression, tt))), (text_numbers mended, tt)) in
     (((((artifact_numbers path, ((put, tt), tt)), tt), tt), tt), tt)
 fixes_numbers path t (names listed rule) h k = tt
+fixes_numbers path t (note words) h k = tt
 
 result_numbers : (t : Told) → IsNumbered t → HasNumbers (result_of t)
 result_numbers t h =
@@ -56,6 +57,7 @@ fixes_depth : (path : List ℕ) (t : Told) (aid : Aid) → members_depth (fixes_
 fixes_depth path t nothing = omega arith
 fixes_depth path t (write mended) = omega arith
 fixes_depth path t (names listed rule) = omega arith
+fixes_depth path t (note words) = omega arith
 
 result_depth : (t : Told) → depth (result_of t) ≤ 13
 result_depth t = omega (arith, fixes_depth (text_for Path t.file) t t.aid)

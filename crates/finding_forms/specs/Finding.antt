@@ -4,14 +4,15 @@ use Rattle.std.specs.Borrow.{Bor}
 use Rattle.finding_forms.specs.declared.findings.Finding.{Finding}
 use Rattle.finding_forms.specs.declared.findings.Sight.{Sight}
 use Rattle.finding_forms.specs.declared.findings.Help.{Help}
-use Rattle.finding_forms.specs.declared.findings.Help.TheVariants.{Nothing, Write, Names}
+use Rattle.finding_forms.specs.declared.findings.Help.TheVariants.{Nothing, Write, Names, Note}
 
--- what helps: nothing, the mended text, or names that may be meant and a word for the rule that
--- gave them
+-- what helps: nothing, the mended text, names that may be meant and a word for the rule that gave
+-- them, or a note in words
 pub data Aid : Type 0 where
   nothing : Aid
   write : List ℕ → Aid
   names : List (List ℕ) → List ℕ → Aid
+  note : List ℕ → Aid
 
 -- where a fault is seen: the number of its line, its column, and a text with the fault from `start`
 -- up to `end`
@@ -75,6 +76,7 @@ abbrev pub aid_of : Help → Aid
 aid_of Nothing = nothing
 aid_of (Write mended) = write mended.now
 aid_of (Names listed rule) = names (map (λ (x : Bor (List ℕ)). x.now) listed.now) rule.now
+aid_of (Note words) = note words.now
 
 -- the expression stands in the file as it is
 abbrev pub seen_alone : ℕ → ℕ → List ℕ → ℕ → ℕ → Seen

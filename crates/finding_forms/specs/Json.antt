@@ -3,14 +3,14 @@ use Rattle.std.specs.Prelude.{ℕ, ◌≢◌, ⊤, List, [], ◌∷◌, ◌++◌
 use Rattle.json.specs.Json.{Json, number, string, array, object, Items, no_items, item, Members, no_members, member}
 use Rattle.json.specs.Print.{print}
 use Rattle.json.specs.Tree.{json_tokens}
-use Rattle.finding_forms.specs.Finding.{Aid, nothing, write, names, Told, from_of, to_of}
+use Rattle.finding_forms.specs.Finding.{Aid, nothing, write, names, note, Told, from_of, to_of}
 
 abbrev pub texts_of : List (List ℕ) → Items
 texts_of [] = no_items
 texts_of (text ∷ texts) = item (string text) (texts_of texts)
 
 -- the mended text as `fix`; or the names as `hints`, where there are any, and as `rule` what gave
--- them
+-- them; or the words as `note`
 abbrev pub aid_members : Aid → Members
 aid_members nothing = no_members
 aid_members (write mended) = member (codes "fix") (string mended) no_members
@@ -18,6 +18,7 @@ aid_members (names [] rule) = no_members
 aid_members (names (first ∷ others) rule) =
     member (codes "hints") (array (texts_of (first ∷ others)))
     (member (codes "rule") (string rule) no_members)
+aid_members (note words) = member (codes "note") (string words) no_members
 
 -- the line and the column are those of the fault, `start` and `end` its bytes in the expression
 abbrev pub json_of : Told → Json

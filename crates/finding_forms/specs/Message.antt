@@ -2,13 +2,14 @@
 use Rattle.std.specs.Prelude.{ℕ, List, [], ◌∷◌, ◌++◌, Bool, true, false, if◌then◌else◌, codes, decimal}
 use Rattle.foreign_text.specs.declared.sinks.Sink.{Sink}
 use Rattle.foreign_text.specs.Written.{text_for}
-use Rattle.finding_forms.specs.Finding.{Aid, nothing, write, names, Told}
+use Rattle.finding_forms.specs.Finding.{Aid, nothing, write, names, note, Told}
 
 abbrev pub helps : Aid → Bool
 helps nothing = false
 helps (write mended) = true
 helps (names [] rule) = false
 helps (names (first ∷ others) rule) = true
+helps (note words) = true
 
 -- the text between backquotes
 abbrev pub named : Sink → List ℕ → List ℕ
@@ -31,6 +32,7 @@ abbrev pub help_text : Sink → Aid → List ℕ
 help_text how nothing = []
 help_text how (write mended) = codes "write " ++ named how mended
 help_text how (names listed rule) = names_text how listed
+help_text how (note words) = text_for how words
 
 -- the reason, and behind it what helps
 abbrev pub message_text : Sink → Told → List ℕ

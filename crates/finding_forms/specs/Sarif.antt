@@ -7,7 +7,7 @@ use Rattle.json.specs.Tree.{json_tokens}
 use Rattle.foreign_text.specs.declared.sinks.Sink.TheVariants.{Message, Path}
 use Rattle.foreign_text.specs.Written.{text_for}
 use Rattle.finding_forms.specs.Rule.{rule_name}
-use Rattle.finding_forms.specs.Finding.{Aid, nothing, write, names, Told, column_behind, fault_of}
+use Rattle.finding_forms.specs.Finding.{Aid, nothing, write, names, note, Told, column_behind, fault_of}
 use Rattle.finding_forms.specs.Message.{message_text}
 use Rattle.finding_forms.specs.SarifLog.{text_object, artifact, log_of, log_text}
 
@@ -52,6 +52,7 @@ fixes_of path t nothing = no_members
 fixes_of path t (write mended) =
     member (codes "fixes") (array (item (fix path t mended) no_items)) no_members
 fixes_of path t (names listed rule) = no_members
+fixes_of path t (note words) = no_members
 
 abbrev pub fix_members : List ℕ → Told → Members
 fix_members path t = fixes_of path t t.aid

@@ -22,6 +22,8 @@ pub enum Help<'t> {
     Write(&'t str),
     /// Names that may be meant, the likeliest first, and a word for the rule that gave them.
     Names { names: &'t [&'t str], rule: &'t str },
+    /// A note in words.
+    Note(&'t str),
 }
 
 /// Where a fault is seen in its file: in a line, which may have more than the expression, or have it with escapes.
@@ -61,7 +63,7 @@ impl Help<'_> {
     {
         match self {
             Help::Nothing => false,
-            Help::Write(_) => true,
+            Help::Write(_) | Help::Note(_) => true,
             Help::Names { names, rule: _ } => !names.is_empty(),
         }
     }

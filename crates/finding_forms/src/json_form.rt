@@ -95,6 +95,10 @@ fn put_aid(writer: &mut Writer, help: &Help<'_>) -> Result<(), AllocError>
             writer.key("rule")?;
             writer.string(rule)?;
         }
+        Help::Note(words) => {
+            writer.key("note")?;
+            writer.string(words)?;
+        }
         Help::Nothing | Help::Names { names: _, rule: _ } => {}
     }
     writer.end_object()?;

@@ -50,6 +50,7 @@ pub(crate) fn put_help(line: &mut String, how: Sink, help: &Help<'_>) -> Result<
             put_named(line, how, mended)
         }
         Help::Names { names, rule: _ } => put_names(line, how, names),
+        Help::Note(words) => put_text(line, how, words),
     }
 }
 

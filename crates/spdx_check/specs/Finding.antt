@@ -1,9 +1,9 @@
 -- What is found in the bytes of an expression.
-use Rattle.std.specs.Prelude.{◌≡◌, ℕ, Bool, true, false, List, [], ◌∷◌, length, min, slice_range, bytes_eq, find, option_map, Option, None, Some, codes, IsUtf8, if◌then◌else◌}
+use Rattle.std.specs.Prelude.{◌≡◌, ℕ, Bool, true, false, List, [], ◌∷◌, ◌++◌, length, min, slice_range, bytes_eq, find, option_map, Option, None, Some, codes, IsUtf8, if◌then◌else◌}
 use Rattle.std.specs.Str.Lossy.{utf8_valid_len, utf8_lossy}
 use Rattle.spdx_requirement.specs.Rows.{Rows}
 use Rattle.spdx_lexer.specs.declared.token.ParseMode.{ParseMode}
-use Rattle.spdx_lexer.specs.Words.{Fault, UnknownLicense, UnknownTerm, InvalidCharacters, DeprecatedLicenseId, Span, span}
+use Rattle.spdx_lexer.specs.Words.{Fault, UnknownException, UnknownLicense, UnknownTerm, InvalidCharacters, DeprecatedLicenseId, Span, span}
 use Rattle.spdx_lexer.specs.Faults.{fault_text}
 use Rattle.spdx_parser.specs.Faults.{IsFaultOf}
 use Rattle.spdx_canonical.specs.Fix.{Reads, IsFixOf}
@@ -12,7 +12,7 @@ use Rattle.spdx_hints.specs.Rules.{rule_word}
 use Rattle.spdx_hints.specs.Hints.{hints_of, rule_of}
 use Rattle.spdx_hints.specs.Phrase.{phrase_of}
 use Rattle.spdx_list.specs.Files.{InsteadRow}
-use Rattle.finding_forms.specs.Finding.{Aid, nothing, write, names}
+use Rattle.finding_forms.specs.Finding.{Aid, nothing, write, names, note}
 
 -- what is wrong: the text that is shown, where the fault stands in it, why it is one, and what
 -- helps
@@ -22,8 +22,8 @@ pub record Wrong : Type 0 where
   pub reason : List ℕ
   pub aid : Aid
 
--- the words at the fault name no licence that may stand there; at other faults the names are known,
--- and others don't help
+-- the words at the fault name no licence that may stand there; at other faults a licence's name
+-- doesn't help
 abbrev pub wants_name : Fault → Bool
 wants_name UnknownTerm = true
 wants_name UnknownLicense = true
@@ -45,18 +45,34 @@ abbrev pub heir_of : List InsteadRow → List ℕ → Fault → Span → Option 
 heir_of heirs text DeprecatedLicenseId s = heir_in heirs (name_at text s)
 heir_of heirs text fault s = None
 
--- the names that this rule gave; nothing where no rule gave any
-abbrev pub hinted : List (List ℕ) → Option Rule → Aid
-hinted listed None = nothing
-hinted listed (Some rule) = names listed (rule_word rule)
+-- the list hasn't the name at the fault
+abbrev pub is_unlisted : Fault → Bool
+is_unlisted UnknownTerm = true
+is_unlisted UnknownLicense = true
+is_unlisted UnknownException = true
+is_unlisted fault = false
+
+-- which list that is, and by which option another is taken
+abbrev pub unlisted_words : Rows → List ℕ
+unlisted_words c = codes "not in the list " ++ (c.version ++ codes ", see --list")
+
+-- what helps where no name is close
+abbrev pub without_names : Rows → Fault → Aid
+without_names c fault = if is_unlisted fault then note (unlisted_words c) else nothing
+
+-- the names that this rule gave; the other help where no rule gave any
+abbrev pub hinted : Aid → List (List ℕ) → Option Rule → Aid
+hinted other listed None = other
+hinted other listed (Some rule) = names listed (rule_word rule)
 
 -- the licences that the phrase may mean
-abbrev pub hints_for : Rows → List ℕ → Aid
-hints_for c phrase = hinted (hints_of c phrase) (rule_of c phrase)
+abbrev pub hints_for : Rows → Fault → List ℕ → Aid
+hints_for c fault phrase = hinted (without_names c fault) (hints_of c phrase) (rule_of c phrase)
 
--- those that the phrase at the fault may mean, where a name is wanted
+-- those that the phrase at the fault may mean, where a licence is wanted
 abbrev pub hint_by : Rows → List ℕ → Fault → Span → Aid
-hint_by c text fault s = if wants_name fault then hints_for c (phrase_of text s.from) else nothing
+hint_by c text fault s =
+    if wants_name fault then hints_for c fault (phrase_of text s.from) else without_names c fault
 
 -- the heir, where there is one, which isn't a hint but replaces the name; else hints
 abbrev pub name_by : Rows → List ℕ → Fault → Span → Option (List ℕ) → Aid

@@ -12,7 +12,7 @@ ghost use Rattle.spdx_hints.specs.Borrowed.{nows};
 ghost use Rattle.spdx_list.specs.Shown.{instead_of};
 ghost use Rattle.spdx_list.specs.declared.extras.Instead.{Instead};
 ghost use Rattle.spdx_check.specs.Checking.{heirs_in, seen_by, spot_of, told_by};
-ghost use Rattle.spdx_check.specs.Finding.{IsTheFinding, aid_by, heir_in, heir_of, hint_by, hinted, name_at, wants_name, wrong_in, no_text};
+ghost use Rattle.spdx_check.specs.Finding.{IsTheFinding, aid_by, heir_in, heir_of, hint_by, hinted, is_unlisted, name_at, unlisted_words, wants_name, without_names, wrong_in, no_text};
 ghost use Rattle.spdx_check.specs.Found.{finding_of, fix_of};
 ghost use Rattle.spdx_check.specs.Refusals.{aid_in, wrong_of};
 
@@ -35,6 +35,7 @@ pub(crate) enum Remedy<'c> {
         names: Vec<&'c str>,
         rule: &'static str,
     },
+    Note(String),
 }
 
 /// What is wrong with an expression, in texts of its own.
@@ -90,6 +91,7 @@ impl Refusal<'_> {
                 names: names.as_slice(),
                 rule,
             },
+            Remedy::Note(words) => Help::Note(words.as_str()),
         }
     }
 }
@@ -98,8 +100,9 @@ impl Refusal<'_> {
 /// expression has one; else, of a deprecated name, what the heirs say to write in its place; else the names of licences that
 /// the phrase at the fault may mean, where a name is wanted there: the fault is an unknown term or licence, a byte that
 /// begins no token, or a deprecated name. An heir is told as the one name that may be meant, since it mends the name alone
-/// and no reader has tried it. Bytes that are no UTF-8 are refused too: U+FFFD is shown for each invalid sequence, the first
-/// of which is the fault.
+/// and no reader has tried it. Where none is close to an unknown term, licence or exception, a note says which list hasn't
+/// it, and by which option another is taken. Bytes that are no UTF-8 are refused too: U+FFFD is shown for each invalid
+/// sequence, the first of which is the fault.
 ///
 /// Linear in the expression's tokens, besides their look-up. One that is refused is read up to four times more, and for
 /// names each heir, or each row of the catalogue, is looked at.
@@ -263,7 +266,7 @@ fn row_named<'c>(heirs: &'c [Instead], name: &[u8]) -> Option<&'c Instead>
     heirs.iter().find(|row| row.name.as_bytes() == name)
 }
 
-// The names that the phrase at the fault may mean, if a name is wanted.
+// The names that the phrase at the fault may mean, if a licence is wanted.
 fn hints_for<'c>(
     alloc: Global,
     catalogue: &'c Catalogue,
@@ -274,23 +277,65 @@ fn hints_for<'c>(
         (fault_of error.now.reason) (span_of error.now.span)) }
 {
     if !wants_name(error.reason) {
-        return Ok(Remedy::Nothing);
+        return without_names(alloc, catalogue, error.reason);
     }
     let phrase = phrase(error.original.as_bytes(), error.span.start);
     let meant = hints(alloc, catalogue, phrase)?;
-    Ok(remedy_by(meant))
+    remedy_by(alloc, catalogue, error.reason, meant)
 }
 
-fn remedy_by(meant: Meant<'_>) -> Remedy<'_>
-    ensures { aid_in result ≡ hinted (nows meant.entry.names.items) meant.entry.rule }
+// The names, where there are any.
+fn remedy_by<'c>(
+    alloc: Global,
+    catalogue: &Catalogue,
+    reason: Reason,
+    meant: Meant<'c>,
+) -> Result<Remedy<'c>, AllocError>
+    ensures { IfOk result (λ remedy. aid_in remedy ≡
+        hinted (without_names catalogue.now (fault_of reason))
+        (nows meant.entry.names.items) meant.entry.rule) }
 {
     match meant.rule {
-        Some(rule) => Remedy::Names {
+        Some(rule) => Ok(Remedy::Names {
             names: meant.names,
             rule: rule.word(),
-        },
-        None => Remedy::Nothing,
+        }),
+        None => without_names(alloc, catalogue, reason),
     }
+}
+
+// What helps where no name is close: to know which list has none.
+fn without_names<'c>(
+    alloc: Global,
+    catalogue: &Catalogue,
+    reason: Reason,
+) -> Result<Remedy<'c>, AllocError>
+    ensures { IfOk result (λ remedy.
+        aid_in remedy ≡ without_names catalogue.now (fault_of reason)) }
+{
+    if is_unlisted(reason) {
+        Ok(Remedy::Note(unlisted_words(alloc, catalogue)?))
+    } else {
+        Ok(Remedy::Nothing)
+    }
+}
+
+fn unlisted_words(alloc: Global, catalogue: &Catalogue) -> Result<String, AllocError>
+    ensures { IfOk result (λ words. string_bytes words ≡ unlisted_words catalogue.now) }
+{
+    let mut words = String::from_str(alloc, "not in the list ")?;
+    words.push_str(catalogue.license_version())?;
+    words.push_str(", see --list")?;
+    Ok(words)
+}
+
+fn is_unlisted(reason: Reason) -> bool
+    ensures { result ≡ is_unlisted (fault_of reason) }
+{
+    matches!(
+        reason,
+        Reason::UnknownTerm | Reason::UnknownLicense | Reason::UnknownException
+    )
 }
 
 fn wants_name(reason: Reason) -> bool

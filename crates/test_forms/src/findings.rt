@@ -2,9 +2,9 @@
 //
 // A row is `FILE|LINE|COLUMN|EXPRESSION|START|END|REASON|HELP`, in which `\t`, `\n`, `\r`, `\e`, `\d` and `\s` stand for a tab,
 // a newline, a carriage return, ESC, U+202E, which turns the direction of text, and a backslash. HELP is `-` for none, `=TEXT`
-// for a mended text, and `RULE?NAME?NAME` for names. Behind it may stand `|LINE|COLUMN|TEXT|START|END`: where the fault is
-// seen, in which text. Each finding is written in each form but SARIF, in which they follow as one log; at the end stand some
-// totals.
+// for a mended text, `RULE?NAME?NAME` for names, and `!WORDS` for a note. Behind it may stand `|LINE|COLUMN|TEXT|START|END`:
+// where the fault is seen, in which text. Each finding is written in each form but SARIF, in which they follow as one log; at the
+// end stand some totals.
 
 use finding_forms::{
     Finding, Format, Help, Place, Sight, Style, put_beginning, put_ending, put_finding, put_totals,
@@ -141,6 +141,9 @@ fn help_of<'t>(row: &'t Row, names: &'t [&'t str]) -> Help<'t> {
     let told = row.field(7);
     if let Some(mended) = told.strip_prefix('=') {
         return Help::Write(mended);
+    }
+    if let Some(words) = told.strip_prefix('!') {
+        return Help::Note(words);
     }
     match told.split_once('?') {
         Some((rule, _)) => Help::Names { names, rule },
