@@ -4,3 +4,4 @@ pub mod Untouched
 pub mod Walked
 pub mod Runs
 pub mod Passing
+pub mod Each

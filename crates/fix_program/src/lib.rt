@@ -4,8 +4,8 @@
 //! Nothing is written. The plan of all files is made before the first of them is replaced.
 //!
 //! ```rust
-//! // crates/spdx_program/src/fix.rt
-//! let run = fix_program::fix(alloc, &SystemShelf::new(rt), inside(), asked, console)?;
+//! // crates/spdx_commands/src/mending.rt
+//! let run = fix_program::fix(alloc, shelf, inside, request, listener)?;
 //! ```
 //!
 //! It stands on `list_program`, `source_trees`, `file_fixes` and `line_diff`.

@@ -1,6 +1,6 @@
 // A run over all paths.
 
-ghost use Rattle.std.specs.Prelude.{◌≡◌, ◌<◌, IfErr, IfOk, map};
+ghost use Rattle.std.specs.Prelude.{◌≡◌, ◌<◌, IfErr, IfOk, OnOk, map};
 ghost use Rattle.std.specs.List.{AllZip, list_any};
 ghost use Rattle.list_program.specs.Named.{inside_of};
 ghost use Rattle.fix_program.specs.Passing.{AreAllAccepted};
@@ -156,6 +156,7 @@ pub fn fix<S: Shelf, P: Progress>(
         (inside_of inside.entry.list.now inside.entry.extras.now) request.entry) }
     ensures passes { IfOk result (λ run. status_of run < 1 → AreAllAccepted (S.told shelf.now)
         (inside_of inside.entry.list.now inside.entry.extras.now) request.entry) }
+    ensures kept { OnOk result (P.kept progress.new ≡ P.kept progress.old) }
 {
     let catalogue = named_list(alloc, shelf, inside, request.list)?;
     let manner = Manner {
@@ -181,8 +182,10 @@ fn paths_fixed<S: Shelf, P: Progress>(
     paths: &[&str],
     progress: &mut P,
 ) -> Result<Vec<PathEnd>, AllocError>
-    ensures { IfOk result (λ ends. AllZip (IsPathEnd (S.told shelf.now) manner.entry.catalogue.now
-        manner.entry.is_written wanted.entry) (map path_in paths.now) ends.items) }
+    ensures ends { IfOk result (λ ends. AllZip (IsPathEnd (S.told shelf.now)
+        manner.entry.catalogue.now manner.entry.is_written wanted.entry) (map path_in paths.now)
+        ends.items) }
+    ensures kept { OnOk result (P.kept progress.new ≡ P.kept progress.old) }
 {
     let mut fixed = Vec::new(alloc);
     for path in paths {
@@ -200,8 +203,9 @@ fn path_ends<S: Shelf, P: Progress>(
     path: &str,
     progress: &mut P,
 ) -> Result<Vec<FileEnd>, AllocError>
-    ensures { IfOk result (λ ends. ArePathEnds (S.told shelf.now) manner.entry.catalogue.now
+    ensures ends { IfOk result (λ ends. ArePathEnds (S.told shelf.now) manner.entry.catalogue.now
         manner.entry.is_written wanted.entry path.now ends.items) }
+    ensures kept { OnOk result (P.kept progress.new ≡ P.kept progress.old) }
 {
     match reading_of(alloc, shelf, wanted, path) {
         Ok(reading) => read_ends(alloc, shelf, manner, reading, path, progress),
@@ -218,8 +222,9 @@ fn read_ends<S: Shelf, P: Progress>(
     path: &str,
     progress: &mut P,
 ) -> Result<Vec<FileEnd>, AllocError>
-    ensures { IfOk result (λ ends. AreReadEnds (S.told shelf.now) manner.entry.catalogue.now
+    ensures ends { IfOk result (λ ends. AreReadEnds (S.told shelf.now) manner.entry.catalogue.now
         manner.entry.is_written reading path.now ends.items) }
+    ensures kept { OnOk result (P.kept progress.new ≡ P.kept progress.old) }
 {
     let parts = match reading {
         Reading::Tree(taken) => {

@@ -16,15 +16,22 @@ use std::io;
 
 /// Who is told how far a run is.
 pub trait Progress {
+    // What it keeps besides, which stays as it is.
+    ghost Kept: { Type 0 };
+
+    ghost kept: { Self → Kept };
+
     /// So many files below a folder were come to.
     ///
     /// # Errors
     ///
     /// Memory was refused.
-    fn seen(&mut self, alloc: Global, files: u64) -> Result<(), AllocError>;
+    fn seen(&mut self, alloc: Global, files: u64) -> Result<(), AllocError>
+        ensures { kept self.new ≡ kept self.old };
 
     /// The folder is at its end.
-    fn ended(&mut self);
+    fn ended(&mut self)
+        ensures { kept self.new ≡ kept self.old };
 }
 
 /// What comes of what is below the folder at the path, in the order in which a walk comes to it.
@@ -40,8 +47,9 @@ pub(crate) fn tree_ends<S: Shelf, P: Progress>(
     path: &str,
     progress: &mut P,
 ) -> Result<Vec<FileEnd>, AllocError>
-    ensures { IfOk result (λ ends. AreTreeEnds (S.told shelf.now) manner.entry.catalogue.now
+    ensures ends { IfOk result (λ ends. AreTreeEnds (S.told shelf.now) manner.entry.catalogue.now
         manner.entry.is_written taken path.now ends.items) }
+    ensures kept { OnOk result (P.kept progress.new ≡ P.kept progress.old) }
 {
     match Walk::new(alloc, shelf, path) {
         Ok(walk) => walked(alloc, shelf, manner, taken, walk, progress),
@@ -68,8 +76,9 @@ fn walked<S: Shelf, P: Progress>(
     mut walk: Walk,
     progress: &mut P,
 ) -> Result<Vec<FileEnd>, AllocError>
-    ensures { IfOk result (λ ends. AreWalkEnds (S.told shelf.now) manner.entry.catalogue.now
+    ensures ends { IfOk result (λ ends. AreWalkEnds (S.told shelf.now) manner.entry.catalogue.now
         manner.entry.is_written taken (waiting walk) ends.items) }
+    ensures kept { OnOk result (P.kept progress.new ≡ P.kept progress.old) }
 {
     let mut ends = Vec::new(alloc);
     let mut files = 0;
@@ -91,7 +100,9 @@ fn shown<P: Progress>(
     files: u64,
     seen: &Seen,
     progress: &mut P,
-) -> Result<u64, AllocError> {
+) -> Result<u64, AllocError>
+    ensures { OnOk result (P.kept progress.new ≡ P.kept progress.old) }
+{
     if !matches!(seen, Seen::File(_)) {
         return Ok(files);
     }

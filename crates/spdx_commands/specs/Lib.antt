@@ -2,3 +2,8 @@ pub mod Stops
 pub mod Compare
 pub mod Lists
 pub mod Simplify
+pub mod Replaced
+pub mod Nodes
+pub mod Beside
+pub mod Mend
+pub mod Steps

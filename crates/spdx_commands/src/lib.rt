@@ -5,16 +5,27 @@
 //! spdx_commands::compare(rt.alloc(), &shelf, inside(), asked, &mut console.output)
 //! ```
 //!
-//! Here are `compare`, `simplify` and those of `list`. It stands on `meaning_program`, `list_told`, `list_program` and
+//! Here are `compare`, `simplify`, `fix` and those of `list`. Who puts bytes in the places of files is a `Replacing`, whose word
+//! is taken for what comes of that. It stands on `meaning_program`, `list_told`, `list_program`, `fix_program` and
 //! `spdx_troubles`.
 #![tactic(auto)]
 
+mod beside;
 mod comparison;
+mod deeds;
+mod follower;
 mod listener;
 mod lists;
+mod mended_paths;
+mod mending;
+mod nodes;
+mod replacing;
 mod simplification;
 
 pub use crate::comparison::compare;
+pub use crate::follower::Follower;
 pub use crate::listener::Listener;
 pub use crate::lists::{diff, make, show};
+pub use crate::mending::fix;
+pub use crate::replacing::{Loss, Obstacle, Replacing};
 pub use crate::simplification::simplify;

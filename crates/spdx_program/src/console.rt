@@ -125,6 +125,12 @@ fn end_on<F: Write + Drop>(screen: Screen, faults: &mut Output<F>) {
 }
 
 impl<O: Write + Drop, F: Write + Drop> Progress for Console<O, F> {
+    ghost use Rattle.std.specs.Prelude.{ℕ};
+
+    ghost Kept = { ℕ };
+
+    ghost kept = { λ _. 0 };
+
     fn seen(&mut self, alloc: Global, files: u64) -> Result<(), AllocError> {
         show_on(alloc, files, self.screen, &mut self.faults)
     }

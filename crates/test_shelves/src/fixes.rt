@@ -5,6 +5,8 @@
 // input, has the status, and behind a semicolon what comes of each path, its files with commas between; or why there is nothing.
 // `\n` is a newline.
 
+ghost use Rattle.std.specs.Prelude.{ℕ};
+
 use crate::shelf::{inside, shelf_of};
 use crate::simplifies::put_shown;
 use fix_program::{Deed, FileEnd, FixFault, FixTrouble, Fixed, Progress, Request, Run, fix};
@@ -18,6 +20,10 @@ use test_rows::Tally;
 struct Quiet {}
 
 impl Progress for Quiet {
+    ghost Kept = { ℕ };
+
+    ghost kept = { λ _. 0 };
+
     fn seen(&mut self, _alloc: Global, _files: u64) -> Result<(), AllocError> {
         Ok(())
     }

@@ -9,5 +9,5 @@ returns-clause-passes g c low = record {
   list_is = c.in_ok-catalogue.ensures.ok;
   each =
       each_accepted (g.S.Shelf.told c.args.shelf.now) c.in_ok-catalogue.catalogue c.args.request.is_written c.args.request.wanted (map path_in c.args.request.paths.now)
-      (record { catalogue = c.in_ok-catalogue.catalogue; paths = c.in_ok-paths.paths }) c.in_ok-paths.ensures low;
+      (record { catalogue = c.in_ok-catalogue.catalogue; paths = c.in_ok-paths.paths }) c.in_ok-paths.ensures.ends low;
 }

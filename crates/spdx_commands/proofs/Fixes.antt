@@ -1,0 +1,82 @@
+-- The command `fix`.
+use Rattle.std.proofs.Common.{◌≡◌, refl, sym, subst, ℕ, ◌<◌, false, List, [], ◌++◌, Option, arith, map}
+use Rattle.std.specs.Prelude.{All, Result, Ok, Err, IfErr, IsErrAnd, max}
+use Rattle.std.proofs.KnownBytes.{Appends-nil, Appends-trans}
+use Rattle.line_engine.specs.Device.{Told}
+use Rattle.check_files.specs.Told.{Hears, Tells}
+use Rattle.check_files.proofs.Doing.{hears_nil, hears_trans}
+use Rattle.shelves.specs.Shelf.{Shelved}
+use Rattle.fix_program.specs.Runs as plan
+use Rattle.fix_program.specs.Runs.{IsNoRun, IsRun, path_in}
+use Rattle.fix_program.specs.declared.run.FixFault.{FixFault}
+use Rattle.fix_program.specs.declared.run.Request.{Request}
+use Rattle.fix_program.specs.declared.run.Run.{Run}
+use Rattle.list_program.specs.Named.{InsideBytes}
+use Rattle.spdx_commands.specs.Beside.{IsBesideTold}
+use Rattle.spdx_commands.specs.Mend.{AreNeeded, ArePathsDone, Did, IsBrokenOff, IsFix, IsFixStopped, IsMere, Stand, behind, broken, broken_off, caused, stand, telling, worst}
+use Rattle.spdx_commands.specs.Replaced.{Attempt}
+use Rattle.spdx_commands.specs.Steps.{IsWorst}
+use Rattle.spdx_commands.proofs.Besides.{beside_zero}
+use Rattle.spdx_commands.proofs.Doings.{worst_append}
+use Rattle.spdx_commands.proofs.Needs.{kept_so, mere, needed_so}
+use Rattle.spdx_troubles.specs.Causes.{fix_fault_trouble}
+use Rattle.spdx_troubles.specs.declared.trouble.Trouble.{Trouble}
+use Rattle.spdx_troubles.specs.declared.trouble.Trouble.TheVariants as trouble
+
+module _ (s : Shelved) (inside : InsideBytes) (a : Request) where
+  -- ---- why it stops
+
+  pub not_begun : (x : Stand) (l : Option (List Trouble)) (cause : FixFault) → IsNoRun s inside a cause → (r : Result ℕ Trouble) → IsErrAnd r (λ t. t ≡ fix_fault_trouble cause)
+      → IfErr r (IsFixStopped s inside a x (stand x.output l x.tried))
+  not_begun x l cause is (Ok y) h = tt
+  not_begun x l cause is (Err t) h = subst (IsFixStopped s inside a x (stand x.output l x.tried)) (sym h) (caused cause is refl refl)
+
+  pub part_broken : (x y : Stand) (part : Trouble) → IsBrokenOff y.output x.tried y.tried part → (r : Result ℕ Trouble) → IsErrAnd r (λ t. t ≡ part) → IfErr r (IsFixStopped s inside a x y)
+  part_broken x y part is (Ok z) h = tt
+  part_broken x y part is (Err t) h = subst (IsFixStopped s inside a x y) (sym h) (broken_off part is)
+
+  pub memory_broken : (x y : Stand) (r : Result ℕ Trouble) → IsErrAnd r (λ t. t ≡ trouble.Memory) → IfErr r (IsFixStopped s inside a x y)
+  memory_broken x y r h = part_broken x y trouble.Memory (broken trouble.Memory tt) r h
+
+  -- ---- what it does
+
+  greatest : (run told status : ℕ) (xs ys : List Trouble) → told ≡ worst xs → worst ys ≡ 0 → status ≡ max run told → status ≡ max run (worst (xs ++ ys))
+  greatest run told status xs ys e f g = let all = worst_append xs ys in omega (arith, e, f, g, all)
+
+  pub fix_done : (x : Stand) (out : Told) (begun h l : Option (List Trouble)) (m : Option (List Attempt)) (run : Run) (told status : ℕ) → begun ≡ x.heard → IsRun s inside a run
+      → Did (stand x.output begun x.tried) (stand out h m) (IsWorst told (ArePathsDone s run.catalogue run.paths.items))
+      → Tells h l (IsBesideTold a.is_written s (map path_in a.paths.now)) → status ≡ max (plan.status_of run) told
+      → Did x (stand out l m) (IsFix s inside a status)
+  fix_done x out begun h l m run told status same is_run q p is = record {
+    done = behind q.done (telling p.told);
+    writes = Appends-trans x.output.bytes out.bytes out.bytes q.done.text [] q.writes (Appends-nil out.bytes);
+    tells = hears_trans x.heard h l q.done.told p.told (subst (λ (b : Option (List Trouble)). Hears b h q.done.told) same q.tells) p.tells;
+    tries = hears_trans x.tried m m q.done.tried [] q.tries (hears_nil m);
+    is = record {
+      run = run;
+      is_run = is_run;
+      paths = q.done;
+      are_done = q.is.is;
+      beside = p.told;
+      is_beside = p.is;
+      done_is = refl;
+      status_is = greatest (plan.status_of run) told status q.done.told p.told q.is.status_is (beside_zero a.is_written s (map path_in a.paths.now) p.told p.is) is;
+    };
+  }
+
+  -- ---- laws
+
+  module _ (x y : Stand) (status : ℕ) (d : Did x y (IsFix s inside a status)) where
+    pub quiet : status < 1 → Tells x.heard y.heard (All IsMere)
+    quiet low =
+        let is = d.is.status_is in
+        record { told = d.done.told; tells = d.tells; is = mere d.done.told (omega (arith, low, is)) }
+
+    pub kept : a.is_written ≡ false → Hears x.tried y.tried []
+    kept off = kept_so s inside a status d.done d.is x.tried y.tried off d.tries
+
+    pub needed : Tells x.tried y.tried (AreNeeded s inside a)
+    needed = record { told = d.done.tried; tells = d.tries; is = needed_so s inside a status d.done d.is }
+
+pub low_run : (run told status is : ℕ) → status ≡ max run told → run ≡ is → status < 1 → is < 1
+low_run run told status is e f low = omega (arith, e, f, low)

@@ -1,0 +1,56 @@
+use Rattle.list_program.specs.Named.{inside_of}
+use Rattle.std.proofs.Common.{◌∙◌, ap}
+use Rattle.std.specs.Prelude.{max}
+use Rattle.spdx_commands.specs.Mend.{stand}
+use Rattle.spdx_commands.proofs.Fixes.{fix_done, kept, low_run, memory_broken, needed, not_begun, part_broken, quiet}
+use Rattle.spdx_commands.proofs.mending.fix.Goals as goal
+
+pub returns-in_err-run-clause-err : goal.returns-in_err-run-clause-err
+returns-in_err-run-clause-err g c =
+    not_begun (g.S.Shelf.told c.args.shelf.now) (inside_of c.args.inside.list.now c.args.inside.extras.now) c.args.request
+    (stand (g.O.Sink.told c.args.output.now) (g.T.Listener.heard c.args.listener.now) (g.R.Replacing.tried c.args.replacer.now)) (g.T.Listener.heard c.fix.new.progress)
+    c.in_err-run.field-0.0 c.in_err-run.ensures.err c.from_residual.result c.from_residual.ensures.1
+
+pub returns-in_err-told-clause-err : goal.returns-in_err-told-clause-err
+returns-in_err-told-clause-err g c =
+    part_broken (g.S.Shelf.told c.args.shelf.now) (inside_of c.args.inside.list.now c.args.inside.extras.now) c.args.request
+    (stand (g.O.Sink.told c.args.output.now) (g.T.Listener.heard c.args.listener.now) (g.R.Replacing.tried c.args.replacer.now))
+    (stand (g.O.Sink.told c.do_paths.new.output) (g.T.Listener.heard c.do_paths.new.listener) (g.R.Replacing.tried c.do_paths.new.replacer))
+    c.in_err-told.field-0.0 c.in_err-told.ensures.err c.from_residual-in_err-told.result c.from_residual-in_err-told.ensures.1
+
+pub returns-in_err-tell_beside-clause-err : goal.returns-in_err-tell_beside-clause-err
+returns-in_err-tell_beside-clause-err g c =
+    memory_broken (g.S.Shelf.told c.args.shelf.now) (inside_of c.args.inside.list.now c.args.inside.extras.now) c.args.request
+    (stand (g.O.Sink.told c.args.output.now) (g.T.Listener.heard c.args.listener.now) (g.R.Replacing.tried c.args.replacer.now))
+    (stand (g.O.Sink.told c.do_paths.new.output) (g.T.Listener.heard c.tell_beside.new.listener) (g.R.Replacing.tried c.do_paths.new.replacer))
+    c.from_residual-in_err-tell_beside.result c.from_residual-in_err-tell_beside.ensures.1
+
+pub returns-clause-ok : goal.returns-clause-ok
+returns-clause-ok g c =
+    fix_done (g.S.Shelf.told c.args.shelf.now) (inside_of c.args.inside.list.now c.args.inside.extras.now) c.args.request
+    (stand (g.O.Sink.told c.args.output.now) (g.T.Listener.heard c.args.listener.now) (g.R.Replacing.tried c.args.replacer.now))
+    (g.O.Sink.told c.do_paths.new.output) (g.T.Listener.heard c.fix.new.progress) (g.T.Listener.heard c.do_paths.new.listener) (g.T.Listener.heard c.tell_beside.new.listener)
+    (g.R.Replacing.tried c.do_paths.new.replacer) c.in_ok-run.run' c.in_ok-told.told c.greater.result
+    (g.met.T.Follower.steady c.fix.new.progress c.args.listener.now c.in_ok-run.ensures.kept) c.in_ok-run.ensures.ok c.in_ok-told.ensures.ok c.in_ok-tell_beside.ensures
+    (c.greater.ensures ∙ ap (λ n. max n c.in_ok-told.told) c.status-planned.ensures)
+
+pub returns-clause-passes : goal.returns-clause-passes
+returns-clause-passes g c low = c.in_ok-run.ensures.passes (low_run c.status-planned.result c.in_ok-told.told c.greater.result _ c.greater.ensures c.status-planned.ensures low)
+
+pub returns-clause-quiet : goal.returns-clause-quiet
+returns-clause-quiet g c =
+    quiet (g.S.Shelf.told c.args.shelf.now) (inside_of c.args.inside.list.now c.args.inside.extras.now) c.args.request
+    (stand (g.O.Sink.told c.args.output.now) (g.T.Listener.heard c.args.listener.now) (g.R.Replacing.tried c.args.replacer.now))
+    (stand (g.O.Sink.told c.do_paths.new.output) (g.T.Listener.heard c.tell_beside.new.listener) (g.R.Replacing.tried c.do_paths.new.replacer)) c.greater.result (returns-clause-ok g c)
+
+pub returns-clause-kept : goal.returns-clause-kept
+returns-clause-kept g c =
+    kept (g.S.Shelf.told c.args.shelf.now) (inside_of c.args.inside.list.now c.args.inside.extras.now) c.args.request
+    (stand (g.O.Sink.told c.args.output.now) (g.T.Listener.heard c.args.listener.now) (g.R.Replacing.tried c.args.replacer.now))
+    (stand (g.O.Sink.told c.do_paths.new.output) (g.T.Listener.heard c.tell_beside.new.listener) (g.R.Replacing.tried c.do_paths.new.replacer)) c.greater.result (returns-clause-ok g c)
+
+pub returns-clause-mended : goal.returns-clause-mended
+returns-clause-mended g c =
+    needed (g.S.Shelf.told c.args.shelf.now) (inside_of c.args.inside.list.now c.args.inside.extras.now) c.args.request
+    (stand (g.O.Sink.told c.args.output.now) (g.T.Listener.heard c.args.listener.now) (g.R.Replacing.tried c.args.replacer.now))
+    (stand (g.O.Sink.told c.do_paths.new.output) (g.T.Listener.heard c.tell_beside.new.listener) (g.R.Replacing.tried c.do_paths.new.replacer)) c.greater.result (returns-clause-ok g c)
