@@ -2,7 +2,7 @@
 //!
 //! ```rust
 //! // crates/spdx_program/src/check.rt
-//! let status = check_program::check(
+//! let end = check_program::check(alloc, shelf, inside, asked, output, teller);
 //! ```
 //!
 //! It stands on `check_files` and `check_trees`, which check files and folders, and on `spdx_check`, which checks lines.

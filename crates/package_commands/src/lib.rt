@@ -2,7 +2,7 @@
 //!
 //! ```rust
 //! // crates/spdx_program/src/gate.rt
-//! package_commands::gate(
+//! alone(package_commands::gate(alloc, shelf, list, heirs, asked, output, teller))
 //! ```
 //!
 //! Here are `gate`, `diff` and `notice`. It stands on `gate_program`, `changes_program`, `notice_program`,

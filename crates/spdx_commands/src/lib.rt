@@ -2,7 +2,7 @@
 //!
 //! ```rust
 //! // crates/spdx_program/src/compare.rt
-//! spdx_commands::compare(rt.alloc(), &shelf, inside(), asked, &mut console.output)
+//! alone(spdx_commands::compare(alloc, shelf, inside.list, asked, output))
 //! ```
 //!
 //! Here are `compare`, `simplify`, `fix` and those of `list`. Who puts bytes in the places of files is a `Replacing`, whose word

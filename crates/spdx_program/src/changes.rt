@@ -1,66 +1,78 @@
 // The command `diff`: what changed between two lists of packages.
 
-ghost use Rattle.std.specs.Prelude.{◌<◌, IfOk};
+ghost use Rattle.std.specs.Prelude.{◌≡◌};
+ghost use Rattle.spdx_program.specs.Asked as spec;
+ghost use Rattle.spdx_program.specs.Ends as ends;
+ghost use Rattle.spdx_program.specs.Ends.{world};
+ghost use Rattle.spdx_program.specs.Requests.{DoesChanges};
 
-use crate::console::{Console, Teller};
-use crate::files::system::System;
-use crate::list::{HEIRS, inside};
-use crate::packages::read_as;
+use crate::ended::Ended;
+use crate::packages::wanted;
 use changes_program::Request;
+use check_program::Inside;
+use line_engine::device::Sink;
 use package_changes::Format;
 use package_commands::{AskedDiff, Changed};
-use package_files::Wanted;
-use shelves::SystemShelf;
+use shelves::Shelf;
+use spdx_commands::Listener;
 use spdx_troubles::Trouble;
 use spdx_words::{ChangesFormat, ChangesRequest};
-use std::io::Write;
+use std::alloc::Global;
 
-/// Tells which packages came and went between two files, and whose license changed, and how. Answers the status: 1 where
-/// a policy refuses one that came or changed.
-#[tactic(auto, using(crate::proofs::Statuses::diff_ends))]
-pub(crate) fn changes<R: System, O: Write + Drop, F: Write + Drop>(
-    rt: &R,
+/// Tells what changed between the files that the request names, as [`package_commands::diff`] does.
+#[tactic(auto, using(crate::proofs::Ending::changes_done))]
+pub(crate) fn changes<S: Shelf, O: Sink, T: Listener>(
+    alloc: Global,
+    shelf: &S,
+    inside: Inside<'_>,
     request: &ChangesRequest<'_>,
-    console: &mut Console<O, F>,
-) -> Result<u8, Trouble>
-    ensures { IfOk result (λ status. status < 4) }
+    output: &mut O,
+    teller: &mut T,
+) -> Result<Ended, Trouble>
+    ensures { DoesChanges (world (S.told shelf.now) inside.entry) request.now
+        (O.told output.old) (O.told output.new) (T.heard teller.old) (T.heard teller.new)
+        result }
 {
-    let asked = AskedDiff {
-        run: asked(request),
-        tells_totals: request.tells_totals,
-    };
-    let shelf = SystemShelf::new(rt);
-    let mut teller = Teller::new(&mut console.faults, console.screen);
-    let changed = package_commands::diff(
-        rt.alloc(),
-        &shelf,
-        inside(),
-        HEIRS.as_bytes(),
-        asked,
-        &mut console.output,
-        &mut teller,
-    )?;
-    let Changed { status, totals } = changed;
-    console.put_totals(&totals);
-    Ok(status)
+    let asked = asked(request);
+    let Inside { list, heirs, .. } = inside;
+    ended(package_commands::diff(alloc, shelf, list, heirs, asked, output, teller))
 }
 
-// What the request asks of a run.
-fn asked<'r>(request: &'r ChangesRequest<'r>) -> Request<'r> {
-    Request {
+fn asked<'r>(request: &'r ChangesRequest<'r>) -> AskedDiff<'r>
+    ensures { result ≡ spec.changes_of request.now }
+{
+    let run = Request {
         list: request.list,
         policy: request.policy,
-        wanted: Wanted {
-            source: read_as(request.source),
-            allow_empty: request.allow_empty,
-            exclude_own: request.exclude_own,
-        },
+        wanted: wanted(request.source, request.allow_empty, request.exclude_own),
         old: request.old,
         new: request.new,
-        format: match request.format {
-            ChangesFormat::Text => Format::Text,
-            ChangesFormat::Json => Format::Json,
-            ChangesFormat::Markdown => Format::Markdown,
-        },
+        format: format_of(request.format),
+    };
+    AskedDiff {
+        run,
+        tells_totals: request.tells_totals,
+    }
+}
+
+fn format_of(format: ChangesFormat) -> Format
+    ensures { result ≡ spec.difference_by format }
+{
+    match format {
+        ChangesFormat::Text => Format::Text,
+        ChangesFormat::Json => Format::Json,
+        ChangesFormat::Markdown => Format::Markdown,
+    }
+}
+
+fn ended(end: Result<Changed, Trouble>) -> Result<Ended, Trouble>
+    ensures { result ≡ ends.changed_end end }
+{
+    match end {
+        Ok(changed) => {
+            let Changed { status, totals } = changed;
+            Ok(Ended { status, totals })
+        }
+        Err(trouble) => Err(trouble),
     }
 }

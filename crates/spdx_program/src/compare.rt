@@ -1,24 +1,29 @@
 // The command `compare`.
 
-ghost use Rattle.std.specs.Prelude.{◌<◌, IfOk};
+ghost use Rattle.std.specs.Prelude.{◌≡◌};
+ghost use Rattle.spdx_program.specs.Ends.{world};
+ghost use Rattle.spdx_program.specs.Requests.{DoesCompare};
 
-use crate::console::Console;
-use crate::files::system::System;
-use crate::list::inside;
+use crate::ended::{Ended, alone};
+use check_program::Inside;
+use line_engine::device::Sink;
 use meaning_program::Asked;
-use shelves::SystemShelf;
+use shelves::Shelf;
 use spdx_troubles::Trouble;
 use spdx_words::CompareRequest;
-use std::io::Write;
+use std::alloc::Global;
 
-/// Tells how what two expressions ask compares, and answers the status: 0 exactly if they mean the same.
-#[tactic(auto, using(crate::proofs::Statuses::compare_ends))]
-pub(crate) fn compare<R: System, O: Write + Drop, F: Write + Drop>(
-    rt: &R,
+/// Compares what the request names, as [`spdx_commands::compare`] does.
+#[tactic(auto, using(crate::proofs::Ending::compare_done))]
+pub(crate) fn compare<S: Shelf, O: Sink>(
+    alloc: Global,
+    shelf: &S,
+    inside: Inside<'_>,
     request: &CompareRequest<'_>,
-    console: &mut Console<O, F>,
-) -> Result<u8, Trouble>
-    ensures { IfOk result (λ status. status < 4) }
+    output: &mut O,
+) -> Result<Ended, Trouble>
+    ensures { DoesCompare (world (S.told shelf.now) inside.entry) request.now
+        (O.told output.old) (O.told output.new) result }
 {
     let asked = Asked {
         list: request.list,
@@ -26,6 +31,5 @@ pub(crate) fn compare<R: System, O: Write + Drop, F: Write + Drop>(
         one: request.one,
         other: request.other,
     };
-    let shelf = SystemShelf::new(rt);
-    spdx_commands::compare(rt.alloc(), &shelf, inside(), asked, &mut console.output)
+    alone(spdx_commands::compare(alloc, shelf, inside.list, asked, output))
 }

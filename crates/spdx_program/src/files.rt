@@ -1,5 +1,4 @@
-// The files of the system: read and replaced.
+// The files of the system.
 
-pub(crate) mod left;
 pub(crate) mod replace;
 pub(crate) mod system;

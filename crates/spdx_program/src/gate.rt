@@ -1,83 +1,100 @@
 // The command `gate`.
 
-ghost use Rattle.std.specs.Prelude.{◌<◌, IfOk};
+ghost use Rattle.std.specs.Prelude.{◌≡◌};
+ghost use Rattle.spdx_program.specs.Asked as spec;
+ghost use Rattle.spdx_program.specs.Asked.{IsAskedOf};
+ghost use Rattle.spdx_program.specs.Ends.{IsGateEnd, world};
+ghost use Rattle.spdx_program.specs.Requests.{DoesGate};
 
-use crate::check::VERSION;
-use crate::console::{Console, Teller};
-use crate::files::system::{System, paths_or_input};
-use crate::list::{HEIRS, inside};
-use crate::packages::read_as;
+use crate::ended::{Ended, alone};
+use crate::outputs::Nowhere;
+use crate::packages::wanted;
+use crate::readings::{paths_or_input, style_of};
+use check_program::Inside;
 use finding_forms::Style;
 use gate_program::{Look, Request};
 use gate_told::Format;
+use line_engine::device::Sink;
 use package_commands::Asked;
-use package_files::Wanted;
-use shelves::SystemShelf;
+use shelves::Shelf;
+use spdx_commands::Listener;
 use spdx_troubles::Trouble;
 use spdx_words::{GateFormat, GateRequest};
-use std::io::Write;
+use std::alloc::Global;
 
-/// Judges the packages that the request names, and answers the status: 0 exactly if every file is read and every package
-/// allowed, or refused in the baseline too.
-#[tactic(auto, using(crate::proofs::Statuses::gate_ends))]
-pub(crate) fn gate<R: System, O: Write + Drop, F: Write + Drop>(
-    rt: &R,
+/// Judges the packages that the request names, as [`package_commands::gate`] does.
+#[tactic(auto, using(crate::proofs::Ending::gate_quiet, crate::proofs::Ending::gate_told))]
+pub(crate) fn gate<S: Shelf, O: Sink, T: Listener>(
+    alloc: Global,
+    shelf: &S,
+    inside: Inside<'_>,
     request: &GateRequest<'_>,
-    console: &mut Console<O, F>,
-) -> Result<u8, Trouble>
-    ensures { IfOk result (λ status. status < 4) }
+    colours: bool,
+    output: &mut O,
+    teller: &mut T,
+) -> Result<Ended, Trouble>
+    ensures { DoesGate (world (S.told shelf.now) inside.entry) colours request.now
+        (O.told output.old) (O.told output.new) (T.heard teller.old) (T.heard teller.new)
+        result }
 {
-    let asked = Asked {
-        run: asked(request, console.screen.colours),
-        is_quiet: request.quiet,
-    };
-    let shelf = SystemShelf::new(rt);
-    let mut teller = Teller::new(&mut console.faults, console.screen);
-    package_commands::gate(
-        rt.alloc(),
-        &shelf,
-        inside(),
-        HEIRS.as_bytes(),
-        asked,
-        &mut console.output,
-        &mut teller,
-    )
+    let asked = asked(request, colours, inside.version);
+    if request.quiet {
+        gate_as(alloc, shelf, inside, asked, &mut Nowhere {}, teller)
+    } else {
+        gate_as(alloc, shelf, inside, asked, output, teller)
+    }
 }
 
-// What the request asks of a run.
-fn asked<'r>(request: &'r GateRequest<'r>, colours: bool) -> Request<'r> {
-    let style = if colours {
-        Style::Coloured
-    } else {
-        Style::Plain
-    };
-    Request {
+#[tactic(auto, using(crate::proofs::Ending::gate_done))]
+fn gate_as<S: Shelf, O: Sink, T: Listener>(
+    alloc: Global,
+    shelf: &S,
+    inside: Inside<'_>,
+    asked: Asked<'_>,
+    output: &mut O,
+    teller: &mut T,
+) -> Result<Ended, Trouble>
+    ensures { IsGateEnd (world (S.told shelf.now) inside.entry) asked.entry (O.told output.old)
+        (O.told output.new) (T.heard teller.old) (T.heard teller.new) result }
+{
+    let Inside { list, heirs, .. } = inside;
+    alone(package_commands::gate(alloc, shelf, list, heirs, asked, output, teller))
+}
+
+// What is asked of the command, whose logs tell this version.
+fn asked<'r>(request: &'r GateRequest<'r>, colours: bool, version: &'r str) -> Asked<'r>
+    ensures { IsAskedOf request.now.paths.items (spec.gate_of request.now colours version.entry)
+        result }
+{
+    let style = style_of(colours);
+    let run = Request {
         list: request.list,
         policy: request.policy,
-        wanted: Wanted {
-            source: read_as(request.source),
-            allow_empty: request.allow_empty,
-            exclude_own: request.exclude_own,
-        },
+        wanted: wanted(request.source, request.allow_empty, request.exclude_own),
         paths: paths_or_input(&request.paths),
         baseline: request.baseline,
         look: Look {
-            format: format_of(request.format, style),
+            format: format_of(request.format, style, version),
             style,
             explain: request.explain,
             tells_unused: request.tells_unused,
         },
+    };
+    Asked {
+        run,
+        is_quiet: request.quiet,
     }
 }
 
-// The form that was asked for, in this style where it has one.
-fn format_of(format: GateFormat, style: Style) -> Format<'static> {
+fn format_of<'v>(format: GateFormat, style: Style, version: &'v str) -> Format<'v>
+    ensures { result ≡ spec.verdict_by format style version.entry }
+{
     match format {
         GateFormat::Human => Format::Human(style),
         GateFormat::Short => Format::Short,
         GateFormat::Json => Format::Json,
         GateFormat::Github => Format::Github,
-        GateFormat::Sarif => Format::Sarif { version: VERSION },
+        GateFormat::Sarif => Format::Sarif { version },
         GateFormat::Html => Format::Html,
     }
 }

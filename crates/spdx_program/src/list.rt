@@ -1,32 +1,42 @@
-// The list that expressions are read by, and how.
+// The list inside the program, and the commands below `list`.
+
+ghost use Rattle.std.specs.Prelude.{◌≡◌};
+ghost use Rattle.spdx_program.specs.Ends as spec;
 
 pub(crate) mod diff;
 pub(crate) mod make;
 pub(crate) mod show;
 
-use list_program::Inside;
-use spdx::ParseMode;
-pub(crate) use spdx_known::HEIRS;
-use spdx_known::{EXTRAS, LINES, VERSION};
+use check_program::Inside;
+use spdx_known::{EXTRAS, HEIRS, LINES, VERSION as LIST_VERSION};
+use spdx_troubles::Trouble;
+
+/// The version that logs tell.
+const VERSION: &str = "0.1.0";
 
 /// The version of the list inside the program.
 pub fn known_version() -> &'static str {
-    VERSION
+    LIST_VERSION
 }
 
 /// What the program has inside.
 pub(crate) fn inside() -> Inside<'static> {
     Inside {
-        list: LINES,
-        extras: EXTRAS.as_bytes(),
+        list: list_program::Inside {
+            list: LINES,
+            extras: EXTRAS.as_bytes(),
+        },
+        heirs: HEIRS.as_bytes(),
+        version: VERSION,
     }
 }
 
-/// How expressions are read.
-pub(crate) fn mode_of(is_lax: bool) -> ParseMode {
-    if is_lax {
-        ParseMode::LAX
-    } else {
-        ParseMode::STRICT
+/// A command that answers no status ends with 0.
+pub(crate) fn passed(end: Result<(), Trouble>) -> Result<u8, Trouble>
+    ensures { result ≡ spec.passed end }
+{
+    match end {
+        Ok(()) => Ok(0),
+        Err(trouble) => Err(trouble),
     }
 }

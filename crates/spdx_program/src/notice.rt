@@ -1,66 +1,59 @@
 // The command `notice`.
 
-ghost use Rattle.std.specs.Prelude.{◌<◌, IfOk};
+ghost use Rattle.std.specs.Prelude.{◌≡◌};
+ghost use Rattle.spdx_program.specs.Asked as spec;
+ghost use Rattle.spdx_program.specs.Asked.{IsAskedOf};
+ghost use Rattle.spdx_program.specs.Ends as ends;
+ghost use Rattle.spdx_program.specs.Ends.{world};
+ghost use Rattle.spdx_program.specs.Requests.{DoesNotice};
 
-use crate::console::{Console, Teller};
-use crate::files::system::{System, paths_or_input};
-use crate::list::{HEIRS, inside, mode_of};
-use crate::packages::read_as;
+use crate::ended::Ended;
+use crate::packages::wanted;
+use crate::readings::{mode_of, paths_or_input};
+use check_program::Inside;
+use line_engine::device::Sink;
 use notice_forms::Format;
 use notice_program::Request;
 use own_texts::{Folders, OwnTexts as Own};
 use package_commands::Noticed;
-use package_files::Wanted;
 use policy_choices::Accepted;
-use shelves::SystemShelf;
+use shelves::Shelf;
+use spdx_commands::Listener;
 use spdx_troubles::Trouble;
 use spdx_words::{Accepted as Words, NoticeRequest, OwnTexts, PageFormat};
-use std::io::Write;
+use std::alloc::Global;
 
-/// Writes the page that the request asks for, and answers the status. Nothing is written unless all of it is there.
-#[tactic(auto, using(crate::proofs::Statuses::notice_ends))]
-pub(crate) fn notice<R: System, O: Write + Drop, F: Write + Drop>(
-    rt: &R,
+/// Writes the page that the request asks for, as [`package_commands::notice`] does.
+#[tactic(auto, using(crate::proofs::Ending::notice_done))]
+pub(crate) fn notice<S: Shelf, O: Sink, T: Listener>(
+    alloc: Global,
+    shelf: &S,
+    inside: Inside<'_>,
     request: &NoticeRequest<'_>,
-    console: &mut Console<O, F>,
-) -> Result<u8, Trouble>
-    ensures { IfOk result (λ status. status < 4) }
+    output: &mut O,
+    teller: &mut T,
+) -> Result<Ended, Trouble>
+    ensures { DoesNotice (world (S.told shelf.now) inside.entry) request.now
+        (O.told output.old) (O.told output.new) (T.heard teller.old) (T.heard teller.new)
+        result }
 {
-    let shelf = SystemShelf::new(rt);
-    let mut teller = Teller::new(&mut console.faults, console.screen);
-    let noticed = package_commands::notice(
-        rt.alloc(),
-        &shelf,
-        inside(),
-        HEIRS.as_bytes(),
-        asked(request),
-        &mut console.output,
-        &mut teller,
-    )?;
-    let Noticed { status, totals } = noticed;
-    console.put_totals(&totals);
-    Ok(status)
+    let asked = asked(request);
+    let Inside { list, heirs, .. } = inside;
+    ended(package_commands::notice(alloc, shelf, list, heirs, asked, output, teller))
 }
 
-// What the request asks of a run.
-fn asked<'r>(request: &'r NoticeRequest<'r>) -> Request<'r> {
+fn asked<'r>(request: &'r NoticeRequest<'r>) -> Request<'r>
+    ensures { IsAskedOf request.now.paths.items (spec.notice_of request.now) result }
+{
     Request {
         list: request.list,
-        wanted: Wanted {
-            source: read_as(request.source),
-            allow_empty: true,
-            exclude_own: request.exclude_own,
-        },
+        wanted: wanted(request.source, true, request.exclude_own),
         paths: paths_or_input(&request.paths),
         accepted: accepted(request.accepted),
         one_for_all: request.one_for_all,
         folders: Folders {
             texts: request.texts,
-            own: match request.own {
-                OwnTexts::Left => Own::Left,
-                OwnTexts::Below(sources) => Own::Below(sources),
-                OwnTexts::Installed => Own::Installed,
-            },
+            own: own(request.own),
             follow: request.follow,
         },
         plain: request.plain,
@@ -69,8 +62,10 @@ fn asked<'r>(request: &'r NoticeRequest<'r>) -> Request<'r> {
     }
 }
 
-// What the request accepts.
-fn accepted<'a>(words: Words<'a>) -> Accepted<'a> {
+// What may be chosen.
+fn accepted(words: Words<'_>) -> Accepted<'_>
+    ensures { result ≡ spec.accepted_by words.entry }
+{
     match words {
         Words::List(list, is_lax) => Accepted::List {
             list,
@@ -80,11 +75,35 @@ fn accepted<'a>(words: Words<'a>) -> Accepted<'a> {
     }
 }
 
-fn format_of(format: PageFormat) -> Format {
+fn own(words: OwnTexts<'_>) -> Own<'_>
+    ensures { result ≡ spec.own_by words.entry }
+{
+    match words {
+        OwnTexts::Left => Own::Left,
+        OwnTexts::Below(sources) => Own::Below(sources),
+        OwnTexts::Installed => Own::Installed,
+    }
+}
+
+fn format_of(format: PageFormat) -> Format
+    ensures { result ≡ spec.page_by format }
+{
     match format {
         PageFormat::Text => Format::Text,
         PageFormat::Markdown => Format::Markdown,
         PageFormat::Html => Format::Html,
         PageFormat::Json => Format::Json,
+    }
+}
+
+fn ended(end: Result<Noticed, Trouble>) -> Result<Ended, Trouble>
+    ensures { result ≡ ends.noticed_end end }
+{
+    match end {
+        Ok(noticed) => {
+            let Noticed { status, totals } = noticed;
+            Ok(Ended { status, totals })
+        }
+        Err(trouble) => Err(trouble),
     }
 }

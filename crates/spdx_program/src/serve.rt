@@ -1,20 +1,15 @@
-// What is asked for, done.
+// What is asked for, done over the system.
 
 ghost use Rattle.std.specs.Prelude.{◌<◌};
 
-use crate::changes::changes;
-use crate::check::check;
-use crate::compare::compare;
-use crate::console::{Console, Hushed, Screen};
+use crate::files::replace::Places;
 use crate::files::system::System;
-use crate::fix::fix;
-use crate::gate::gate;
-use crate::list::diff::diff;
-use crate::list::make::make;
-use crate::list::show::show;
-use crate::notice::notice;
-use crate::simplify::simplify;
+use crate::list::inside;
+use crate::outputs::Screen;
+use crate::requests::perform;
+use crate::teller::Teller;
 use line_engine::stream::Output;
+use open_shelves::OpenSystem;
 use spdx_words::Request;
 use std::io::Write;
 
@@ -30,30 +25,32 @@ pub fn run<R: System, O: Write + Drop, F: Write + Drop>(
 ) -> u8
     ensures { result < 4 }
 {
-    let is_quiet = match request {
-        Request::Check(request) => request.quiet,
-        Request::Gate(request) => request.quiet,
-        _ => false,
-    };
-    let mut console = Console {
-        output: Output::new(Hushed::new(output, is_quiet)),
-        faults: Output::new(faults),
-        screen,
-    };
-    let end = match request {
-        Request::Check(request) => check(rt, request, &mut console),
-        Request::Fix(request) => fix(rt, request, &mut console),
-        Request::Gate(request) => gate(rt, request, &mut console),
-        Request::Notice(request) => notice(rt, request, &mut console),
-        Request::Compare(request) => compare(rt, request, &mut console),
-        Request::Simplify(request) => simplify(rt, request, &mut console),
-        Request::Show(request) => show(rt, request, &mut console),
-        Request::Make(request) => make(rt, request, &mut console),
-        Request::Diff(request) => diff(rt, request, &mut console),
-        Request::Changes(request) => changes(rt, request, &mut console),
-    };
+    let mut output = Output::new(output);
+    let mut teller = Teller::new(faults, screen);
+    let mut places = Places::new(rt, breaks_links(request));
+    let end = perform(
+        rt.alloc(),
+        &OpenSystem::new(rt),
+        inside(),
+        request,
+        screen.colours,
+        &mut places,
+        &mut output,
+        &mut teller,
+    );
     match end {
-        Ok(status) => status,
-        Err(trouble) => console.tell(rt.alloc(), &trouble),
+        Ok(ended) => {
+            teller.put_totals(&ended.totals);
+            ended.status
+        }
+        Err(trouble) => teller.stop(rt.alloc(), &trouble),
+    }
+}
+
+// Whether files that have other names are replaced.
+fn breaks_links(request: &Request<'_>) -> bool {
+    match request {
+        Request::Fix(request) => request.break_links,
+        _ => false,
     }
 }

@@ -2,7 +2,7 @@
 //! status it ends.
 //!
 //! ```rust
-//! // crates/spdx_program/src/console.rt
+//! // crates/spdx_program/src/teller.rt
 //! let line = trouble.line(alloc)?;
 //! ```
 //!

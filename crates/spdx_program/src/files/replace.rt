@@ -1,7 +1,11 @@
 // A file whose bytes are replaced at once.
 
+ghost use Rattle.std.specs.Prelude.{None};
+
 use crate::files::system::System;
 use shelves::Stamp;
+use spdx_commands::{Loss, Obstacle, Replacing};
+use std::alloc::Global;
 use std::fs::{self, Metadata, OpenFile, OpenOptions, Permissions};
 use std::io::{self, ErrorKind, Write};
 use std::os::unix::fs::{MetadataExt, OpenOptionsExt, PermissionsExt, chown};
@@ -15,41 +19,41 @@ const KEPT: u32 = 0o777;
 // The bits that let a file run as its owner or its group.
 const SET_ID: u32 = 0o6000;
 
-/// Why a file is left as it is.
-#[derive(Drop)]
-pub(crate) enum Obstacle {
-    /// It changed since it was read.
-    Changed,
-    /// It has other names, which would keep the old bytes.
-    Linked,
-    /// Its owner or group can't be kept.
-    Owner(io::Error),
-    Failed(io::Error),
+/// The places of the system's files, whose word is taken for what comes of putting bytes in them.
+#[derive(Clone, Copy)]
+pub(crate) struct Places<'r, R> {
+    rt: &'r R,
+    // whether a file that has other names is replaced, which keep the old bytes then
+    breaks_links: bool,
 }
 
-/// What a file lost.
-#[derive(Clone, Copy, PartialEq, Eq, Debug)]
-pub(crate) enum Loss {
-    Nothing,
-    /// The bits that let it run as its owner or its group.
-    SetId,
-}
-
-impl From<io::Error> for Obstacle {
-    fn from(error: io::Error) -> Obstacle {
-        Obstacle::Failed(error)
+impl<'r, R: System> Places<'r, R> {
+    pub(crate) fn new(rt: &'r R, breaks_links: bool) -> Places<'r, R> {
+        Places { rt, breaks_links }
     }
 }
 
-/// Puts the bytes in the place of what the file held when it was read, and keeps its owner, its group and who may read,
-/// write and run it. They are written to a new file beside it, which its owner alone may read until it has all of that,
-/// and which then takes its name: so the file has its old bytes or all of the new ones, whatever fails. A link stays a link
-/// to the same file.
-///
-/// # Errors
-///
-/// The file is as it was, and there is no other beside it, unless the removal of that one failed too.
-pub(crate) fn replace<R: System>(
+impl<R: System> Replacing for Places<'_, R> {
+    ghost tried = { λ _. None };
+
+    fn replace(
+        &mut self,
+        _alloc: Global,
+        path: &str,
+        read: Stamp,
+        bytes: &[u8],
+    ) -> Result<Loss, Obstacle> {
+        replace(self.rt, path, read, self.breaks_links, bytes)
+    }
+}
+
+// Puts the bytes in the place of what the file held when it was read, and keeps its owner, its group and who may read,
+// write and run it. They are written to a new file beside it, which its owner alone may read until it has all of that,
+// and which then takes its name: so the file has its old bytes or all of the new ones, whatever fails. A link stays a link
+// to the same file.
+//
+// On an error the file is as it was, and there is no other beside it, unless the removal of that one failed too.
+fn replace<R: System>(
     rt: &R,
     path: &str,
     read: Stamp,

@@ -1,37 +1,35 @@
 // The command `list diff`.
 
-ghost use Rattle.std.specs.Prelude.{◌<◌, IfOk};
+ghost use Rattle.std.specs.Prelude.{◌≡◌};
+ghost use Rattle.spdx_program.specs.Ends.{world};
+ghost use Rattle.spdx_program.specs.Requests.{DoesLists};
 
-use crate::console::Console;
-use crate::files::system::System;
-use crate::list::{HEIRS, inside};
+use crate::ended::{Ended, alone};
+use crate::list::passed;
+use check_program::Inside;
+use line_engine::device::Sink;
 use list_told::Lists;
-use shelves::SystemShelf;
+use shelves::Shelf;
 use spdx_troubles::Trouble;
 use spdx_words::DiffRequest;
-use std::io::Write;
+use std::alloc::Global;
 
-/// Tells by what the newer list differs from the older one, and answers the status.
-pub(crate) fn diff<R: System, O: Write + Drop, F: Write + Drop>(
-    rt: &R,
+/// Tells by what the newer list differs from the older one, as [`spdx_commands::diff`] does.
+#[tactic(auto, using(crate::proofs::Ending::lists_done))]
+pub(crate) fn diff<S: Shelf, O: Sink>(
+    alloc: Global,
+    shelf: &S,
+    inside: Inside<'_>,
     request: &DiffRequest<'_>,
-    console: &mut Console<O, F>,
-) -> Result<u8, Trouble>
-    ensures { IfOk result (λ status. status < 4) }
+    output: &mut O,
+) -> Result<Ended, Trouble>
+    ensures { DoesLists (world (S.told shelf.now) inside.entry) request.now
+        (O.told output.old) (O.told output.new) result }
 {
-    let shelf = SystemShelf::new(rt);
     let lists = Lists {
         old: request.old,
         new: request.new,
     };
-    let heirs = HEIRS.as_bytes();
-    spdx_commands::diff(
-        rt.alloc(),
-        &shelf,
-        inside(),
-        heirs,
-        lists,
-        &mut console.output,
-    )?;
-    Ok(0)
+    let Inside { list, heirs, .. } = inside;
+    alone(passed(spdx_commands::diff(alloc, shelf, list, heirs, lists, output)))
 }

@@ -1,29 +1,32 @@
 // The command `list make`.
 
-ghost use Rattle.std.specs.Prelude.{◌<◌, IfOk};
+ghost use Rattle.std.specs.Prelude.{◌≡◌};
+ghost use Rattle.spdx_program.specs.Requests.{DoesMake};
 
-use crate::console::Console;
-use crate::files::system::System;
+use crate::ended::{Ended, alone};
+use crate::list::passed;
+use line_engine::device::Sink;
 use list_program::MadeOf;
-use shelves::SystemShelf;
+use shelves::Shelf;
 use spdx_troubles::Trouble;
 use spdx_words::MakeRequest;
-use std::io::Write;
+use std::alloc::Global;
 
-/// Writes the list of SPDX's two files, and answers the status.
-pub(crate) fn make<R: System, O: Write + Drop, F: Write + Drop>(
-    rt: &R,
+/// Writes the list of SPDX's two files, as [`spdx_commands::make`] does.
+#[tactic(auto, using(crate::proofs::Ending::make_done))]
+pub(crate) fn make<S: Shelf, O: Sink>(
+    alloc: Global,
+    shelf: &S,
     request: &MakeRequest<'_>,
-    console: &mut Console<O, F>,
-) -> Result<u8, Trouble>
-    ensures { IfOk result (λ status. status < 4) }
+    output: &mut O,
+) -> Result<Ended, Trouble>
+    ensures { DoesMake (S.told shelf.now) request.now (O.told output.old)
+        (O.told output.new) result }
 {
     let paths = MadeOf {
         licenses: request.licenses,
         exceptions: request.exceptions,
         extras: request.extras,
     };
-    let shelf = SystemShelf::new(rt);
-    spdx_commands::make(rt.alloc(), &shelf, paths, &mut console.output)?;
-    Ok(0)
+    alone(passed(spdx_commands::make(alloc, shelf, paths, output)))
 }

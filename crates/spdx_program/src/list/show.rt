@@ -1,38 +1,44 @@
 // The command `list show`.
 
-ghost use Rattle.std.specs.Prelude.{◌<◌, IfOk};
+ghost use Rattle.std.specs.Prelude.{◌≡◌};
+ghost use Rattle.spdx_program.specs.Asked.{IsShowAsked};
+ghost use Rattle.spdx_program.specs.Ends.{world};
+ghost use Rattle.spdx_program.specs.Requests.{DoesShow};
 
-use crate::console::{Console, Teller};
-use crate::files::system::System;
-use crate::list::{HEIRS, inside};
+use crate::ended::{Ended, alone};
+use check_program::Inside;
+use line_engine::device::Sink;
 use list_told::Asked;
-use shelves::SystemShelf;
+use shelves::Shelf;
+use spdx_commands::Listener;
 use spdx_troubles::Trouble;
 use spdx_words::ShowRequest;
-use std::io::Write;
+use std::alloc::Global;
 
-/// Shows what the list says of the names, and answers the status.
-#[tactic(auto, using(crate::proofs::Statuses::show_ends))]
-pub(crate) fn show<R: System, O: Write + Drop, F: Write + Drop>(
-    rt: &R,
+/// Shows what the list says of the names, as [`spdx_commands::show`] does.
+#[tactic(auto, using(crate::proofs::Ending::show_done))]
+pub(crate) fn show<S: Shelf, O: Sink, T: Listener>(
+    alloc: Global,
+    shelf: &S,
+    inside: Inside<'_>,
     request: &ShowRequest<'_>,
-    console: &mut Console<O, F>,
-) -> Result<u8, Trouble>
-    ensures { IfOk result (λ status. status < 4) }
+    output: &mut O,
+    teller: &mut T,
+) -> Result<Ended, Trouble>
+    ensures { DoesShow (world (S.told shelf.now) inside.entry) request.now
+        (O.told output.old) (O.told output.new) (T.heard teller.old) (T.heard teller.new)
+        result }
 {
-    let asked = Asked {
+    let asked = asked(request);
+    let Inside { list, heirs, .. } = inside;
+    alone(spdx_commands::show(alloc, shelf, list, heirs, asked, output, teller))
+}
+
+fn asked<'r>(request: &'r ShowRequest<'r>) -> Asked<'r>
+    ensures { IsShowAsked request.now result }
+{
+    Asked {
         list: request.list,
         names: request.names.as_slice(),
-    };
-    let shelf = SystemShelf::new(rt);
-    let mut teller = Teller::new(&mut console.faults, console.screen);
-    spdx_commands::show(
-        rt.alloc(),
-        &shelf,
-        inside(),
-        HEIRS.as_bytes(),
-        asked,
-        &mut console.output,
-        &mut teller,
-    )
+    }
 }
