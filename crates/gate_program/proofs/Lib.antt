@@ -3,3 +3,4 @@ pub mod Asking
 pub mod Law
 pub mod Runs
 pub mod Laws
+pub mod Scopes

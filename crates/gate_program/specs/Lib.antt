@@ -9,3 +9,4 @@ pub mod Policy
 pub mod Run
 pub mod Known
 pub mod Sets
+pub mod Scopes

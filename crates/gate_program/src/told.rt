@@ -1,6 +1,7 @@
 // What is told of the packages of a run, and whether they pass.
 
 ghost use Rattle.std.specs.Prelude.{◌≡◌, ◌++◌, IfOk, OnOk};
+ghost use Rattle.gate_program.specs.Scopes.{scope_in};
 ghost use Rattle.gate_program.specs.Texts as spec;
 ghost use Rattle.gate_program.specs.Texts.{IsToldText, behind_verdicts, told_text};
 
@@ -10,8 +11,8 @@ use crate::tellings::{details_of, shown_of};
 use finding_forms::Style;
 use gate_forms::{Report as Told, put_known};
 use gate_told::{
-    Format, are_gathered, put_all_unused, put_explanations, put_needs, put_verdicts, told_packages,
-    told_totals,
+    Format, Scope, are_gathered, put_all_unused, put_explanations, put_needs, put_verdicts,
+    scope_of, told_packages, told_totals,
 };
 use spdx_catalogue::Catalogue;
 use spdx_gate::Report;
@@ -40,7 +41,8 @@ pub struct GateText {
 }
 
 /// What is told of the packages, by a policy of this path: the verdicts in their form; and where people read them, what is
-/// known, or else what would make the packages pass, and what of the policy is of no use.
+/// known, or else what would make the packages pass, and what of the policy is of no use. Only packages that the form tells
+/// of take memory.
 ///
 /// # Errors
 ///
@@ -61,6 +63,7 @@ pub fn gate_text(
     let packages = named_in(alloc, &gated.files)?;
     let told = told_packages(
         alloc,
+        scope_in(look),
         path,
         &packages,
         &gated.report.rows,
@@ -71,6 +74,16 @@ pub fn gate_text(
     put_told(alloc, &mut bytes, policy, path, look, gated, &told)?;
     let is_passed = are_passed(&told);
     Ok(GateText { bytes, is_passed })
+}
+
+// The packages that this look tells of; those of a name may be of any verdict.
+fn scope_in(look: Look<'_>) -> Scope
+    ensures { result ≡ scope_in look.entry }
+{
+    match look.explain {
+        Some(_) => Scope::All,
+        None => scope_of(look.format),
+    }
 }
 
 // Whether no package is refused whose refusal isn't known.

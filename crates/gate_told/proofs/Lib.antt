@@ -7,3 +7,4 @@ pub mod Agreeing
 pub mod Silent
 pub mod Passing
 pub mod OwnRows
+pub mod Scopes

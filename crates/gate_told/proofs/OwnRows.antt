@@ -4,7 +4,7 @@ use Rattle.std.specs.Borrow.{Bor}
 use Rattle.std.specs.Prelude.{not, Option, None, Some, IfSome, slice_get}
 use Rattle.std.specs.Option.{MatchOption, option_copied}
 use Rattle.std.proofs.lemmas.Option.{slice_get_past, slice_get_read}
-use Rattle.std.proofs.lemmas.List.{append-nil, length-map}
+use Rattle.std.proofs.lemmas.List.{append-nil, length-map, map-append}
 use Rattle.gate_forms.specs.declared.reports.Baseline.{Baseline}
 use Rattle.gate_forms.specs.declared.reports.Report.{Report}
 use Rattle.gate_forms.specs.Report.{is_refused}
@@ -13,9 +13,12 @@ use Rattle.spdx_gate.specs.declared.package.Verdict.TheVariants as verdict
 use Rattle.spdx_gate.specs.declared.report.Row.{Row}
 use Rattle.spdx_gate.specs.Verdicts.{passes}
 use Rattle.gate_told.specs.declared.packages.NamedPackage.{NamedPackage}
+use Rattle.gate_told.specs.declared.packages.Scope.{Scope}
 use Rattle.gate_told.specs.Borrowed.{borrowed}
 use Rattle.gate_told.specs.Packages.{AreTold, is_row_refused, is_told_refused, moved_report, package_file, package_name, report_file, report_name, report_of, reports_from, reports_of, row_told, state_at}
+use Rattle.gate_told.specs.Scopes.{AreToldIn, told_in}
 use Rattle.gate_told.specs.Told.{Telling, told_verdict}
+use Rattle.gate_told.proofs.Scopes.{told_both}
 
 -- the row of a number, and those from it on
 record RowAt (rows : List Row) (n : ℕ) : Type 0 where
@@ -88,7 +91,7 @@ by_row f g policy ts rows known h n (x ∷ xs) e =
     ∙ ap (λ ys. g at.row ∷ ys) (by_row f g policy ts rows known h (suc n) xs rest)
     ∙ sym (ap (λ (ys : List Row). map g ys) at.on)
 
-pub are_told : (policy : List ℕ) (ts : List Telling) (rows : List Row) (known : Option (Bor (List Bool))) (xs : List NamedPackage) (rs : List Report)
+are_told : (policy : List ℕ) (ts : List Telling) (rows : List Row) (known : Option (Bor (List Bool))) (xs : List NamedPackage) (rs : List Report)
     → map moved_report rs ≡ reports_of policy ts rows known xs → length xs ≡ length rows → AreTold xs rows rs
 are_told policy ts rows known xs rs told same =
     let all : 0 + length xs ≡ length rows = omega (arith, same) in
@@ -107,7 +110,7 @@ are_told policy ts rows known xs rs told same =
     }
 
 -- one more package is told
-pub one_told : (policy : List ℕ) (ts : List Telling) (rows : List Row) (known : Option (Bor (List Bool))) (xs : List NamedPackage) (n : ℕ) (x : NamedPackage) (b : Baseline) (o : Option Row) (told new whole : List Report)
+one_told : (policy : List ℕ) (ts : List Telling) (rows : List Row) (known : Option (Bor (List Bool))) (xs : List NamedPackage) (n : ℕ) (x : NamedPackage) (b : Baseline) (o : Option Row) (told new whole : List Report)
     → map moved_report new ≡ map moved_report told ++ row_told policy ts x b o → b ≡ state_at known n → o ≡ slice_get rows n → drop n xs ≡ x ∷ drop (suc n) xs
     → map moved_report told ++ reports_from policy ts rows known n (drop n xs) ≡ whole
     → map moved_report new ++ reports_from policy ts rows known (n + 1) (drop (n + 1) xs) ≡ whole
@@ -120,12 +123,39 @@ one_told policy ts rows known xs n x b o told new whole e state row first before
     ∙ before
 
 -- all packages are told
-pub all_told : (policy : List ℕ) (ts : List Telling) (rows : List Row) (known : Option (Bor (List Bool))) (xs : List NamedPackage) (n : ℕ) (told whole : List Report) → length xs ≤ n
+all_told : (policy : List ℕ) (ts : List Telling) (rows : List Row) (known : Option (Bor (List Bool))) (xs : List NamedPackage) (n : ℕ) (told whole : List Report) → length xs ≤ n
     → map moved_report told ++ reports_from policy ts rows known n (drop n xs) ≡ whole → map moved_report told ≡ whole
 all_told policy ts rows known xs n told whole le e =
     sym (append-nil (map moved_report told))
     ∙ ap (λ (ys : List NamedPackage). map moved_report told ++ reports_from policy ts rows known n ys) (sym (drop_end xs n le))
     ∙ e
+
+-- the reports of the packages so far, and what is told of those that come; the reports told are those in the scope
+abbrev pub AreIn : Scope → List ℕ → List Telling → List Row → Option (Bor (List Bool)) → List NamedPackage → ℕ → List Report → Type 0
+AreIn s policy ts rows known xs n told =
+    (all : List Report) × (map moved_report all ++ reports_from policy ts rows known n (drop n xs) ≡ reports_of policy ts rows known xs) ×
+    (told ≡ told_in s all)
+
+pub one_in : (s : Scope) (policy : List ℕ) (ts : List Telling) (rows : List Row) (known : Option (Bor (List Bool))) (xs : List NamedPackage) (n : ℕ) (x : NamedPackage) (b : Baseline) (o : Option Row) (told new : List Report)
+    → ((more : List Report) × (map moved_report more ≡ row_told policy ts x b o) × (new ≡ told ++ told_in s more)) → b ≡ state_at known n → o ≡ slice_get rows n → drop n xs ≡ x ∷ drop (suc n) xs
+    → AreIn s policy ts rows known xs n told → AreIn s policy ts rows known xs (n + 1) new
+one_in s policy ts rows known xs n x b o told new (more, more_are, new_are) state row first (all, before, told_are) = (
+  all ++ more,
+  one_told policy ts rows known xs n x b o all (all ++ more) (reports_of policy ts rows known xs)
+      (map-append moved_report all more ∙ ap (λ (rs : List Report). map moved_report all ++ rs) more_are) state row first before,
+  new_are ∙ ap (λ (rs : List Report). rs ++ told_in s more) told_are ∙ sym (told_both s all more),
+)
+
+pub all_in : (s : Scope) (policy : List ℕ) (ts : List Telling) (rows : List Row) (known : Option (Bor (List Bool))) (xs : List NamedPackage) (n : ℕ) (told : List Report) → length xs ≤ n
+    → AreIn s policy ts rows known xs n told → AreToldIn s policy ts rows known xs told
+all_in s policy ts rows known xs n told le (all, before, told_are) =
+    let exact = all_told policy ts rows known xs n all (reports_of policy ts rows known xs) le before in
+    record {
+      all = all;
+      exact = exact;
+      each = are_told policy ts rows known xs all exact;
+      told_are = told_are;
+    }
 
 -- the row that is looked up
 pub found : (rows : List Row) (n : ℕ) (o : Option (Bor Row)) (P : Bor Row → Type 0) → IfSome o (λ x. x.now ≡ get_or rows n x.now)

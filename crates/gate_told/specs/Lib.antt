@@ -11,3 +11,4 @@ pub mod Texts
 pub mod Totals
 pub mod Verdicts
 pub mod Packages
+pub mod Scopes

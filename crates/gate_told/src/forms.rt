@@ -18,7 +18,10 @@ ghost use Rattle.gate_told.specs.Verdicts.{
   refused_of,
   verdicts_text,
 };
+ghost use Rattle.gate_told.specs.Scopes as scopes;
+ghost use Rattle.gate_told.specs.Scopes.{IsEnough};
 
+use crate::packages::Scope;
 use finding_forms::Style;
 use gate_forms::{
     Report, Totals, put_explained, put_github, put_human, put_json, put_page, put_refusals,
@@ -53,6 +56,18 @@ pub enum Format<'v> {
     Html,
 }
 
+/// Which packages this form tells of: the page of all, the other forms of those that are refused.
+pub fn scope_of(format: Format<'_>) -> Scope
+    ensures { result ≡ scopes.scope_of format.entry }
+{
+    match format {
+        Format::Html => Scope::All,
+        Format::Human(_) | Format::Short | Format::Json | Format::Github | Format::Sarif { .. } => {
+            Scope::Refused
+        }
+    }
+}
+
 /// How a package is told in lines.
 #[derive(Clone, Copy)]
 pub(crate) enum Line {
@@ -66,8 +81,9 @@ pub(crate) enum Line {
 /// where machines read all of them, as JSON and SARIF, and on the page. For people equal refusals are told once, if
 /// `are_gathered` says so.
 ///
-/// Where no package is refused, what is told in other forms than the page is the same as of no packages (`passed`). The log
-/// reads back as that of the refused packages (`log`).
+/// Of the packages that the form tells of alone, by `scope_of`, the same is told as of all (`enough`). Where no package is
+/// refused, what is told in other forms than the page is the same as of no packages (`passed`). The log reads back as that
+/// of the refused packages (`log`).
 ///
 /// Takes time in the number of reports; for people in its square, while they are gathered.
 ///
@@ -85,6 +101,7 @@ pub fn put_verdicts(
     ensures ok { OnOk result (text.new.items ≡ text.old.items
         ++ verdicts_text format.entry policy.now totals.now reports.now) }
     ensures err { OnErr result (text.new.items ≡ text.old.items) }
+    ensures enough { IsEnough format.entry policy.now totals.now }
     ensures passed { is_of_refusals format.entry ≡ true → is_any_refused reports.now ≡ false →
         verdicts_text format.entry policy.now totals.now reports.now
         ≡ verdicts_text format.entry policy.now totals.now [] }
@@ -111,18 +128,35 @@ fn put_format(
 {
     match format {
         Format::Human(style) => {
-            put_people(alloc, text, style, totals, &new_among(alloc, reports)?)?;
+            put_people(alloc, text, style, totals, reports)?;
             put_totals(alloc, text, totals)
         }
         Format::Short => {
-            put_lines(alloc, text, Line::Short, &new_among(alloc, reports)?)?;
+            put_new_lines(alloc, text, Line::Short, reports)?;
             put_totals(alloc, text, totals)
         }
         Format::Json => put_lines(alloc, text, Line::Json, reports),
-        Format::Github => put_lines(alloc, text, Line::Github, &new_among(alloc, reports)?),
+        Format::Github => put_new_lines(alloc, text, Line::Github, reports),
         Format::Sarif { version } => put_log(alloc, text, version, reports),
         Format::Html => put_page(alloc, text, policy, totals, reports),
     }
+}
+
+// Appends the refusals that aren't known. They are copied only where they are gathered, so where they are few.
+fn put_people(
+    alloc: Global,
+    text: &mut Vec<u8>,
+    style: Style,
+    totals: &Totals,
+    reports: &[Report<'_>],
+) -> Result<(), AllocError>
+    ensures { OnOk result (
+        text.new.items ≡ text.old.items ++ people_text style totals.now (new_of reports.now)) }
+{
+    if are_gathered(totals) {
+        return put_refusals(alloc, text, style, &new_among(alloc, reports)?);
+    }
+    put_new_lines(alloc, text, Line::Human(style), reports)
 }
 
 // The reports but for refusals that are known.
@@ -138,20 +172,22 @@ fn new_among<'r>(alloc: Global, reports: &[Report<'r>]) -> Result<Vec<Report<'r>
     Ok(new)
 }
 
-fn put_people(
+// Appends a line for each report but for refusals that are known.
+fn put_new_lines(
     alloc: Global,
     text: &mut Vec<u8>,
-    style: Style,
-    totals: &Totals,
+    line: Line,
     reports: &[Report<'_>],
 ) -> Result<(), AllocError>
     ensures { OnOk result (
-        text.new.items ≡ text.old.items ++ people_text style totals.now reports.now) }
+        text.new.items ≡ text.old.items ++ flat_map (line_text line) (new_of reports.now)) }
 {
-    if are_gathered(totals) {
-        return put_refusals(alloc, text, style, reports);
+    for report in reports {
+        if !report.is_known() {
+            put_line(alloc, text, line, report)?;
+        }
     }
-    put_lines(alloc, text, Line::Human(style), reports)
+    Ok(())
 }
 
 fn put_lines(

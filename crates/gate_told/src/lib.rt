@@ -25,9 +25,9 @@ mod unused;
 
 pub use crate::details::{Detail, told_verdict};
 pub use crate::entries::entry_text;
-pub use crate::forms::{Format, are_gathered, put_explanations, put_verdicts};
+pub use crate::forms::{Format, are_gathered, put_explanations, put_verdicts, scope_of};
 pub use crate::needs::put_needs;
-pub use crate::packages::{NamedPackage, told_packages};
+pub use crate::packages::{NamedPackage, Scope, told_packages};
 pub use crate::shown::Shown;
 pub use crate::totals::told_totals;
 pub use crate::tree::parts;

@@ -1,14 +1,13 @@
 // What is told of the packages of a run.
 
-ghost use Rattle.std.specs.Prelude.{◌≡◌, ◌++◌, IfOk, OnOk, length, map, option_map};
+ghost use Rattle.std.specs.Prelude.{◌≡◌, List, [], ◌∷◌, ◌++◌, IfOk, OnOk, map, option_map};
 ghost use Rattle.std.specs.Option.{option_copied};
+ghost use Rattle.gate_forms.specs.declared.reports.Report as forms;
 ghost use Rattle.gate_told.specs.Moved.{moved_node, moved_why};
 ghost use Rattle.gate_told.specs.Packages.{
-  AreTold,
   moved_report,
   nodes_told,
   report_of,
-  reports_of,
   row_telling,
   row_told,
   state_at,
@@ -16,6 +15,8 @@ ghost use Rattle.gate_told.specs.Packages.{
   text_told,
   why_told,
 };
+ghost use Rattle.gate_told.specs.Scopes as scopes;
+ghost use Rattle.gate_told.specs.Scopes.{AreToldIn, told_in};
 ghost use Rattle.gate_told.specs.Texts.{telling_in};
 
 use crate::details::{Detail, told_verdict};
@@ -32,33 +33,43 @@ pub struct NamedPackage<'r> {
     pub version: Option<&'r str>,
 }
 
+/// Which packages of a run are told.
+#[derive(Clone, Copy)]
+pub enum Scope {
+    /// Each of them.
+    All,
+    /// Those that are refused, or state no licence though they must.
+    Refused,
+}
+
 /// What is told of the packages of a run, in their order, by a policy of this path: of the n-th package its file, its
 /// name and its version, the verdict of the n-th row, and what the detail tells that has the number of the row's
 /// judgement. Where there is a baseline, the n-th of `known` says whether the refusal of the n-th package is known. A
 /// package without a row is not told. Of as many packages as rows each is told, in its own file, and as refused exactly
-/// if its row is (`each`).
+/// if its row is; in the scope of refused ones, these alone are told, and take memory.
 ///
 /// # Errors
 ///
 /// Memory was refused.
 pub fn told_packages<'r>(
     alloc: Global,
+    scope: Scope,
     policy: &'r str,
     packages: &[NamedPackage<'r>],
     rows: &[Row],
     details: &'r [Detail<'r>],
     known: Option<&[bool]>,
 ) -> Result<Vec<Report<'r>>, AllocError>
-    ensures exact { IfOk result (λ told. map moved_report told.items
-        ≡ reports_of policy.now (map telling_in details.now) rows.now known.entry packages.now) }
-    ensures each { IfOk result (λ told. length packages.now ≡ length rows.now →
-        AreTold packages.now rows.now told.items) }
+    ensures { IfOk result (λ told.
+        AreToldIn scope policy.now (map telling_in details.now) rows.now known.entry packages.now
+        told.items) }
 {
     let mut told = Vec::new(alloc);
     for (number, named) in packages.iter().enumerate() {
         let baseline = state_at(known, number);
         add_told(
             &mut told,
+            scope,
             policy,
             named,
             rows.get(number),
@@ -69,25 +80,50 @@ pub fn told_packages<'r>(
     Ok(told)
 }
 
-// Adds what is told of a package with this row.
+// Adds what is told of a package with this row, if it is in the scope.
 fn add_told<'r>(
     told: &mut Vec<Report<'r>>,
+    scope: Scope,
     policy: &'r str,
     named: &NamedPackage<'r>,
     row: Option<&Row>,
     details: &'r [Detail<'r>],
     baseline: Baseline,
 ) -> Result<(), AllocError>
-    ensures { OnOk result (map moved_report told.new.items ≡ map moved_report told.old.items
-        ++ row_told policy.now (map telling_in details.now) named.now baseline
-        (option_copied row.entry)) }
+    ensures { OnOk result ((all : List forms.Report) × (map moved_report all
+        ≡ row_told policy.now (map telling_in details.now) named.now baseline
+        (option_copied row.entry)) × (told.new.items ≡ told.old.items ++ told_in scope all)) }
 {
     match row {
-        Some(row) => {
-            told.push(report_of(policy, named, row, details, baseline))?;
-            Ok(())
-        }
+        Some(row) => add_in(
+            told,
+            scope,
+            report_of(policy, named, row, details, baseline),
+        ),
         None => Ok(()),
+    }
+}
+
+#[tactic(auto, using(crate::proofs::Scopes::one_in))]
+fn add_in<'r>(
+    told: &mut Vec<Report<'r>>,
+    scope: Scope,
+    report: Report<'r>,
+) -> Result<(), AllocError>
+    ensures { OnOk result (told.new.items ≡ told.old.items ++ told_in scope (report.entry ∷ [])) }
+{
+    if is_told(scope, &report) {
+        told.push(report)?;
+    }
+    Ok(())
+}
+
+fn is_told(scope: Scope, report: &Report<'_>) -> bool
+    ensures { result ≡ scopes.is_told scope report.now }
+{
+    match scope {
+        Scope::All => true,
+        Scope::Refused => report.verdict.is_refused(),
     }
 }
 

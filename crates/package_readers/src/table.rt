@@ -1,7 +1,8 @@
 // Packages in records: values with commas or tabs between them.
 
-ghost use Rattle.std.specs.Prelude.{◌≡◌, ◌≤◌, Ok, Err, IfOk, IfErr, map, option_map, string_bytes};
+ghost use Rattle.std.specs.Prelude.{◌≡◌, suc, Ok, Err, IfOk, IfErr, map, option_map, string_bytes};
 ghost use Rattle.std.specs.List.{list_all, position_from};
+ghost use Rattle.std.specs.Vec.Iter.{into_iter_items};
 ghost use Rattle.csv.specs.Records.{fields_of};
 ghost use Rattle.package_items.specs.Rows.{Says, license_of, row_of};
 ghost use Rattle.package_items.specs.Texts.{is_blank as blank};
@@ -13,6 +14,7 @@ use crate::separated::{Separator, is_open, records_of, values_of};
 use csv::ByteRecord;
 use package_items::{License, Package, SourceError, SourceFault, Spot, is_blank, license_in};
 use std::alloc::{AllocError, Global};
+use std::vec::IntoIter;
 
 /// Which columns are read, counted from 0.
 #[derive(Clone, Copy)]
@@ -255,45 +257,61 @@ fn are_blank(values: &[&[u8]]) -> bool
 
 // The number of the first record that may be a package.
 fn first_number(named: Option<Columns>) -> usize
-    ensures value { result ≡ spec.first_number named }
-    ensures bound { result ≤ 2 }
+    ensures { result ≡ spec.first_number named }
 {
     if named.is_some() { 2 } else { 1 }
 }
 
-// The packages of the records that aren't blank.
+// The packages of the records that aren't blank. Each record is let go once it is read, so that not all of them stand beside
+// the packages.
 fn packages_of(
     alloc: Global,
     named: Option<Columns>,
-    records: &[ByteRecord],
+    records: IntoIter<ByteRecord, Global>,
 ) -> Result<Vec<Package>, SourceError>
     ensures ok { IfOk result (λ ps.
-        spec.packages_of named (map fields_of records.now) ≡ Ok (map row_of ps.items)) }
+        spec.packages_of named (map fields_of (into_iter_items records))
+        ≡ Ok (map row_of ps.items)) }
     ensures err { IfErr result (Says (λ f.
-        spec.packages_of named (map fields_of records.now) ≡ Err f)) }
+        spec.packages_of named (map fields_of (into_iter_items records)) ≡ Err f)) }
 {
-    let first = first_number(named);
+    let mut number = first_number(named);
     let mut packages = Vec::new(alloc);
-    for (index, record) in records.iter().enumerate() {
-        let values = values_of(alloc, record)?;
+    for row in records {
+        let values = values_of(alloc, &row)?;
         if !are_blank(values.as_slice()) {
-            packages.push(package_of(alloc, named, first + index, values.as_slice())?)?;
+            packages.push(package_of(alloc, named, number, values.as_slice())?)?;
         }
+        number = behind(number)?;
     }
     Ok(packages)
 }
 
-// The packages behind a header.
-fn packages_behind(alloc: Global, records: &[ByteRecord]) -> Result<Vec<Package>, SourceError>
-    ensures ok { IfOk result (λ ps.
-        spec.packages_behind (map fields_of records.now) ≡ Ok (map row_of ps.items)) }
-    ensures err { IfErr result (Says (λ f.
-        spec.packages_behind (map fields_of records.now) ≡ Err f)) }
+// The next number. So many records that there is none don't fit into memory.
+fn behind(number: usize) -> Result<usize, AllocError>
+    ensures { IfOk result (λ next. next ≡ suc number) }
 {
-    let [header, records @ ..] = records else {
+    match number.checked_add(1) {
+        Some(next) => Ok(next),
+        None => Err(AllocError),
+    }
+}
+
+// The packages behind a header.
+fn packages_behind(
+    alloc: Global,
+    mut records: IntoIter<ByteRecord, Global>,
+) -> Result<Vec<Package>, SourceError>
+    ensures ok { IfOk result (λ ps.
+        spec.packages_behind (map fields_of (into_iter_items records))
+        ≡ Ok (map row_of ps.items)) }
+    ensures err { IfErr result (Says (λ f.
+        spec.packages_behind (map fields_of (into_iter_items records)) ≡ Err f)) }
+{
+    let Some(header) = records.next() else {
         return Err(SourceError::Refused(SourceFault::NoNameColumn));
     };
-    let names = values_of(alloc, header)?;
+    let names = values_of(alloc, &header)?;
     let columns = columns_named(names.as_slice())?;
     packages_of(alloc, Some(columns), records)
 }
@@ -322,7 +340,7 @@ pub fn packages_in_table(
     }
     let records = records_of(alloc, separator, bytes)?;
     if header {
-        return packages_behind(alloc, records.as_slice());
+        return packages_behind(alloc, records.into_iter());
     }
-    packages_of(alloc, None, records.as_slice())
+    packages_of(alloc, None, records.into_iter())
 }
