@@ -127,6 +127,11 @@ Performs w colours (request.Diff r) x y answer = DoesLists w r x.output y.output
 Performs w colours (request.Changes r) x y answer =
     DoesChanges w r x.output y.output x.heard y.heard answer
 
+-- what is asked is done: the answer, and what stands before and behind it, are as the request has it
+pub record IsPerformed (w : World) (colours : Bool) (r : Request) (x y : Side)
+    (answer : Result Ended Trouble) : Type 0 where
+  pub performs : Performs w colours r x y answer
+
 -- files are to be written
 abbrev pub writes_files : Request → Bool
 writes_files (request.Fix r) = r.write

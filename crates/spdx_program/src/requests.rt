@@ -3,7 +3,7 @@
 ghost use Rattle.std.specs.Prelude.{◌≡◌, ◌<◌, [], IfOk, OnOk, false};
 ghost use Rattle.check_files.specs.Told.{Hears};
 ghost use Rattle.spdx_program.specs.Ends.{world};
-ghost use Rattle.spdx_program.specs.Requests.{Performs, side, writes_files};
+ghost use Rattle.spdx_program.specs.Requests.{IsPerformed, side, writes_files};
 
 use crate::changes::changes;
 use crate::check::check;
@@ -43,7 +43,7 @@ pub fn perform<S: OpenShelf, R: Replacing, O: Sink, T: Telling + Follower>(
     output: &mut O,
     teller: &mut T,
 ) -> Result<Ended, Trouble>
-    ensures does { Performs (world (S.Shelf.told shelf.now) inside.entry) colours request.now
+    ensures does { IsPerformed (world (S.Shelf.told shelf.now) inside.entry) colours request.now
         (side (O.told output.old) (T.told teller.old) (T.heard teller.old) (R.tried replacer.old))
         (side (O.told output.new) (T.told teller.new) (T.heard teller.new) (R.tried replacer.new))
         result }
