@@ -6,8 +6,8 @@
 // `empty`, `quiet`, without the totals, or `auto`, by which the form of the files is guessed; else their lines have
 // columns. A line that begins with `#` says something to readers.
 
-use crate::commands::Told;
 use crate::shelf::{HEIRS, inside, lines_of, shelf_of};
+use crate::told::Told;
 use changes_program::Request;
 use line_engine::stream::Output;
 use package_changes::Format;

@@ -48,20 +48,27 @@ pub(crate) fn try_rows(alloc: Global, shown: &mut String, text: &str) -> Result<
 
 fn answer(alloc: Global, shelf: &Held, given: &str) -> Result<String, AllocError> {
     let words: Vec<&str> = given.split(' ').collect(alloc)?;
-    let [how, wanted, list, paths @ ..] = words.as_slice() else {
+    let Some(request) = request(&words) else {
         return String::from_str(alloc, "no row");
-    };
-    let request = Request {
-        list: if *list == "-" { None } else { Some(*list) },
-        wanted: wanted_by(*wanted),
-        is_written: *how == "write",
-        paths,
     };
     match fix(alloc, shelf, inside(), request, &mut Quiet {}) {
         Ok(run) => told_of(alloc, &run),
         Err(FixFault::List(_)) => String::from_str(alloc, "no list"),
         Err(FixFault::Memory) => Err(AllocError),
     }
+}
+
+/// What the words of a row ask for. Whatever stands first, but for `diff`, files are written.
+pub(crate) fn request<'w>(words: &'w [&'w str]) -> Option<Request<'w>> {
+    let [how, wanted, list, paths @ ..] = words else {
+        return None;
+    };
+    Some(Request {
+        list: if *list == "-" { None } else { Some(*list) },
+        wanted: wanted_by(*wanted),
+        is_written: *how != "diff",
+        paths,
+    })
 }
 
 pub(crate) fn wanted_by<'w>(word: &'w str) -> Wanted<'w> {

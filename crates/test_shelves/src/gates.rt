@@ -5,8 +5,8 @@
 // `before PATH`, `explain NAME`, `empty`, or `auto`, by which the form of the files is guessed; else each of their lines is a
 // package. A line that begins with `#` says something to readers.
 
-use crate::commands::Told;
 use crate::shelf::{HEIRS, inside, lines_of, shelf_of};
+use crate::told::Told;
 use finding_forms::Style;
 use gate_program::{Look, Request};
 use gate_told::Format;

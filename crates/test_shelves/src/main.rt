@@ -1,8 +1,8 @@
 //! The rows of what is read over a shelf of values: which list, which packages, what the gate
 //! says of them, what changed between two lists of them, how two expressions compare, what each line means, what a
-//! list says of names, by what two lists differ, which files are below a folder, what mends files, what packages are used
-//! under, the page of their texts, what is found in files and folders, what commands write and tell, and how an error of the
-//! system is told.
+//! list says of names, by what two lists differ, which files are below a folder, what mends files and what comes of putting it
+//! in their places, what packages are used under, the page of their texts, what is found in files and folders, what commands
+//! write and tell, and how an error of the system is told.
 //!
 //! Each part has its rows in a file that lies where the program runs, NAME.rows, and is told behind a line `== PART`: those
 //! that don't hold, then how many do. The head of each module has the form of its rows.
@@ -13,17 +13,21 @@ mod checks;
 mod choices;
 mod commands;
 mod compares;
+mod desk;
 mod diffs;
 mod fixes;
 mod fragile;
 mod gates;
 mod list_diffs;
 mod lists;
+mod mends;
 mod notices;
 mod packages;
+mod pages;
 mod shelf;
 mod shows;
 mod simplifies;
+mod told;
 mod trees;
 mod troubles;
 
@@ -45,6 +49,9 @@ fn start(rt: &HostRuntime) -> io::Result<u8> {
     shown.push_str("== notices\n")?;
     let rows = fs::read_to_string(rt, "notices.rows")?;
     let are_notices_good = notices::try_rows(rt.alloc(), &mut shown, rows.as_str())?;
+    shown.push_str("== pages\n")?;
+    let rows = fs::read_to_string(rt, "pages.rows")?;
+    let are_pages_good = pages::try_rows(rt.alloc(), &mut shown, rows.as_str())?;
     shown.push_str("== diffs\n")?;
     let rows = fs::read_to_string(rt, "diffs.rows")?;
     let are_diffs_good = diffs::try_rows(rt.alloc(), &mut shown, rows.as_str())?;
@@ -69,6 +76,9 @@ fn start(rt: &HostRuntime) -> io::Result<u8> {
     shown.push_str("== fixes\n")?;
     let rows = fs::read_to_string(rt, "fixes.rows")?;
     let are_fixes_good = fixes::try_rows(rt.alloc(), &mut shown, rows.as_str())?;
+    shown.push_str("== mends\n")?;
+    let rows = fs::read_to_string(rt, "mends.rows")?;
+    let are_mends_good = mends::try_rows(rt.alloc(), &mut shown, rows.as_str())?;
     shown.push_str("== choices\n")?;
     let rows = fs::read_to_string(rt, "choices.rows")?;
     let are_choices_good = choices::try_rows(rt.alloc(), &mut shown, rows.as_str())?;
@@ -86,6 +96,7 @@ fn start(rt: &HostRuntime) -> io::Result<u8> {
         && are_packages_good
         && are_gates_good
         && are_notices_good
+        && are_pages_good
         && are_diffs_good
         && are_changes_good
         && are_compares_good
@@ -94,6 +105,7 @@ fn start(rt: &HostRuntime) -> io::Result<u8> {
         && are_list_diffs_good
         && are_trees_good
         && are_fixes_good
+        && are_mends_good
         && are_choices_good
         && are_checks_good
         && are_commands_good

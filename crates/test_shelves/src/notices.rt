@@ -4,8 +4,8 @@
 // licence. A row `PATHS | ACCEPTED | WORDS => WANTED` has the status and the faults of files that are left out, in brackets; and
 // then how the run ends. Of a page its lines are told that are not blank, each without the blanks about it and with ` / ` before
 // it; then what is missing, in brackets, and the line of the totals. What is accepted is a list with commas, or `policy PATH`.
-// The words are `texts DIR`, `sources DIR`, `installed`, `strict`, `follow`, `plain`, `html`, `together` and `list PATH`. A line
-// that begins with `#` says something to readers.
+// The words are `texts DIR`, `sources DIR`, `installed`, `strict`, `follow`, `plain`, `html`, `together`, `list PATH`, and `auto`,
+// with which the form of the files is guessed. A line that begins with `#` says something to readers.
 
 use crate::shelf::{HEIRS, inside, shelf_of, told_faults};
 use notice_forms::Format;
@@ -48,11 +48,16 @@ fn answer(alloc: Global, shelf: &Held, given: &str) -> Result<String, AllocError
     }
 }
 
-fn request<'r>(paths: &'r [&'r str], accepted: &'r str, words: &'r [&'r str]) -> Request<'r> {
+/// What a row asks for.
+pub(crate) fn request<'r>(
+    paths: &'r [&'r str],
+    accepted: &'r str,
+    words: &'r [&'r str],
+) -> Request<'r> {
     Request {
         list: behind(words, "list"),
         wanted: Wanted {
-            source: Source::Named(Form::Tsv { header: false }),
+            source: source(words),
             allow_empty: true,
             exclude_own: false,
         },
@@ -77,6 +82,14 @@ fn request<'r>(paths: &'r [&'r str], accepted: &'r str, words: &'r [&'r str]) ->
             Format::Text
         },
         is_strict: has(words, "strict"),
+    }
+}
+
+fn source<'r>(words: &[&str]) -> Source<'r> {
+    if has(words, "auto") {
+        Source::Auto
+    } else {
+        Source::Named(Form::Tsv { header: false })
     }
 }
 
@@ -159,8 +172,8 @@ fn told_notice(alloc: Global, notice: &ToldPage) -> Result<String, AllocError> {
     Ok(told)
 }
 
-// The lines that aren't blank, nor rules.
-fn lines_told(alloc: Global, page: &[u8]) -> Result<String, AllocError> {
+/// The lines that aren't blank, nor rules.
+pub(crate) fn lines_told(alloc: Global, page: &[u8]) -> Result<String, AllocError> {
     let text = String::from_utf8_lossy(alloc, page)?;
     let mut told = String::new(alloc);
     for line in text.as_str().lines() {
