@@ -26,7 +26,7 @@ pub fn run<R: System, O: Write + Drop, F: Write + Drop>(
     ensures { result < 4 }
 {
     let mut output = Output::new(output);
-    let mut teller = Teller::new(faults, screen);
+    let mut teller = Teller::new(Output::new(faults), screen);
     let mut places = Places::new(rt, breaks_links(request));
     let end = perform(
         rt.alloc(),

@@ -1,12 +1,13 @@
 // Who is told of troubles, and how far a walk is.
 
-ghost use Rattle.std.specs.Prelude.{◌<◌, None};
+ghost use Rattle.std.specs.Prelude.{◌<◌, None, OnOk};
+ghost use Rattle.spdx_program.specs.Telling.{PutsLine, PutsTotals};
 
 use crate::outputs::Screen;
 use check_files::{CheckTrouble, Telling};
 use fix_program::Progress;
+use line_engine::device::Sink;
 use line_engine::lines::write_all;
-use line_engine::stream::Output;
 use spdx_commands::{Follower, Listener};
 use spdx_troubles::Trouble;
 use std::alloc::{AllocError, Global};
@@ -18,16 +19,13 @@ const STEP: u64 = 1_000;
 /// Writes each trouble as its line, as far as that goes.
 #[derive(Drop)]
 pub(crate) struct Teller<F: Drop> {
-    faults: Output<F>,
+    faults: F,
     screen: Screen,
 }
 
-impl<F: Write + Drop> Teller<F> {
+impl<F: Sink + Drop> Teller<F> {
     pub(crate) fn new(faults: F, screen: Screen) -> Teller<F> {
-        Teller {
-            faults: Output::new(faults),
-            screen,
-        }
+        Teller { faults, screen }
     }
 
     /// Tells the trouble that a command stopped by, and answers its status; where memory for its line is refused, that is
@@ -45,13 +43,18 @@ impl<F: Write + Drop> Teller<F> {
     }
 
     /// Writes the line of totals, if there is one.
-    pub(crate) fn put_totals(&mut self, totals: &Option<String>) {
+    pub(crate) fn put_totals(&mut self, totals: &Option<String>)
+        ensures { PutsTotals (F.told self.old.faults) (F.told self.new.faults) totals.now }
+    {
         if let Some(totals) = totals {
             let _ = write_all(&mut self.faults, totals.as_bytes());
         }
     }
 
-    fn put_line(&mut self, alloc: Global, trouble: &Trouble) -> Result<(), AllocError> {
+    fn put_line(&mut self, alloc: Global, trouble: &Trouble) -> Result<(), AllocError>
+        ensures { OnOk result (PutsLine (F.told self.old.faults) (F.told self.new.faults)
+            trouble.now) }
+    {
         let line = trouble.line(alloc)?;
         let _ = write_all(&mut self.faults, line.as_bytes());
         Ok(())
@@ -79,7 +82,7 @@ impl<F: Write + Drop> Teller<F> {
     }
 }
 
-impl<F: Write + Drop> Telling for Teller<F> {
+impl<F: Sink + Drop> Telling for Teller<F> {
     ghost told = { λ _. None };
 
     fn tell(&mut self, alloc: Global, trouble: CheckTrouble) -> Result<(), AllocError> {
@@ -95,7 +98,7 @@ impl<F: Write + Drop> Telling for Teller<F> {
     }
 }
 
-impl<F: Write + Drop> Listener for Teller<F> {
+impl<F: Sink + Drop> Listener for Teller<F> {
     ghost heard = { λ _. None };
 
     fn hear(&mut self, alloc: Global, trouble: Trouble) -> Result<(), AllocError> {
@@ -103,7 +106,7 @@ impl<F: Write + Drop> Listener for Teller<F> {
     }
 }
 
-impl<F: Write + Drop> Progress for Teller<F> {
+impl<F: Sink + Drop> Progress for Teller<F> {
     ghost use Rattle.std.specs.Prelude.{ℕ};
 
     ghost Kept = { ℕ };
@@ -119,7 +122,7 @@ impl<F: Write + Drop> Progress for Teller<F> {
     }
 }
 
-impl<F: Write + Drop> Follower for Teller<F> {
+impl<F: Sink + Drop> Follower for Teller<F> {
     ghost use Rattle.std.specs.Prelude.{refl};
 
     ghost steady = { λ _ _ _. refl };
