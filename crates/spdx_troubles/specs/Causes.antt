@@ -1,5 +1,5 @@
 -- Which trouble a cause is.
-use Rattle.std.specs.Prelude.{◌≡◌, ◌⊎◌, ℕ, Bool, true, false, List, String, ◌==◌, if◌then◌else◌, string_bytes}
+use Rattle.std.specs.Prelude.{◌≡◌, ℕ, Bool, true, false, List, String, ◌==◌, if◌then◌else◌, string_bytes}
 use Rattle.std.specs.declared.alloc.Global.{Global}
 use Rattle.std.specs.Borrow.{Bor}
 use Rattle.std.specs.List.{list_any}
@@ -48,17 +48,6 @@ of_path path e =
     if is_of_memory e then trouble.Memory
     else if list_any is_nul (string_bytes path) then trouble.NotUtf8 path
     else trouble.Unreadable path e
-
--- the path is copied, unless memory is refused
-abbrev pub IsUnreadable : List ℕ → Error → Trouble → Type 0
-IsUnreadable path e t =
-    ((n : String Global) × (string_bytes n ≡ path) × (t ≡ of_path n e)) ⊎ (t ≡ trouble.Memory)
-
--- so too of a path that can't be written
-abbrev pub IsUnwritable : List ℕ → Error → Trouble → Type 0
-IsUnwritable path e t =
-    ((n : String Global) × (string_bytes n ≡ path) × (is_of_memory e ≡ false)
-    × (t ≡ trouble.Unwritable n e)) ⊎ (t ≡ trouble.Memory)
 
 -- why no list is read
 abbrev pub list_trouble : ListTrouble → Trouble

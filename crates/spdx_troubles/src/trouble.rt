@@ -8,7 +8,6 @@ use package_sources::SourceFault;
 use spdx_catalogue::ReadFault;
 use spdx_list::ListFault;
 use spdx_policy::PolicyFault;
-use std::alloc::{AllocError, Global};
 use std::io::{self, ErrorKind};
 
 /// What went wrong outside the expressions.
@@ -89,17 +88,7 @@ fn is_of_memory(error: &io::Error) -> bool
 }
 
 impl Trouble {
-    /// Of a path that gave this error. A NUL in it stands for what is no UTF-8 in an argument.
-    pub fn unreadable(alloc: Global, path: &str, error: io::Error) -> Trouble
-        ensures { causes.IsUnreadable path.now error result }
-    {
-        match String::from_str(alloc, path) {
-            Ok(path) => Trouble::of_path(path, error),
-            Err(AllocError) => Trouble::Memory,
-        }
-    }
-
-    /// Of this path, which gave this error.
+    /// Of this path, which gave this error. A NUL in it stands for what is no UTF-8 in an argument.
     pub fn of_path(path: String, error: io::Error) -> Trouble
         ensures { result ≡ causes.of_path path error }
     {
@@ -110,19 +99,6 @@ impl Trouble {
             return Trouble::NotUtf8(path);
         }
         Trouble::Unreadable(path, error)
-    }
-
-    /// Of a path that could not be written.
-    pub fn unwritable(alloc: Global, path: &str, error: io::Error) -> Trouble
-        ensures { causes.IsUnwritable path.now error result }
-    {
-        if is_of_memory(&error) {
-            return Trouble::Memory;
-        }
-        match String::from_str(alloc, path) {
-            Ok(path) => Trouble::Unwritable(path, error),
-            Err(AllocError) => Trouble::Memory,
-        }
     }
 
     /// Whether other files are still to be read: this one alone is left out.

@@ -28,8 +28,8 @@ fn answer(alloc: Global, given: &str) -> Result<String, AllocError> {
     let path = path_of(alloc, path)?;
     let error = io::Error::from(kind_of(kind));
     let trouble = match act {
-        "unreadable" => Trouble::unreadable(alloc, path.as_str(), error),
-        "unwritable" => Trouble::unwritable(alloc, path.as_str(), error),
+        "unreadable" => Trouble::of_path(path, error),
+        "unwritable" => Trouble::Unwritable(path, error),
         _ => Trouble::Owner(path, error),
     };
     let line = trouble.line(alloc)?;
