@@ -1,7 +1,14 @@
-// The command line that is understood.
+// The commands over expressions and lists, and `spdx` with one of its commands or all of them.
 
+ghost use Rattle.std.specs.Prelude.{◌≡◌, IfOk, codes};
+ghost use Rattle.clap.specs.Walk.{rule_of};
+ghost use Rattle.clap.specs.Simple.{Shape, app_of};
+ghost use Rattle.spdx_words.specs.Options.{IsAlone, IsCommand};
+ghost use Rattle.spdx_words.specs.Commands as table;
+
+use crate::options::{choice, file, flag, lettered, option, optional_file, with_value, words};
 use crate::packages_command::{diff, gate, notice};
-use clap::{Arg, ArgAction, Command};
+use clap::{Arg, Command};
 use std::alloc::{AllocError, Global};
 
 const CHECK_EXAMPLE: &str = "Examples:
@@ -42,8 +49,10 @@ const LIST_EXAMPLE: &str = "Examples:
 A newer list: put SPDX's own licenses.json and exceptions.json (github.com/spdx/license-list-data, folder json) into a
 folder, and name the folder by --list, or by the environment's SPDX_LIST for every command.";
 
+static FINDING_FORMATS: [&str; 5] = ["human", "short", "json", "github", "sarif"];
+
 // The names of forms of manifests, as `manifests::form_named` knows them.
-const FORMS: [&str; 32] = [
+static FORMS: [&str; 32] = [
     "cargo",
     "npm",
     "bower",
@@ -96,28 +105,10 @@ const EXAMPLES: &str = "Examples:
                                      which of two expressions asks for more
   spdx list show Apache-2.0          what the list says of a name";
 
-/// The command `spdx`, where this is the first word behind its name. `version` is what `--version` prints. Where the word is
-/// a command's, that one alone is made: to make all of them takes longer than to check a line.
-pub(crate) fn command<'a>(
-    alloc: Global,
-    version: &'a str,
-    word: &str,
-) -> Result<Command<'a>, AllocError> {
-    let spdx = bare(alloc, version)?;
-    match word {
-        "check" => spdx.subcommand(check(alloc)?),
-        "fix" => spdx.subcommand(fix(alloc)?),
-        "gate" => spdx.subcommand(gate(alloc)?),
-        "notice" => spdx.subcommand(notice(alloc)?),
-        "diff" => spdx.subcommand(diff(alloc)?),
-        "compare" => spdx.subcommand(compare(alloc)?),
-        "simplify" => spdx.subcommand(simplify(alloc)?),
-        "list" => spdx.subcommand(list(alloc)?),
-        _ => with_all(alloc, spdx),
-    }
-}
-
-fn bare<'a>(alloc: Global, version: &'a str) -> Result<Command<'a>, AllocError> {
+/// `spdx`, with no command yet. `version` is what `--version` prints.
+fn bare<'a>(alloc: Global, version: &'a str) -> Result<Command<'a>, AllocError>
+    ensures { IfOk result (IsAlone table.spdx_alone) }
+{
     Ok(
         Command::new(alloc, "spdx")
             .bin_name("spdx")?
@@ -129,8 +120,22 @@ fn bare<'a>(alloc: Global, version: &'a str) -> Result<Command<'a>, AllocError> 
     )
 }
 
-fn with_all<'a>(alloc: Global, spdx: Command<'a>) -> Result<Command<'a>, AllocError> {
-    spdx.subcommand(check(alloc)?)?
+/// `spdx` with this command alone.
+pub(crate) fn with<'a>(
+    alloc: Global,
+    version: &'a str,
+    command: Command<'a>,
+) -> Result<Command<'a>, AllocError>
+    ensures { IfOk result (λ c. (shape : Shape) → IsAlone shape command.entry →
+        app_of c ≡ table.spdx shape) }
+{
+    bare(alloc, version)?.subcommand(command)
+}
+
+/// `spdx` with all its commands: what tells of them, and of words that name none of them.
+pub(crate) fn with_all<'a>(alloc: Global, version: &'a str) -> Result<Command<'a>, AllocError> {
+    bare(alloc, version)?
+        .subcommand(check(alloc)?)?
         .subcommand(fix(alloc)?)?
         .subcommand(gate(alloc)?)?
         .subcommand(notice(alloc)?)?
@@ -140,32 +145,41 @@ fn with_all<'a>(alloc: Global, spdx: Command<'a>) -> Result<Command<'a>, AllocEr
         .subcommand(list(alloc)?)
 }
 
-fn check<'a>(alloc: Global) -> Result<Command<'a>, AllocError> {
-    let format = Arg::new(alloc, "format")
-        .long("format")
-        .value_name("FORM")
-        .value_parser(["human", "short", "json", "github", "sarif"].as_slice())
-        .default_value("human")
-        .help("How findings are written");
+/// The command `check`.
+pub(crate) fn check<'a>(alloc: Global) -> Result<Command<'a>, AllocError>
+    ensures { IfOk result (λ c. (formats : table.These table.finding_formats)
+        × (forms : table.These table.manifest_forms)
+        × IsCommand (codes "check") (table.check_options formats.0 forms.0) c) }
+{
+    let format = choice(
+        alloc,
+        "format",
+        FINDING_FORMATS.as_slice(),
+        "How findings are written",
+    );
+    let strict = flag(alloc, "strict", "Reads as SPDX has it; this is the default");
     Command::new(alloc, "check")
         .about("Tells which expressions are refused, where, and what to write")
         .after_help(CHECK_EXAMPLE)
-        .arg(format)?
-        .arg(flag(alloc, "strict", "Reads as SPDX has it; this is the default").conflicts_with(
-            "lax",
-        )?)?
+        .arg(with_value(format, "human"))?
+        .arg(strict)?
         .arg(lax(alloc))?
-        .arg(headers(alloc)?)?
-        .arg(manifests(alloc)?)?
-        .arg(form_name(alloc)?)?
-        .arg(texts_folder(alloc))?
+        .arg(headers(alloc))?
+        .arg(manifests(alloc))?
+        .arg(form(alloc))?
+        .arg(option(
+            alloc,
+            "texts",
+            "DIR",
+            "Where the license texts are that the folders owe; LICENSES in each that has it",
+        ))?
         .arg(flag(
             alloc,
             "untagged",
             "Tells which files below the folders have no license tag and declare no license",
         ))?
         .arg(list_file(alloc))?
-        .arg(flag(alloc, "quiet", "Writes nothing; the status tells").short('q'))?
+        .arg(quiet(alloc))?
         .arg(flag(
             alloc,
             "no-summary",
@@ -174,7 +188,11 @@ fn check<'a>(alloc: Global) -> Result<Command<'a>, AllocError> {
         .arg(paths(alloc))
 }
 
-fn fix<'a>(alloc: Global) -> Result<Command<'a>, AllocError> {
+/// The command `fix`.
+pub(crate) fn fix<'a>(alloc: Global) -> Result<Command<'a>, AllocError>
+    ensures { IfOk result (λ c. (forms : table.These table.manifest_forms)
+        × IsCommand (codes "fix") (table.fix_options forms.0) c) }
+{
     Command::new(alloc, "fix")
         .about("Shows what the refused expressions should be, or writes it")
         .after_help(FIX_EXAMPLE)
@@ -184,14 +202,17 @@ fn fix<'a>(alloc: Global) -> Result<Command<'a>, AllocError> {
             "break-links",
             "With --write: mends a file that has other names too, which keep what it was",
         ))?
-        .arg(headers(alloc)?)?
-        .arg(manifests(alloc)?)?
-        .arg(form_name(alloc)?)?
+        .arg(headers(alloc))?
+        .arg(manifests(alloc))?
+        .arg(form(alloc))?
         .arg(list_file(alloc))?
         .arg(paths(alloc))
 }
 
-fn compare<'a>(alloc: Global) -> Result<Command<'a>, AllocError> {
+/// The command `compare`.
+pub(crate) fn compare<'a>(alloc: Global) -> Result<Command<'a>, AllocError>
+    ensures { IfOk result (IsCommand (codes "compare") table.compare_options) }
+{
     Command::new(alloc, "compare")
         .about("Tells whether two expressions mean the same, or which asks for more")
         .after_help(COMPARE_EXAMPLE)
@@ -201,7 +222,10 @@ fn compare<'a>(alloc: Global) -> Result<Command<'a>, AllocError> {
         .arg(file(alloc, "OTHER", "Another one"))
 }
 
-fn simplify<'a>(alloc: Global) -> Result<Command<'a>, AllocError> {
+/// The command `simplify`.
+pub(crate) fn simplify<'a>(alloc: Global) -> Result<Command<'a>, AllocError>
+    ensures { IfOk result (IsCommand (codes "simplify") table.simplify_options) }
+{
     Command::new(alloc, "simplify")
         .about("Writes what each expression means, without what it says twice")
         .after_help(SIMPLIFY_EXAMPLE)
@@ -210,7 +234,71 @@ fn simplify<'a>(alloc: Global) -> Result<Command<'a>, AllocError> {
         .arg(paths(alloc))
 }
 
-fn lax<'a>(alloc: Global) -> Arg<'a> {
+/// The command `list` as a program of its own, whose name is `spdx list`.
+pub(crate) fn list_alone<'a>(alloc: Global) -> Result<Command<'a>, AllocError>
+    ensures { IfOk result (λ c. app_of c ≡ table.spdx_list) }
+{
+    list(alloc)?.bin_name("spdx list")
+}
+
+/// The command `list`, with its own commands.
+fn list<'a>(alloc: Global) -> Result<Command<'a>, AllocError>
+    ensures { IfOk result (λ c. app_of c ≡ table.spdx_list) }
+{
+    Command::new(alloc, "list")
+        .about("Shows, makes or compares lists of licenses")
+        .subcommand_required(true)
+        .arg_required_else_help(true)
+        .after_help(LIST_EXAMPLE)
+        .subcommand(show(alloc)?)?
+        .subcommand(make(alloc)?)?
+        .subcommand(differ(alloc)?)
+}
+
+fn show<'a>(alloc: Global) -> Result<Command<'a>, AllocError>
+    ensures { IfOk result (IsCommand (codes "show") table.show_options) }
+{
+    Command::new(alloc, "show")
+        .about("Shows what the list says of names")
+        .arg(list_file(alloc))?
+        .arg(words(
+            alloc,
+            "NAME",
+            "License and exception names; the list's version and all of them where there is none",
+        ))
+}
+
+pub(crate) fn make<'a>(alloc: Global) -> Result<Command<'a>, AllocError>
+    ensures { IfOk result (IsCommand (codes "make") table.make_options) }
+{
+    Command::new(alloc, "make")
+        .about("Writes a list from SPDX's own two files")
+        .arg(file(alloc, "LICENSES", "SPDX's licenses.json"))?
+        .arg(file(alloc, "EXCEPTIONS", "SPDX's exceptions.json"))?
+        .arg(option(
+            alloc,
+            "extras",
+            "FILE",
+            "Copyleft names, imprecise names and heirs of old names",
+        ))
+}
+
+pub(crate) fn differ<'a>(alloc: Global) -> Result<Command<'a>, AllocError>
+    ensures { IfOk result (IsCommand (codes "diff") table.differ_options) }
+{
+    Command::new(alloc, "diff")
+        .about("Tells what a newer list added, removed, deprecated and changed")
+        .arg(file(
+            alloc,
+            "OLD",
+            "The older list: a file of this program, or a folder with SPDX's own two",
+        ))?
+        .arg(optional_file(alloc, "NEW", NEWER_HELP))
+}
+
+pub(crate) fn lax<'a>(alloc: Global) -> Arg<'a>
+    ensures { rule_of result ≡ table.lax }
+{
     flag(
         alloc,
         "lax",
@@ -218,104 +306,62 @@ fn lax<'a>(alloc: Global) -> Arg<'a> {
     )
 }
 
-fn list<'a>(alloc: Global) -> Result<Command<'a>, AllocError> {
-    let names = Arg::new(alloc, "NAME")
-        .action(ArgAction::Append)
-        .num_args(0..)
-        .help(
-            "License and exception names; the list's version and all of them where there is none",
-        );
-    let show = Command::new(alloc, "show")
-        .about("Shows what the list says of names")
-        .arg(list_file(alloc))?
-        .arg(names)?;
-    let extras = Arg::new(alloc, "extras")
-        .long("extras")
-        .value_name("FILE")
-        .help("Copyleft names, imprecise names and heirs of old names");
-    let make = Command::new(alloc, "make")
-        .about("Writes a list from SPDX's own two files")
-        .arg(file(alloc, "LICENSES", "SPDX's licenses.json"))?
-        .arg(file(alloc, "EXCEPTIONS", "SPDX's exceptions.json"))?
-        .arg(extras)?;
-    let diff = Command::new(alloc, "diff")
-        .about("Tells what a newer list added, removed, deprecated and changed")
-        .arg(file(
-            alloc,
-            "OLD",
-            "The older list: a file of this program, or a folder with SPDX's own two",
-        ))?
-        .arg(Arg::new(alloc, "NEW").help(NEWER_HELP))?;
-    Command::new(alloc, "list")
-        .about("Shows, makes or compares lists of licenses")
-        .subcommand_required(true)
-        .arg_required_else_help(true)
-        .after_help(LIST_EXAMPLE)
-        .subcommand(show)?
-        .subcommand(make)?
-        .subcommand(diff)
+pub(crate) fn quiet<'a>(alloc: Global) -> Arg<'a>
+    ensures { rule_of result ≡ table.quiet }
+{
+    let quiet = flag(alloc, "quiet", "Writes nothing; the status tells");
+    lettered(quiet, 'q')
 }
 
-pub(crate) fn flag<'a>(alloc: Global, name: &'a str, help: &'a str) -> Arg<'a> {
-    Arg::new(alloc, name)
-        .long(name)
-        .action(ArgAction::SetTrue)
-        .help(help)
-}
-
-fn headers<'a>(alloc: Global) -> Result<Arg<'a>, AllocError> {
+fn headers<'a>(alloc: Global) -> Arg<'a>
+    ensures { rule_of result ≡ table.headers }
+{
     flag(
         alloc,
         "headers",
         "Takes the SPDX-License-Identifier tags of the files and folders alone",
     )
-    .conflicts_with("manifests")?
-    .conflicts_with("as")
 }
 
-fn manifests<'a>(alloc: Global) -> Result<Arg<'a>, AllocError> {
+fn manifests<'a>(alloc: Global) -> Arg<'a>
+    ensures { rule_of result ≡ table.manifests }
+{
     flag(
         alloc,
         "manifests",
         "Takes the manifests among the files and folders alone, by their names",
     )
-    .conflicts_with("as")
 }
 
-fn form_name<'a>(alloc: Global) -> Result<Arg<'a>, AllocError> {
-    Ok(
-        Arg::new(alloc, "as")
-            .long("as")
-            .value_name("FORM")
-            .value_parser(FORMS.as_slice())
-            .help("Takes the files as manifests of this form, whatever their names are"),
+fn form<'a>(alloc: Global) -> Arg<'a>
+    ensures { (forms : table.These table.manifest_forms)
+        × (rule_of result ≡ table.form forms.0) }
+{
+    choice(
+        alloc,
+        "as",
+        FORMS.as_slice(),
+        "Takes the files as manifests of this form, whatever their names are",
     )
 }
 
-fn texts_folder<'a>(alloc: Global) -> Arg<'a> {
-    Arg::new(alloc, "texts")
-        .long("texts")
-        .value_name("DIR")
-        .help("Where the license texts are that the folders owe; LICENSES in each that has it")
+pub(crate) fn list_file<'a>(alloc: Global) -> Arg<'a>
+    ensures { rule_of result ≡ table.list_option }
+{
+    option(
+        alloc,
+        "list",
+        "FILE|DIR",
+        "The list to read by: a file of this program, or a folder with SPDX's own two",
+    )
 }
 
-pub(crate) fn list_file<'a>(alloc: Global) -> Arg<'a> {
-    Arg::new(alloc, "list")
-        .long("list")
-        .value_name("FILE|DIR")
-        .help("The list to read by: a file of this program, or a folder with SPDX's own two")
-}
-
-pub(crate) fn paths<'a>(alloc: Global) -> Arg<'a> {
-    Arg::new(alloc, "PATH")
-        .action(ArgAction::Append)
-        .num_args(0..)
-        .help("The files that are read; `-` or none is standard input")
-}
-
-pub(crate) fn file<'a>(alloc: Global, name: &'a str, help: &'a str) -> Arg<'a> {
-    Arg::new(alloc, name)
-        .required(true)
-        .action(ArgAction::Set)
-        .help(help)
+pub(crate) fn paths<'a>(alloc: Global) -> Arg<'a>
+    ensures { rule_of result ≡ table.paths }
+{
+    words(
+        alloc,
+        "PATH",
+        "The files that are read; `-` or none is standard input",
+    )
 }

@@ -9,10 +9,18 @@
 #![tactic(auto)]
 
 mod command;
+mod entered;
+mod expression_words;
+mod list_words;
+mod options;
 mod packages_command;
 pub mod packages_request;
+mod packages_requests;
 mod packages_words;
 pub mod request;
+mod requests;
+mod unfit;
+mod values;
 mod words;
 
 pub use crate::packages_request::{

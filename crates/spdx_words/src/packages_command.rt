@@ -1,7 +1,14 @@
 // The commands over packages.
 
-use crate::command::{file, flag, list_file, paths};
-use clap::{Arg, ArgAction, Command};
+ghost use Rattle.std.specs.Prelude.{◌≡◌, ◌++◌, IfOk, codes, List};
+ghost use Rattle.clap.specs.Walk.{Rule, Text, rule_of};
+ghost use Rattle.spdx_words.specs.Options.{IsCommand};
+ghost use Rattle.spdx_words.specs.Options as rule;
+ghost use Rattle.spdx_words.specs.Commands as table;
+
+use crate::command::{lax, list_file, paths, quiet};
+use crate::options::{choice, file, flag, option, wanted, with_value};
+use clap::{Arg, Command};
 use std::alloc::{AllocError, Global};
 
 const GATE_EXAMPLE: &str = "Example:
@@ -24,40 +31,66 @@ const DIFF_EXAMPLE: &str = "Example:
 Status: 0 the changes are told, 1 the policy refuses a package that came or changed, 2 wrong words, list, policy or file,
 3 a write or memory failed.";
 
+static GATE_FORMATS: [&str; 6] = ["human", "short", "json", "github", "sarif", "html"];
+
+static PAGE_FORMATS: [&str; 4] = ["text", "markdown", "html", "json"];
+
+static CHANGE_FORMATS: [&str; 3] = ["text", "json", "markdown"];
+
+static SOURCE_FORMS: [&str; 15] = [
+    "auto",
+    "lines",
+    "tsv",
+    "csv",
+    "verdicts",
+    "cargo",
+    "npm",
+    "composer",
+    "pip",
+    "cyclonedx",
+    "spdx",
+    "spdx-3",
+    "license-checker",
+    "pnpm",
+    "metadata",
+];
+
 /// The command `gate`.
-pub(crate) fn gate<'a>(alloc: Global) -> Result<Command<'a>, AllocError> {
+pub(crate) fn gate<'a>(alloc: Global) -> Result<Command<'a>, AllocError>
+    ensures { IfOk result (λ c. (formats : table.These table.gate_formats)
+        × (forms : table.These table.source_forms)
+        × IsCommand (codes "gate") (table.gate_options formats.0 forms.0) c) }
+{
     let policy = option(
         alloc,
         "policy",
         "FILE",
         "What is allowed and what is denied",
-    )
-    .required(true);
-    let format = Arg::new(alloc, "format")
-        .long("format")
-        .value_name("FORM")
-        .value_parser(["human", "short", "json", "github", "sarif", "html"].as_slice())
-        .default_value("human")
-        .help("How verdicts are written");
-    let explain = option(
+    );
+    let format = choice(
         alloc,
-        "explain",
-        "PACKAGE",
-        "Shows each part of the package's expression, and the entry that decided it",
+        "format",
+        GATE_FORMATS.as_slice(),
+        "How verdicts are written",
     );
     let gate = Command::new(alloc, "gate")
         .about("Tells which packages a policy refuses, why, and what would help")
         .after_help(GATE_EXAMPLE)
-        .arg(policy)?
-        .arg(format)?
+        .arg(wanted(policy))?
+        .arg(with_value(format, "human"))?
         .arg(option(
             alloc,
             "baseline",
             "FILE",
             "Packages of before, or an earlier --format json: fails only on what is not refused there",
         ))?
-        .arg(explain)?
-        .arg(flag(alloc, "quiet", "Writes nothing; the status tells").short('q'))?
+        .arg(option(
+            alloc,
+            "explain",
+            "PACKAGE",
+            "Shows each part of the package's expression, and the entry that decided it",
+        ))?
+        .arg(quiet(alloc))?
         .arg(flag(
             alloc,
             "allow-empty",
@@ -74,39 +107,46 @@ pub(crate) fn gate<'a>(alloc: Global) -> Result<Command<'a>, AllocError> {
 }
 
 /// The command `notice`.
-pub(crate) fn notice<'a>(alloc: Global) -> Result<Command<'a>, AllocError> {
+pub(crate) fn notice<'a>(alloc: Global) -> Result<Command<'a>, AllocError>
+    ensures { IfOk result (λ c. (formats : table.These table.page_formats)
+        × (forms : table.These table.source_forms)
+        × IsCommand (codes "notice") (table.notice_options formats.0 forms.0) c) }
+{
     let accept = option(
         alloc,
         "accept",
         "LIST",
         "The licenses that are accepted, with commas between them; the first is liked best",
     );
-    let policy = option(
-        alloc,
-        "policy",
-        "FILE",
-        "A policy that says what is allowed",
-    );
-    let format = Arg::new(alloc, "format")
-        .long("format")
-        .value_name("FORM")
-        .value_parser(["text", "markdown", "html", "json"].as_slice())
-        .default_value("text")
-        .help("How the page is written");
     let notice = Command::new(alloc, "notice")
         .about("Writes the page with each package under its licenses, and their texts")
         .after_help(NOTICE_EXAMPLE)
-        .arg(accept.conflicts_with("policy")?)?
-        .arg(policy)?
+        .arg(accept)?
+        .arg(option(
+            alloc,
+            "policy",
+            "FILE",
+            "A policy that says what is allowed",
+        ))?;
+    page(alloc, page_texts(alloc, notice)?)
+}
+
+// Adds the options that say which texts stand on the page.
+fn page_texts<'a>(alloc: Global, notice: Command<'a>) -> Result<Command<'a>, AllocError>
+    ensures { IfOk result (λ c. (options : List Rule) → IsCommand (codes "notice") options notice.entry →
+        IsCommand (codes "notice") (options ++ table.page_texts) c) }
+{
+    let without_texts = flag(alloc, "without-texts", "Leaves the texts out");
+    notice
         .arg(option(
             alloc,
             "texts",
             "DIR",
             "The folder with the texts, as MIT.txt",
         ))?
-        .arg(flag(alloc, "without-texts", "Leaves the texts out").conflicts_with("texts")?)?
-        .arg(own_texts_folder(alloc)?)?
-        .arg(installed(alloc)?)?
+        .arg(without_texts)?
+        .arg(own_texts_folder(alloc))?
+        .arg(installed(alloc))?
         .arg(flag(
             alloc,
             "strict",
@@ -116,64 +156,91 @@ pub(crate) fn notice<'a>(alloc: Global) -> Result<Command<'a>, AllocError> {
             alloc,
             "follow",
             "Follows links that lead out of the folder of the texts, or of a package in that of the sources",
-        ))?
+        ))
+}
+
+// Adds what else a page is made by.
+fn page<'a>(alloc: Global, notice: Command<'a>) -> Result<Command<'a>, AllocError>
+    ensures { IfOk result (λ c. (formats : table.These table.page_formats)
+        × (forms : table.These table.source_forms)
+        × ((options : List Rule) → IsCommand (codes "notice") options notice.entry →
+        IsCommand (codes "notice") (options ++ table.page formats.0 forms.0) c)) }
+{
+    let format = choice(
+        alloc,
+        "format",
+        PAGE_FORMATS.as_slice(),
+        "How the page is written",
+    );
+    let notice = notice
         .arg(flag(
             alloc,
             "plain",
             "Writes nothing of the texts that a terminal would obey",
         ))?
-        .arg(flag(
-            alloc,
-            "lax",
-            "With --accept: reads names in any case, imprecise names and `/` for OR too",
-        ))?
+        .arg(accept_lax(alloc))?
         .arg(flag(
             alloc,
             "one-for-all",
             "Makes one choice for all packages together",
         ))?
-        .arg(format)?;
+        .arg(with_value(format, "text"))?;
     sources(alloc, notice)?
         .arg(list_file(alloc))?
         .arg(paths(alloc))
 }
 
+fn accept_lax<'a>(alloc: Global) -> Arg<'a>
+    ensures { rule_of result ≡ table.lax }
+{
+    flag(
+        alloc,
+        "lax",
+        "With --accept: reads names in any case, imprecise names and `/` for OR too",
+    )
+}
+
 // The folder whose packages have texts of their own.
-fn own_texts_folder<'a>(alloc: Global) -> Result<Arg<'a>, AllocError> {
+fn own_texts_folder<'a>(alloc: Global) -> Arg<'a>
+    ensures { rule_of result ≡ rule.option (codes "sources") }
+{
     option(
         alloc,
         "sources",
         "DIR",
         "The folder with the packages, as serde-1.0.219, whose own texts are taken",
     )
-    .conflicts_with("without-texts")
 }
 
 // That packages have texts of their own where they are installed.
-fn installed<'a>(alloc: Global) -> Result<Arg<'a>, AllocError> {
+fn installed<'a>(alloc: Global) -> Arg<'a>
+    ensures { rule_of result ≡ rule.flag (codes "installed") }
+{
     flag(
         alloc,
         "installed",
         "Takes each package's own texts from where the list says that it is installed",
     )
-    .conflicts_with("without-texts")?
-    .conflicts_with("sources")
 }
 
 /// The command `diff`.
-pub(crate) fn diff<'a>(alloc: Global) -> Result<Command<'a>, AllocError> {
-    let format = Arg::new(alloc, "format")
-        .long("format")
-        .value_name("FORM")
-        .value_parser(["text", "json", "markdown"].as_slice())
-        .default_value("text")
-        .help("How changes are written");
+pub(crate) fn diff<'a>(alloc: Global) -> Result<Command<'a>, AllocError>
+    ensures { IfOk result (λ c. (formats : table.These table.change_formats)
+        × (forms : table.These table.source_forms)
+        × IsCommand (codes "diff") (table.diff_options formats.0 forms.0) c) }
+{
+    let format = choice(
+        alloc,
+        "format",
+        CHANGE_FORMATS.as_slice(),
+        "How changes are written",
+    );
     let diff = Command::new(alloc, "diff")
         .about(
             "Tells which packages came and went between two files, and whose license changed, and how",
         )
         .after_help(DIFF_EXAMPLE)
-        .arg(format)?
+        .arg(with_value(format, "text"))?
         .arg(option(
             alloc,
             "policy",
@@ -196,35 +263,17 @@ pub(crate) fn diff<'a>(alloc: Global) -> Result<Command<'a>, AllocError> {
         .arg(file(alloc, "NEW", "The newer file"))
 }
 
-/// Adds the arguments that say what the files are.
-pub(crate) fn sources<'a>(alloc: Global, command: Command<'a>) -> Result<Command<'a>, AllocError> {
-    let from = Arg::new(alloc, "from")
-        .long("from")
-        .value_name("FORM")
-        .value_parser([
-            "auto",
-            "lines",
-            "tsv",
-            "csv",
-            "verdicts",
-            "cargo",
-            "npm",
-            "composer",
-            "pip",
-            "cyclonedx",
-            "spdx",
-            "spdx-3",
-            "license-checker",
-            "pnpm",
-            "metadata",
-        ]
-        .as_slice())
-        .help("What the files are: where nothing is said, what their shape tells");
-    let each = option(
+// Adds the options that say what the files are.
+fn sources<'a>(alloc: Global, command: Command<'a>) -> Result<Command<'a>, AllocError>
+    ensures { IfOk result (λ c. (forms : table.These table.source_forms)
+        × ((name : Text) → (options : List Rule) → IsCommand name options command.entry →
+        IsCommand name (options ++ table.sources forms.0) c)) }
+{
+    let from = choice(
         alloc,
-        "each",
-        "POINTER",
-        "Any JSON: where its list of packages is, as /packages",
+        "from",
+        SOURCE_FORMS.as_slice(),
+        "What the files are: where nothing is said, what their shape tells",
     );
     command
         .arg(flag(
@@ -232,13 +281,18 @@ pub(crate) fn sources<'a>(alloc: Global, command: Command<'a>) -> Result<Command
             "exclude-own",
             "Leaves out the packages of one's own project, as members of a workspace",
         ))?
-        .arg(from.conflicts_with("each")?)?
+        .arg(from)?
         .arg(flag(
             alloc,
             "header",
             "With csv and tsv: the first row names the columns",
         ))?
-        .arg(each)?
+        .arg(option(
+            alloc,
+            "each",
+            "POINTER",
+            "Any JSON: where its list of packages is, as /packages",
+        ))?
         .arg(option(
             alloc,
             "name",
@@ -257,12 +311,4 @@ pub(crate) fn sources<'a>(alloc: Global, command: Command<'a>) -> Result<Command
             "POINTER",
             "With --each: its license; /license where nothing is said",
         ))
-}
-
-fn option<'a>(alloc: Global, name: &'a str, value: &'a str, help: &'a str) -> Arg<'a> {
-    Arg::new(alloc, name)
-        .long(name)
-        .value_name(value)
-        .action(ArgAction::Set)
-        .help(help)
 }

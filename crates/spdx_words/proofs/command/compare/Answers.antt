@@ -1,0 +1,13 @@
+use Rattle.std.proofs.Common.{codes, refl}
+use Rattle.std.proofs.lemmas.Result.{IfOk-weaker}
+use Rattle.spdx_words.proofs.Building.{about, added, after_help, begun}
+use Rattle.spdx_words.proofs.command.compare.Goals as goal
+
+pub returns : goal.returns
+returns c =
+    let start = begun (codes "compare") c.new.result c.new.ensures.app c.new.ensures.local in
+    let told = after_help c.about.result c.after_help.result (about c.new.result c.about.result start c.about.ensures) c.after_help.ensures in
+    let lax = added _ _ told c.in_ok-arg.ensures c.lax.ensures refl in
+    let list = added _ _ lax c.in_ok-arg-2.ensures c.list_file.ensures refl in
+    let one = added _ _ list c.in_ok-arg-3.ensures c.file.ensures refl in
+    IfOk-weaker c.arg-4.result _ _ (λ r adds. added _ r one adds c.file-2.ensures refl) c.arg-4.ensures
