@@ -1,9 +1,8 @@
 -- Each command's end is that of the call that it makes.
-use Rattle.std.proofs.Common.{◌≡◌, ◌∙◌, ap, refl, sym, subst, ℕ, Bool, true, false, List, [], Option, Result, Ok, Err}
-use Rattle.std.specs.Prelude.{IfErr, IfOk, OnOk}
+use Rattle.std.proofs.Common.{◌≡◌, refl, sym, subst, ℕ, Bool, true, false, List, Option, Result, Ok, Err}
+use Rattle.std.specs.Prelude.{IfErr, IfOk}
 use Rattle.changes_program.specs.Run as changes
-use Rattle.check_files.proofs.Doing.{hears_nil}
-use Rattle.check_files.specs.Told.{Does, Hears, Writes}
+use Rattle.check_files.specs.Told.{Does, Writes}
 use Rattle.check_files.specs.declared.trouble.CheckTrouble.{CheckTrouble}
 use Rattle.check_program.specs.Runs as check
 use Rattle.check_program.specs.declared.run.CheckEnd.{CheckEnd}
@@ -46,7 +45,7 @@ use Rattle.spdx_words.specs.declared.request.ShowRequest.{ShowRequest}
 use Rattle.spdx_words.specs.declared.request.SimplifyRequest.{SimplifyRequest}
 use Rattle.spdx_program.specs.Asked.{IsAskedOf, IsShowAsked, changes_of, check_of, compare_of, fix_of, gate_of, lists_of, make_of, notice_of, simplify_of}
 use Rattle.spdx_program.specs.Ends.{Ends, IsChangesEnd, IsCheckEnd, IsCheckStopped, IsEnd, IsGateEnd, IsNoticeEnd, World, alone, caused, changed_end, heirs_in, list_in, noticed_end, passed, paths_in, stopped}
-use Rattle.spdx_program.specs.Requests.{DoesChanges, DoesCheck, DoesCompare, DoesFix, DoesGate, DoesLists, DoesMake, DoesNotice, DoesShow, DoesSimplify, Quietly, nowhere}
+use Rattle.spdx_program.specs.Requests.{DoesChanges, DoesCheck, DoesCompare, DoesFix, DoesGate, DoesLists, DoesMake, DoesNotice, DoesShow, DoesSimplify, IfWritten, IsFixed, Quietly, idle, nowhere}
 use Rattle.spdx_program.specs.declared.ended.Ended.{Ended}
 
 -- ---- any command
@@ -62,11 +61,6 @@ passed_end Is Stops (Ok unit) status answer was is ok err =
     subst (Ends (IsEnd (λ n. (n ≡ 0) × Is)) Stops) (sym is) (subst (λ r. Ends (IsEnd (λ n. (n ≡ 0) × Is)) Stops (alone r)) (sym was) (record { is = (refl, ok); no_totals = refl }))
 passed_end Is Stops (Err t) status answer was is ok err =
     subst (Ends (IsEnd (λ n. (n ≡ 0) × Is)) Stops) (sym is) (subst (λ r. Ends (IsEnd (λ n. (n ≡ 0) × Is)) Stops (alone r)) (sym was) err)
-
--- nothing is tried to put in the places of files
-pub none_tried : {A : Type 0} (answer : Result Ended Trouble) (tried : Option (List A)) (If : Type 0) → OnOk answer (If → Hears tried tried [])
-none_tried (Ok e) tried If = λ asked. hears_nil tried
-none_tried (Err t) tried If = tt
 
 -- ---- each command
 
@@ -97,21 +91,16 @@ check_told w colours r a out out' h h' answer asked is end =
 
 pub fix_done : (w : World) (r : FixRequest) (a : fix_asked.Request) (x y : Stand) (got : Result ℕ Trouble) (answer : Result Ended Trouble)
     → IsAskedOf r.paths.items (fix_of r) a → answer ≡ alone got
-    → IfOk got (λ status. Did x y (IsFix w.shelf (list_in w) a status)) → IfErr got (IsFixStopped w.shelf (list_in w) a x y) → DoesFix w r x y answer
+    → IfOk got (λ status. Did x y (IsFix w.shelf (list_in w) a status)) → IfErr got (IsFixStopped w.shelf (list_in w) a x y) → IsFixed w r x y answer
 fix_done w r a x y got answer asked is ok err =
     (a, asked, alone_end (λ status. Did x y (IsFix w.shelf (list_in w) a status)) (IsFixStopped w.shelf (list_in w) a x y) got answer is ok err)
 
--- it is asked to write files just where the request asks it
-writes_as : (r : FixRequest) (a : fix_asked.Request) → IsAskedOf r.paths.items (fix_of r) a → a.is_written ≡ r.write
-writes_as r a asked = ap (λ (x : fix_asked.Request). x.is_written) asked.2
+pub fix_written : (w : World) (r : FixRequest) (x y : Stand) (answer : Result Ended Trouble) → r.write ≡ true → IsFixed w r x y answer → DoesFix w r x y answer
+fix_written w r x y answer on is = subst (λ write. IfWritten write x y (λ x y. IsFixed w r x y answer)) (sym on) is
 
-pub fix_kept : {A : Type 0} (r : FixRequest) (a : fix_asked.Request) (tried tried' : Option (List A)) (got : Result ℕ Trouble) (answer : Result Ended Trouble)
-    → IsAskedOf r.paths.items (fix_of r) a → answer ≡ alone got
-    → OnOk got (a.is_written ≡ false → Hears tried tried' []) → OnOk answer (r.write ≡ false → Hears tried tried' [])
-fix_kept r a tried tried' (Ok status) answer asked is kept =
-    subst (λ x. OnOk x (r.write ≡ false → Hears tried tried' [])) (sym is) (λ off. kept (writes_as r a asked ∙ off))
-fix_kept r a tried tried' (Err t) answer asked is kept =
-    subst (λ x. OnOk x (r.write ≡ false → Hears tried tried' [])) (sym is) tt
+pub fix_idle : (w : World) (r : FixRequest) (x y : Stand) (answer : Result Ended Trouble) → r.write ≡ false → y.tried ≡ x.tried
+    → IsFixed w r (idle x) (idle y) answer → DoesFix w r x y answer
+fix_idle w r x y answer off kept is = subst (λ write. IfWritten write x y (λ x y. IsFixed w r x y answer)) (sym off) (is, kept)
 
 pub compare_done : (w : World) (r : CompareRequest) (out out' : Told) (got : Result ℕ Trouble) (answer : Result Ended Trouble) → answer ≡ alone got
     → IfOk got (λ status. Writes out out' (λ text. IsCompare w.shelf (list_in w) (compare_of r) text status))

@@ -42,11 +42,12 @@ use Rattle.spdx_troubles.specs.declared.trouble.Trouble.{Trouble}
 use Rattle.spdx_troubles.specs.declared.trouble.Trouble.TheVariants as told
 use Rattle.spdx_words.specs.declared.packages_request.GateRequest.{GateRequest}
 use Rattle.spdx_words.specs.declared.request.CheckRequest.{CheckRequest}
+use Rattle.spdx_words.specs.declared.request.FixRequest.{FixRequest}
 use Rattle.spdx_words.specs.declared.request.Request.{Request}
 use Rattle.spdx_words.specs.declared.request.Request.TheVariants as request
 use Rattle.spdx_program.specs.Asked.{changes_of, compare_of}
 use Rattle.spdx_program.specs.Ends.{IsCheckEnd, IsGateEnd, World, changed, heirs_in, list_in, noticed}
-use Rattle.spdx_program.specs.Requests.{DoesCheck, DoesGate, Performs, Quietly, Side, nowhere, stand_of}
+use Rattle.spdx_program.specs.Requests.{DoesCheck, DoesFix, DoesGate, IfWritten, IsFixed, Performs, Quietly, Side, idle, nowhere, stand_of}
 use Rattle.spdx_program.specs.declared.ended.Ended.{Ended}
 
 two_one : (a b : Bool) → (if a then 2 else (if b then 1 else 0)) < 4
@@ -195,15 +196,25 @@ gate_low_end w r colours out out' h h' e does =
     let (o, o', end) = quietly r.quiet out out' (λ o o'. IsGateEnd w does.0 o o' h h' (Ok e)) does.2 in
     gate_ends w.shelf (list_in w) (heirs_in w) does.0 o o' h h' e.status end.is
 
+-- whether files are written or not, it ends so of some stands
+if_written : (write : Bool) (x y : Stand) (Is : Stand → Stand → Type 0) → IfWritten write x y Is → (x' : Stand) × (y' : Stand) × Is x' y'
+if_written true x y Is end = (x, y, end)
+if_written false x y Is end = (idle x, idle y, end.0)
+
+fix_low : (w : World) (r : FixRequest) (x y : Stand) (e : Ended) → DoesFix w r x y (Ok e) → e.status < 4
+fix_low w r x y e does =
+    let (x', y', end) = if_written r.write x y (λ x y. IsFixed w r x y (Ok e)) does in
+    fix_ends w.shelf (list_in w) end.0 x' y' e.status end.2.is
+
 pub low : (w : World) (colours : Bool) (r : Request) (x y : Side) (answer : Result Ended Trouble) → Performs w colours r x y answer → IfOk answer (λ e. e.status < 4)
 low w colours (request.Check r) x y (Ok e) does = check_low w r colours x.output y.output x.noted y.noted e does
-low w colours (request.Fix r) x y (Ok e) does = fix_ends w.shelf (list_in w) does.0 (stand_of x) (stand_of y) e.status does.2.is
+low w colours (request.Fix r) x y (Ok e) does = fix_low w r (stand_of x) (stand_of y) e does
 low w colours (request.Gate r) x y (Ok e) does = gate_low_end w r colours x.output y.output x.heard y.heard e does
 low w colours (request.Notice r) x y (Ok e) does = notice_ends w.shelf (list_in w) (heirs_in w) does.0 x.output y.output x.heard y.heard (noticed e) does.2
-low w colours (request.Compare r) x y (Ok e) does = compare_ends w.shelf (list_in w) (compare_of r) x.output y.output e.status does.is
+low w colours (request.Compare r) x y (Ok e) does = compare_ends w.shelf (list_in w) (compare_of r) x.output y.output e.status does.0.is
 low w colours (request.Simplify r) x y (Ok e) does = simplify_ends w.shelf (list_in w) does.0 x.output y.output x.heard y.heard e.status does.2.is
 low w colours (request.Show r) x y (Ok e) does = show_ends w.shelf (list_in w) (heirs_in w) does.0 x.output y.output x.heard y.heard e.status does.2.is
-low w colours (request.Make r) x y (Ok e) does = none_low e.status does.is.0
-low w colours (request.Diff r) x y (Ok e) does = none_low e.status does.is.0
+low w colours (request.Make r) x y (Ok e) does = none_low e.status does.0.is.0
+low w colours (request.Diff r) x y (Ok e) does = none_low e.status does.0.is.0
 low w colours (request.Changes r) x y (Ok e) does = diff_ends w.shelf (list_in w) (heirs_in w) (changes_of r) x.output y.output x.heard y.heard (changed e) does
 low w colours r x y (Err t) does = tt

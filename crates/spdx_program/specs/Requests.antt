@@ -1,5 +1,5 @@
 -- What comes of a request.
-use Rattle.std.specs.Prelude.{◌≡◌, Bool, true, false, List, Option, None, Result}
+use Rattle.std.specs.Prelude.{◌≡◌, Bool, true, false, List, [], Option, None, Some, Result}
 use Rattle.check_files.specs.declared.trouble.CheckTrouble.{CheckTrouble}
 use Rattle.check_program.specs.declared.run.Request as check_asked
 use Rattle.fix_program.specs.declared.run.Request as fix_asked
@@ -66,9 +66,21 @@ DoesCheck w colours r out out' noted noted' answer =
     (a : check_asked.Request) × IsAskedOf r.paths.items (check_of r colours) a
     × Quietly r.quiet out out' (λ o o'. IsCheckEnd w a o o' noted noted' answer)
 
-abbrev pub DoesFix : World → FixRequest → Stand → Stand → Result Ended Trouble → Type 0
-DoesFix w r x y answer =
+abbrev pub IsFixed : World → FixRequest → Stand → Stand → Result Ended Trouble → Type 0
+IsFixed w r x y answer =
     (a : fix_asked.Request) × IsAskedOf r.paths.items (fix_of r) a × IsFixEnd w a x y answer
+
+-- the same, where nothing was tried to be put in the places of files
+abbrev pub idle : Stand → Stand
+idle x = stand x.output x.heard (Some [])
+
+-- where files aren't to be written, it is done without the one who could, who stays as he was
+abbrev pub IfWritten : Bool → Stand → Stand → (Stand → Stand → Type 0) → Type 0
+IfWritten true x y Is = Is x y
+IfWritten false x y Is = Is (idle x) (idle y) × (y.tried ≡ x.tried)
+
+abbrev pub DoesFix : World → FixRequest → Stand → Stand → Result Ended Trouble → Type 0
+DoesFix w r x y answer = IfWritten r.write x y (λ x y. IsFixed w r x y answer)
 
 abbrev pub DoesCompare : World → CompareRequest → Told → Told → Result Ended Trouble → Type 0
 DoesCompare w r out out' answer = IsCompareEnd w (compare_of r) out out' answer
@@ -109,6 +121,11 @@ DoesNotice w r out out' heard heard' answer =
 
 -- ---- any of them, told in colours or plainly
 
+-- nobody is told a trouble
+pub record IsSilent (x y : Side) : Type 0 where
+  pub noted : y.noted ≡ x.noted
+  pub heard : y.heard ≡ x.heard
+
 abbrev pub Performs : World → Bool → Request → Side → Side → Result Ended Trouble → Type 0
 Performs w colours (request.Check r) x y answer =
     DoesCheck w colours r x.output y.output x.noted y.noted answer
@@ -117,13 +134,16 @@ Performs w colours (request.Gate r) x y answer =
     DoesGate w colours r x.output y.output x.heard y.heard answer
 Performs w colours (request.Notice r) x y answer =
     DoesNotice w r x.output y.output x.heard y.heard answer
-Performs w colours (request.Compare r) x y answer = DoesCompare w r x.output y.output answer
+Performs w colours (request.Compare r) x y answer =
+    DoesCompare w r x.output y.output answer × IsSilent x y
 Performs w colours (request.Simplify r) x y answer =
     DoesSimplify w r x.output y.output x.heard y.heard answer
 Performs w colours (request.Show r) x y answer =
     DoesShow w r x.output y.output x.heard y.heard answer
-Performs w colours (request.Make r) x y answer = DoesMake w.shelf r x.output y.output answer
-Performs w colours (request.Diff r) x y answer = DoesLists w r x.output y.output answer
+Performs w colours (request.Make r) x y answer =
+    DoesMake w.shelf r x.output y.output answer × IsSilent x y
+Performs w colours (request.Diff r) x y answer =
+    DoesLists w r x.output y.output answer × IsSilent x y
 Performs w colours (request.Changes r) x y answer =
     DoesChanges w r x.output y.output x.heard y.heard answer
 

@@ -1,7 +1,6 @@
 // What is asked for, done.
 
-ghost use Rattle.std.specs.Prelude.{◌≡◌, ◌<◌, [], IfOk, OnOk, false};
-ghost use Rattle.check_files.specs.Told.{Hears};
+ghost use Rattle.std.specs.Prelude.{◌≡◌, ◌<◌, IfOk, false};
 ghost use Rattle.spdx_program.specs.Ends.{world};
 ghost use Rattle.spdx_program.specs.Requests.{IsPerformed, side, writes_files};
 
@@ -28,7 +27,7 @@ use std::alloc::Global;
 /// Does what the request asks for: what is told goes to `output`, in colours where these are wanted and the form has some;
 /// troubles go to `teller`, and bytes that are to take the places of files to `replacer`. The status is 0 where nothing was
 /// refused, 1 where something was, 2 where a file can't be used or a read breaks off, 3 where it can't be told why. Unless
-/// files are to be written, none is replaced.
+/// files are to be written, none is replaced, whatever comes of it.
 ///
 /// # Errors
 ///
@@ -48,8 +47,8 @@ pub fn perform<S: OpenShelf, R: Replacing, O: Sink, T: Telling + Follower>(
         (side (O.told output.new) (T.told teller.new) (T.heard teller.new) (R.tried replacer.new))
         result }
     ensures low { IfOk result (λ ended. ended.status < 4) }
-    ensures kept { OnOk result (writes_files request.now ≡ false →
-        Hears (R.tried replacer.old) (R.tried replacer.new) []) }
+    ensures kept { writes_files request.now ≡ false →
+        R.tried replacer.new ≡ R.tried replacer.old }
 {
     match request {
         Request::Check(r) => check(alloc, shelf, inside, r, colours, output, teller),

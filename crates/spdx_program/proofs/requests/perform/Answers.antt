@@ -1,5 +1,5 @@
 use Rattle.spdx_program.proofs.Statuses.{low}
-use Rattle.spdx_program.proofs.Ending.{none_tried}
+use Rattle.std.proofs.Common.{refl}
 use Rattle.spdx_program.proofs.requests.perform.Goals as goal
 
 pub returns-in-Check-clause-does : goal.returns-in-Check-clause-does
@@ -9,7 +9,7 @@ pub returns-in-Check-clause-low : goal.returns-in-Check-clause-low
 returns-in-Check-clause-low g c = low _ _ _ _ _ _ ((returns-in-Check-clause-does g c).performs)
 
 pub returns-in-Check-clause-kept : goal.returns-in-Check-clause-kept
-returns-in-Check-clause-kept g c = none_tried c.check.result (g.R.Replacing.tried c.args.replacer.now) _
+returns-in-Check-clause-kept g c = λ _. refl
 
 pub returns-in-Fix-clause-does : goal.returns-in-Fix-clause-does
 returns-in-Fix-clause-does g c = record { performs = rw c.in-Fix.is c.fix.ensures.does }
@@ -27,7 +27,7 @@ pub returns-in-Gate-clause-low : goal.returns-in-Gate-clause-low
 returns-in-Gate-clause-low g c = low _ _ _ _ _ _ ((returns-in-Gate-clause-does g c).performs)
 
 pub returns-in-Gate-clause-kept : goal.returns-in-Gate-clause-kept
-returns-in-Gate-clause-kept g c = none_tried c.gate.result (g.R.Replacing.tried c.args.replacer.now) _
+returns-in-Gate-clause-kept g c = λ _. refl
 
 pub returns-in-Notice-clause-does : goal.returns-in-Notice-clause-does
 returns-in-Notice-clause-does g c = record { performs = rw c.in-Notice.is c.notice.ensures }
@@ -36,16 +36,18 @@ pub returns-in-Notice-clause-low : goal.returns-in-Notice-clause-low
 returns-in-Notice-clause-low g c = low _ _ _ _ _ _ ((returns-in-Notice-clause-does g c).performs)
 
 pub returns-in-Notice-clause-kept : goal.returns-in-Notice-clause-kept
-returns-in-Notice-clause-kept g c = none_tried c.notice.result (g.R.Replacing.tried c.args.replacer.now) _
+returns-in-Notice-clause-kept g c = λ _. refl
 
 pub returns-in-Compare-clause-does : goal.returns-in-Compare-clause-does
-returns-in-Compare-clause-does g c = record { performs = rw c.in-Compare.is c.compare.ensures }
+returns-in-Compare-clause-does g c = record {
+  performs = rw c.in-Compare.is (c.compare.ensures, record { noted = refl; heard = refl });
+}
 
 pub returns-in-Compare-clause-low : goal.returns-in-Compare-clause-low
 returns-in-Compare-clause-low g c = low _ _ _ _ _ _ ((returns-in-Compare-clause-does g c).performs)
 
 pub returns-in-Compare-clause-kept : goal.returns-in-Compare-clause-kept
-returns-in-Compare-clause-kept g c = none_tried c.compare.result (g.R.Replacing.tried c.args.replacer.now) _
+returns-in-Compare-clause-kept g c = λ _. refl
 
 pub returns-in-Simplify-clause-does : goal.returns-in-Simplify-clause-does
 returns-in-Simplify-clause-does g c = record { performs = rw c.in-Simplify.is c.simplify.ensures }
@@ -54,7 +56,7 @@ pub returns-in-Simplify-clause-low : goal.returns-in-Simplify-clause-low
 returns-in-Simplify-clause-low g c = low _ _ _ _ _ _ ((returns-in-Simplify-clause-does g c).performs)
 
 pub returns-in-Simplify-clause-kept : goal.returns-in-Simplify-clause-kept
-returns-in-Simplify-clause-kept g c = none_tried c.simplify.result (g.R.Replacing.tried c.args.replacer.now) _
+returns-in-Simplify-clause-kept g c = λ _. refl
 
 pub returns-in-Show-clause-does : goal.returns-in-Show-clause-does
 returns-in-Show-clause-does g c = record { performs = rw c.in-Show.is c.show.ensures }
@@ -63,25 +65,29 @@ pub returns-in-Show-clause-low : goal.returns-in-Show-clause-low
 returns-in-Show-clause-low g c = low _ _ _ _ _ _ ((returns-in-Show-clause-does g c).performs)
 
 pub returns-in-Show-clause-kept : goal.returns-in-Show-clause-kept
-returns-in-Show-clause-kept g c = none_tried c.show.result (g.R.Replacing.tried c.args.replacer.now) _
+returns-in-Show-clause-kept g c = λ _. refl
 
 pub returns-in-Make-clause-does : goal.returns-in-Make-clause-does
-returns-in-Make-clause-does g c = record { performs = rw c.in-Make.is c.make.ensures }
+returns-in-Make-clause-does g c = record {
+  performs = rw c.in-Make.is (c.make.ensures, record { noted = refl; heard = refl });
+}
 
 pub returns-in-Make-clause-low : goal.returns-in-Make-clause-low
 returns-in-Make-clause-low g c = low _ _ _ _ _ _ ((returns-in-Make-clause-does g c).performs)
 
 pub returns-in-Make-clause-kept : goal.returns-in-Make-clause-kept
-returns-in-Make-clause-kept g c = none_tried c.make.result (g.R.Replacing.tried c.args.replacer.now) _
+returns-in-Make-clause-kept g c = λ _. refl
 
 pub returns-in-Diff-clause-does : goal.returns-in-Diff-clause-does
-returns-in-Diff-clause-does g c = record { performs = rw c.in-Diff.is c.diff.ensures }
+returns-in-Diff-clause-does g c = record {
+  performs = rw c.in-Diff.is (c.diff.ensures, record { noted = refl; heard = refl });
+}
 
 pub returns-in-Diff-clause-low : goal.returns-in-Diff-clause-low
 returns-in-Diff-clause-low g c = low _ _ _ _ _ _ ((returns-in-Diff-clause-does g c).performs)
 
 pub returns-in-Diff-clause-kept : goal.returns-in-Diff-clause-kept
-returns-in-Diff-clause-kept g c = none_tried c.diff.result (g.R.Replacing.tried c.args.replacer.now) _
+returns-in-Diff-clause-kept g c = λ _. refl
 
 pub returns-in-Changes-clause-does : goal.returns-in-Changes-clause-does
 returns-in-Changes-clause-does g c = record { performs = rw c.in-Changes.is c.changes.ensures }
@@ -90,4 +96,4 @@ pub returns-in-Changes-clause-low : goal.returns-in-Changes-clause-low
 returns-in-Changes-clause-low g c = low _ _ _ _ _ _ ((returns-in-Changes-clause-does g c).performs)
 
 pub returns-in-Changes-clause-kept : goal.returns-in-Changes-clause-kept
-returns-in-Changes-clause-kept g c = none_tried c.changes.result (g.R.Replacing.tried c.args.replacer.now) _
+returns-in-Changes-clause-kept g c = λ _. refl
