@@ -62,20 +62,31 @@ ends_comment bytes =
     || starts_with nat_eq bytes (codes "]]")
     || starts_with nat_eq bytes (codes "?>")
 
--- the same: of JSP, Lisp, PowerShell, Matlab or Julia
+-- the same, in a frame of stars, as LLVM's; of Razor or Velocity
+unfoldable pub ends_starred_comment : List ℕ → Bool
+ends_starred_comment bytes =
+    starts_with nat_eq bytes (codes "**/")
+    || starts_with nat_eq bytes (codes "*|")
+    || starts_with nat_eq bytes (codes "*@")
+    || starts_with nat_eq bytes (codes "*#")
+
+-- the same: of JSP, ERB, Handlebars, Lisp, PowerShell, Matlab, Julia or Nim
 unfoldable pub ends_script_comment : List ℕ → Bool
 ends_script_comment bytes =
     starts_with nat_eq bytes (codes "--%>")
+    || starts_with nat_eq bytes (codes "%>")
+    || starts_with nat_eq bytes (codes "--}}")
     || starts_with nat_eq bytes (codes "|#")
     || starts_with nat_eq bytes (codes "#>")
     || starts_with nat_eq bytes (codes "%}")
     || starts_with nat_eq bytes (codes "=#")
+    || starts_with nat_eq bytes (codes "]#")
 
 -- these bytes begin with what no expression goes on with in this kind of file
 abbrev pub closes : Comment → List ℕ → Bool
 closes comment bytes =
-    ends_text bytes || ends_comment bytes || ends_script_comment bytes ||
-    begins_comment comment bytes
+    ends_text bytes || ends_comment bytes || ends_starred_comment bytes ||
+    ends_script_comment bytes || begins_comment comment bytes
 
 -- how many bytes stand before the first closing
 abbrev pub closing_place : Comment → List ℕ → ℕ

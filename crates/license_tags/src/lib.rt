@@ -26,6 +26,7 @@ ghost use Rattle.license_tags.specs.Tags.{
   opening_len,
   ends_text,
   ends_comment,
+  ends_starred_comment,
   ends_script_comment,
   closes,
   closing_place,
@@ -143,15 +144,28 @@ fn ends_comment(bytes: &[u8]) -> bool
         || bytes.starts_with(b"?>")
 }
 
+#[tactic(auto, unfolding(crate::specs::Tags::ends_starred_comment))]
+fn ends_starred_comment(bytes: &[u8]) -> bool
+    ensures { result ≡ ends_starred_comment bytes.now }
+{
+    bytes.starts_with(b"**/")
+        || bytes.starts_with(b"*|")
+        || bytes.starts_with(b"*@")
+        || bytes.starts_with(b"*#")
+}
+
 #[tactic(auto, unfolding(crate::specs::Tags::ends_script_comment))]
 fn ends_script_comment(bytes: &[u8]) -> bool
     ensures { result ≡ ends_script_comment bytes.now }
 {
     bytes.starts_with(b"--%>")
+        || bytes.starts_with(b"%>")
+        || bytes.starts_with(b"--}}")
         || bytes.starts_with(b"|#")
         || bytes.starts_with(b"#>")
         || bytes.starts_with(b"%}")
         || bytes.starts_with(b"=#")
+        || bytes.starts_with(b"]#")
 }
 
 fn closes(comment: Comment, bytes: &[u8]) -> bool
@@ -159,6 +173,7 @@ fn closes(comment: Comment, bytes: &[u8]) -> bool
 {
     ends_text(bytes)
         || ends_comment(bytes)
+        || ends_starred_comment(bytes)
         || ends_script_comment(bytes)
         || begins_comment(comment, bytes)
 }
