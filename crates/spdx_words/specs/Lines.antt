@@ -18,7 +18,7 @@ use Rattle.spdx_words.specs.Options.{command, given}
 use Rattle.spdx_words.specs.Said.{AreLists, IsChanges, IsCheck, IsCompare, IsFix, IsGate, IsMake}
 use Rattle.spdx_words.specs.Said.{IsNotice, IsShow, IsSimplify}
 use Rattle.spdx_words.specs.Unfit.{changes_unfit, check_unfit, compare_unfit, differ_unfit}
-use Rattle.spdx_words.specs.Unfit.{gate_unfit, make_unfit, notice_unfit, wanted_unfit}
+use Rattle.spdx_words.specs.Unfit.{fix_unfit, gate_unfit, make_unfit, notice_unfit}
 use Rattle.spdx_words.specs.declared.packages_request.ChangesRequest.{ChangesRequest}
 use Rattle.spdx_words.specs.declared.packages_request.GateRequest.{GateRequest}
 use Rattle.spdx_words.specs.declared.packages_request.NoticeRequest.{NoticeRequest}
@@ -52,7 +52,7 @@ check_line formats forms =
     line (codes "check") (check_options formats.0 forms.0) check_unfit
 
 abbrev pub fix_line : These manifest_forms → Line
-fix_line forms = line (codes "fix") (fix_options forms.0) wanted_unfit
+fix_line forms = line (codes "fix") (fix_options forms.0) fix_unfit
 
 abbrev pub gate_line : These gate_formats → These source_forms → Line
 gate_line formats forms = line (codes "gate") (gate_options formats.0 forms.0) gate_unfit

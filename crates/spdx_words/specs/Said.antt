@@ -138,12 +138,14 @@ gate_format name =
     if bytes_eq name (codes "html") then verdict.Html else
     verdict.Human
 
+abbrev pub gate_format_in : List Row → GateFormat
+gate_format_in rows = option_map_or gate_format (first_of (codes "format") rows) verdict.Human
+
 pub record IsGate (rows : List Row) (r : GateRequest) : Type 0 where
   pub list : text r.list ≡ first_of (codes "list") rows
   pub policy : Some r.policy.now ≡ first_of (codes "policy") rows
   pub source : IsSource rows r.source
-  pub format : r.format
-      ≡ option_map_or gate_format (first_of (codes "format") rows) verdict.Human
+  pub format : r.format ≡ gate_format_in rows
   pub baseline : text r.baseline ≡ first_of (codes "baseline") rows
   pub explain : text r.explain ≡ first_of (codes "explain") rows
   pub quiet : r.quiet ≡ has rows (codes "quiet")

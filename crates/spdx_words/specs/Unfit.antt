@@ -3,7 +3,9 @@
 use Rattle.clap.specs.Walk.{Row}
 use Rattle.std.specs.Prelude.{Bool, true, false, not, ◌&&◌, ◌||◌, List, Option, Some, codes}
 use Rattle.spdx_words.specs.Options.{has, says}
-use Rattle.spdx_words.specs.Said.{form_in}
+use Rattle.spdx_words.specs.Said.{form_in, gate_format_in}
+use Rattle.spdx_words.specs.declared.packages_request.GateFormat.{GateFormat}
+use Rattle.spdx_words.specs.declared.packages_request.GateFormat.TheVariants as verdict
 use Rattle.spdx_words.specs.declared.packages_request.SourceForm.{SourceForm}
 use Rattle.spdx_words.specs.declared.packages_request.SourceForm.TheVariants as form
 
@@ -19,6 +21,13 @@ wanted_unfit rows =
 abbrev pub check_unfit : List Row → Bool
 check_unfit rows =
     (has rows (codes "strict") && has rows (codes "lax")) || wanted_unfit rows
+
+-- links are to be broken, though no file is to be written
+abbrev pub breaks_nothing : List Row → Bool
+breaks_nothing rows = has rows (codes "break-links") && not (has rows (codes "write"))
+
+abbrev pub fix_unfit : List Row → Bool
+fix_unfit rows = wanted_unfit rows || breaks_nothing rows
 
 abbrev pub compare_unfit : List Row → Bool
 compare_unfit rows = not (says rows (codes "ONE")) || not (says rows (codes "OTHER"))
@@ -46,8 +55,19 @@ source_unfit rows =
     (says rows (codes "each") && says rows (codes "from"))
     || (not (says rows (codes "each")) && (has_pointers rows || has_no_columns rows))
 
+abbrev pub is_for_people : GateFormat → Bool
+is_for_people verdict.Human = true
+is_for_people _ = false
+
+-- a package is explained to people alone
+abbrev pub explain_unfit : List Row → Bool
+explain_unfit rows = says rows (codes "explain") && not (is_for_people (gate_format_in rows))
+
+abbrev pub judged_unfit : List Row → Bool
+judged_unfit rows = source_unfit rows || explain_unfit rows
+
 abbrev pub gate_unfit : List Row → Bool
-gate_unfit rows = source_unfit rows || not (says rows (codes "policy"))
+gate_unfit rows = judged_unfit rows || not (says rows (codes "policy"))
 
 abbrev pub files_unfit : List Row → Bool
 files_unfit rows = not (says rows (codes "OLD")) || not (says rows (codes "NEW"))

@@ -9,7 +9,7 @@ use crate::command::{check, compare, fix, simplify, with};
 use crate::entered::entered;
 use crate::request::Request;
 use crate::requests::{check_request, compare_request, fix_request, simplify_request};
-use crate::unfit::{Unfit, check_unfit, wanted_unfit};
+use crate::unfit::{Unfit, check_unfit, fix_unfit};
 use clap::Error;
 use std::alloc::Global;
 
@@ -41,7 +41,7 @@ pub(crate) fn read_fix<'w>(
         IsAnswer (map text_of words.entry.now) result }
 {
     let matches = entered(alloc, with(alloc, version, fix(alloc)?)?, words)?;
-    match wanted_unfit(&matches) {
+    match fix_unfit(&matches) {
         Some(unfit) => Err(unfit.error(fix(alloc), "spdx fix")),
         None => Ok(Request::Fix(fix_request(alloc, &matches)?)),
     }

@@ -28,10 +28,7 @@ pub(crate) fn gate_request<'w>(
         list: value(matches, "list"),
         policy,
         source: source(matches),
-        format: match value(matches, "format") {
-            Some(name) => gate_format(name),
-            None => GateFormat::Human,
-        },
+        format: gate_format_in(matches),
         baseline: value(matches, "baseline"),
         explain: value(matches, "explain"),
         quiet: has(matches, "quiet"),
@@ -40,6 +37,16 @@ pub(crate) fn gate_request<'w>(
         exclude_own: has(matches, "exclude-own"),
         paths: all(alloc, matches, "PATH")?,
     })
+}
+
+/// The form in which verdicts are told.
+pub(crate) fn gate_format_in(matches: &ArgMatches<'_>) -> GateFormat
+    ensures { result ≡ said.gate_format_in (rows_of (found_of matches.now)) }
+{
+    match value(matches, "format") {
+        Some(name) => gate_format(name),
+        None => GateFormat::Human,
+    }
 }
 
 /// What `notice` is asked for, where this is accepted.

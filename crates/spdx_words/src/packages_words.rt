@@ -10,7 +10,7 @@ use crate::entered::entered;
 use crate::packages_command::{diff, gate, notice};
 use crate::packages_requests::{accepted, changes_request, files, gate_request, notice_request};
 use crate::request::Request;
-use crate::unfit::{Unfit, notice_unfit, source_unfit};
+use crate::unfit::{Unfit, judged_unfit, notice_unfit, source_unfit};
 use crate::values::value;
 use clap::Error;
 use std::alloc::Global;
@@ -26,7 +26,7 @@ pub(crate) fn read_gate<'w>(
         IsAnswer (map text_of words.entry.now) result }
 {
     let matches = entered(alloc, with(alloc, version, gate(alloc)?)?, words)?;
-    match source_unfit(&matches) {
+    match judged_unfit(&matches) {
         Some(unfit) => Err(unfit.error(gate(alloc), "spdx gate")),
         None => match value(&matches, "policy") {
             Some(policy) => Ok(Request::Gate(gate_request(alloc, &matches, policy)?)),

@@ -7,8 +7,8 @@ ghost use Rattle.clap.specs.Walk.{rows_of};
 ghost use Rattle.clap.specs.declared.error.kind.ErrorKind.TheVariants.{OutOfMemory};
 ghost use Rattle.spdx_words.specs.Unfit as unfit;
 
-use crate::packages_request::SourceForm;
-use crate::packages_requests::form_in;
+use crate::packages_request::{GateFormat, SourceForm};
+use crate::packages_requests::{form_in, gate_format_in};
 use crate::values::{has, says};
 use clap::error::ErrorKind;
 use clap::{ArgMatches, Command, Error};
@@ -60,7 +60,7 @@ pub(crate) fn check_unfit(matches: &ArgMatches<'_>) -> Option<Unfit>
 }
 
 /// Why it isn't plain which of a file's expressions are taken.
-pub(crate) fn wanted_unfit(matches: &ArgMatches<'_>) -> Option<Unfit>
+fn wanted_unfit(matches: &ArgMatches<'_>) -> Option<Unfit>
     ensures { is_some result ≡ unfit.wanted_unfit (rows_of (found_of matches.now)) }
 {
     let headers = has(matches, "headers");
@@ -74,6 +74,19 @@ pub(crate) fn wanted_unfit(matches: &ArgMatches<'_>) -> Option<Unfit>
         Some(Unfit::Apart("the argument '--manifests' cannot be used with '--as <FORM>'"))
     } else {
         None
+    }
+}
+
+/// Why the options of `fix` don't fit together.
+pub(crate) fn fix_unfit(matches: &ArgMatches<'_>) -> Option<Unfit>
+    ensures { is_some result ≡ unfit.fix_unfit (rows_of (found_of matches.now)) }
+{
+    match wanted_unfit(matches) {
+        Some(unfit) => Some(unfit),
+        None if has(matches, "break-links") && !has(matches, "write") => {
+            Some(Unfit::Missing("--break-links goes with --write"))
+        }
+        None => None,
     }
 }
 
@@ -95,6 +108,35 @@ pub(crate) fn source_unfit(matches: &ArgMatches<'_>) -> Option<Unfit>
         Some(Unfit::Apart("--header goes with --from csv and --from tsv"))
     } else {
         None
+    }
+}
+
+/// Why packages aren't to be judged: what their files are, or for whom one is explained.
+pub(crate) fn judged_unfit(matches: &ArgMatches<'_>) -> Option<Unfit>
+    ensures { is_some result ≡ unfit.judged_unfit (rows_of (found_of matches.now)) }
+{
+    match source_unfit(matches) {
+        Some(unfit) => Some(unfit),
+        None => explain_unfit(matches),
+    }
+}
+
+fn explain_unfit(matches: &ArgMatches<'_>) -> Option<Unfit>
+    ensures { is_some result ≡ unfit.explain_unfit (rows_of (found_of matches.now)) }
+{
+    if says(matches, "explain") && !is_for_people(gate_format_in(matches)) {
+        Some(Unfit::Apart("--explain goes with --format human"))
+    } else {
+        None
+    }
+}
+
+fn is_for_people(format: GateFormat) -> bool
+    ensures { result ≡ unfit.is_for_people format }
+{
+    match format {
+        GateFormat::Human => true,
+        _ => false,
     }
 }
 

@@ -30,7 +30,7 @@ returns-in_err-matches c program behind words =
     let taken = spdx_given name options program behind in
     let e = c.in_err-matches.field-0.0 in
     passed_on ws _ e c.from_residual-in_err-matches.ensures.1
-    (refused app (program ∷ name ∷ behind) name options behind taken ws words ws (unfit.wanted_unfit (given options behind)) e (c.in_err-matches.ensures.err app (c.in_ok-with.ensures _ c.in_ok-fix.ensures.1) refl (enters app (program ∷ name ∷ behind) name options behind taken ws words))
+    (refused app (program ∷ name ∷ behind) name options behind taken ws words ws (unfit.fix_unfit (given options behind)) e (c.in_err-matches.ensures.err app (c.in_ok-with.ensures _ c.in_ok-fix.ensures.1) refl (enters app (program ∷ name ∷ behind) name options behind taken ws words))
     (λ fault. subst (λ ws. lines.IsRefused ws (kind_of e)) (sym words) (lines.fix program behind (kind_of e) forms fault)))
 
 pub returns-in-Some : goal.returns-in-Some
@@ -44,7 +44,7 @@ returns-in-Some c program behind words =
     let found = c.in_ok-matches.ensures.ok app (c.in_ok-with.ensures _ c.in_ok-fix.ensures.1) refl in
     let k = kind_of c.error.result in
     subst (λ ws. lines.IsRefused ws k) (sym words)
-    (lines.fix program behind k forms (unfit_is app (program ∷ name ∷ behind) name options behind taken ws words unfit.wanted_unfit k (rows_of (found_of c.in_ok-matches.matches)) found (sym c.in-Some.ensures)))
+    (lines.fix program behind k forms (unfit_is app (program ∷ name ∷ behind) name options behind taken ws words unfit.fix_unfit k (rows_of (found_of c.in_ok-matches.matches)) found (sym c.in-Some.ensures)))
 
 pub returns-in_err-fix_request-in-None : goal.returns-in_err-fix_request-in-None
 returns-in_err-fix_request-in-None c program behind words =
@@ -62,4 +62,4 @@ returns c program behind words =
     let none = c.in_ok-matches.ensures.taken app (c.in_ok-with.ensures _ c.in_ok-fix.ensures.1) refl in
     let r = c.in_ok-fix_request-in-None.field-0 in
     subst (λ ws. lines.IsSaid ws (request.Fix r)) (sym words)
-    (lines.fix program behind r forms (says app (program ∷ name ∷ behind) name options behind taken ws words unfit.wanted_unfit (λ rows. said.IsFix rows r) (rows_of (found_of c.in_ok-matches.matches)) found none (sym c.in-None.ensures) c.in_ok-fix_request-in-None.ensures))
+    (lines.fix program behind r forms (says app (program ∷ name ∷ behind) name options behind taken ws words unfit.fix_unfit (λ rows. said.IsFix rows r) (rows_of (found_of c.in_ok-matches.matches)) found none (sym c.in-None.ensures) c.in_ok-fix_request-in-None.ensures))

@@ -47,7 +47,7 @@ returns-in-Some c program behind words =
     let rows = (rows_of (found_of c.in_ok-matches.matches)) in
     let k = kind_of c.error.result in
     subst (λ ws. lines.IsRefused ws k) (sym words)
-    (lines.gate program behind k formats forms (unfit_is app (program ∷ name ∷ behind) name options behind taken ws words unfit.gate_unfit k rows found (or_left (unfit.source_unfit rows) (not (said_in rows (codes "policy"))) c.in-Some.ensures)))
+    (lines.gate program behind k formats forms (unfit_is app (program ∷ name ∷ behind) name options behind taken ws words unfit.gate_unfit k rows found (or_left (unfit.judged_unfit rows) (not (said_in rows (codes "policy"))) c.in-Some.ensures)))
 
 pub returns-in_err-gate_request-in-Some-value : goal.returns-in_err-gate_request-in-Some-value
 returns-in_err-gate_request-in-Some-value c program behind words =
@@ -67,7 +67,7 @@ returns-in-Some-value c program behind words =
     let rows = (rows_of (found_of c.in_ok-matches.matches)) in
     let r = c.in_ok-gate_request-in-Some-value.field-0 in
     subst (λ ws. lines.IsSaid ws (request.Gate r)) (sym words)
-    (lines.gate program behind r formats forms (says app (program ∷ name ∷ behind) name options behind taken ws words unfit.gate_unfit (λ rows. said.IsGate rows r) rows found none (neither (unfit.source_unfit rows) _ c.in-None.ensures (is_said _ _ c.in-Some-value.ensures)) (c.in_ok-gate_request-in-Some-value.ensures c.in-Some-value.ensures)))
+    (lines.gate program behind r formats forms (says app (program ∷ name ∷ behind) name options behind taken ws words unfit.gate_unfit (λ rows. said.IsGate rows r) rows found none (neither (unfit.judged_unfit rows) _ c.in-None.ensures (is_said _ _ c.in-Some-value.ensures)) (c.in_ok-gate_request-in-Some-value.ensures c.in-Some-value.ensures)))
 
 pub returns : goal.returns
 returns c program behind words =
@@ -82,4 +82,4 @@ returns c program behind words =
     let rows = (rows_of (found_of c.in_ok-matches.matches)) in
     let k = kind_of c.error-in-None-value.result in
     subst (λ ws. lines.IsRefused ws k) (sym words)
-    (lines.gate program behind k formats forms (unfit_is app (program ∷ name ∷ behind) name options behind taken ws words unfit.gate_unfit k rows found (or_right (unfit.source_unfit rows) _ (isnt_said _ c.in-None-value.ensures))))
+    (lines.gate program behind k formats forms (unfit_is app (program ∷ name ∷ behind) name options behind taken ws words unfit.gate_unfit k rows found (or_right (unfit.judged_unfit rows) _ (isnt_said _ c.in-None-value.ensures))))
