@@ -92,8 +92,19 @@ AreEach (found ∷ others) (site ∷ sites) = IsPlain found site × AreEach othe
 AreEach [] (site ∷ sites) = ⊥
 AreEach (found ∷ others) [] = ⊥
 
+-- the bytes begin with a mark that tells them to be UTF-16
+abbrev pub is_utf16 : List ℕ → Bool
+is_utf16 bytes =
+    starts_with nat_eq bytes (255 ∷ 254 ∷ []) || starts_with nat_eq bytes (254 ∷ 255 ∷ [])
+
+-- fields and elements are read of bytes in which ASCII stands as it is, and so of no UTF-16
+abbrev pub IsLegible : Form → List ℕ → Type 0
+IsLegible (Plain form) bytes = is_utf16 bytes ≡ false
+IsLegible form bytes = ⊤
+
 -- the sites are the expressions that a file of fields or elements declares, each at its place
 pub record AreSitesOfPlain (form : PlainForm) (bytes : List ℕ) (sites : List Site) : Type 0 where
+  pub legible : is_utf16 bytes ≡ false
   pub found : List PlainSite
   pub declared : ArePlainSites form bytes found
   pub each : AreEach found sites

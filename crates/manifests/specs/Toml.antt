@@ -1,5 +1,5 @@
 -- The expressions that a manifest of TOML declares.
-use Rattle.std.specs.Prelude.{ℕ, List, [], ◌∷◌, ◌++◌, codes, Option, Some, option_and_then}
+use Rattle.std.specs.Prelude.{ℕ, Bool, not, bytes_eq, filter, List, [], ◌∷◌, ◌++◌, codes, Option, Some, option_and_then}
 use Rattle.std.specs.Option.{option_to_list, option_map_or}
 use Rattle.toml.specs.Data.{Data, array, Items, no_items, item, Members, get, get_member, as_str}
 
@@ -20,11 +20,19 @@ cargo_texts document =
     text_behind (codes "package") (codes "license" ∷ []) document
     ++ text_behind (codes "workspace") (codes "package" ∷ codes "license" ∷ []) document
 
+-- the text is no word of Poetry's, which has one for a license that isn't open
+abbrev pub is_no_word_of_poetry : List ℕ → Bool
+is_no_word_of_poetry text = not (bytes_eq text (codes "Proprietary"))
+
+abbrev pub poetry_texts : Members → List (List ℕ)
+poetry_texts document =
+    filter is_no_word_of_poetry
+    (text_behind (codes "tool") (codes "poetry" ∷ codes "license" ∷ []) document)
+
 -- of pyproject.toml: the expression of the project, and Poetry's
 abbrev pub pyproject_texts : Members → List (List ℕ)
 pyproject_texts document =
-    text_behind (codes "project") (codes "license" ∷ []) document
-    ++ text_behind (codes "tool") (codes "poetry" ∷ codes "license" ∷ []) document
+    text_behind (codes "project") (codes "license" ∷ []) document ++ poetry_texts document
 
 -- the texts among the items of a list
 abbrev pub texts_among : Items → List (List ℕ)

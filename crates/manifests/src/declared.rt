@@ -1,14 +1,13 @@
 // The expressions of a manifest of any form.
 
 ghost use Rattle.std.specs.Prelude.{◌≡◌, IfErr, IfNone, IfOk, IfSome};
-ghost use Rattle.manifests.specs.Sites.{AreSites, IsError, Mends, Stays, reads_slash};
+ghost use Rattle.manifests.specs.Sites.{AreSites, IsError, IsLegible, Mends, Stays, reads_slash};
 
 use crate::form::Form;
 use crate::json_sites::{json_sites, json_with};
-use crate::plain::sites_of_fields;
+use crate::plain::{plain_sites_of, plain_with};
 use crate::site::{ManifestError, Site};
 use crate::toml_sites::{toml_sites, toml_with};
-use plain_manifests::with_plain_text;
 use std::alloc::Global;
 
 /// Whether `/` means OR in the expressions of the form, as Cargo reads it in a `Cargo.toml`.
@@ -20,13 +19,13 @@ pub fn reads_slash(form: Form) -> bool
 
 /// The expressions that the bytes declare as a manifest of the form, in the order of the document's members, each at its
 /// place: where its literal stands, with its quotes. Words that a form has for what is no expression are left out: npm's
-/// `UNLICENSED` and `SEE LICENSE IN ..`, and Composer's `proprietary`.
+/// `UNLICENSED` and `SEE LICENSE IN ..`, `proprietary` of Composer and Poetry, and those of `plain_sites`.
 ///
 /// The bytes are read twice by the form's reader. Linear in them.
 ///
 /// # Errors
 ///
-/// The bytes aren't what the form is written in, or it isn't known where one of the expressions stands, for the scan of
+/// The bytes aren't what the form is written in (a file of fields or elements is no UTF-16), or it isn't known where one of the expressions stands, for the scan of
 /// literals and the reader disagree; or memory was refused.
 pub fn sites(alloc: Global, form: Form, bytes: &[u8]) -> Result<Vec<Site>, ManifestError>
     ensures ok { IfOk result (λ sites. AreSites form bytes.now sites.items) }
@@ -34,7 +33,7 @@ pub fn sites(alloc: Global, form: Form, bytes: &[u8]) -> Result<Vec<Site>, Manif
 {
     match form {
         Form::Cargo | Form::Pyproject | Form::Reuse => toml_sites(alloc, form, bytes),
-        Form::Plain(form) => Ok(sites_of_fields(alloc, form, bytes)?),
+        Form::Plain(form) => plain_sites_of(alloc, form, bytes),
         _ => json_sites(alloc, form, bytes),
     }
 }
@@ -59,13 +58,14 @@ pub fn with_expression(
         Mends form bytes.now number new.now mended.items)) }
     ensures stays { IfOk result (λ answer. IfNone answer
         (Stays form bytes.now number new.now)) }
+    ensures legible { IfOk result (λ _. IsLegible form bytes.now) }
     ensures err { IfErr result (IsError bytes.now) }
 {
     match form {
         Form::Cargo | Form::Pyproject | Form::Reuse => {
             toml_with(alloc, form, bytes, number, new)
         }
-        Form::Plain(form) => Ok(with_plain_text(alloc, form, bytes, number, new)?),
+        Form::Plain(form) => plain_with(alloc, form, bytes, number, new),
         _ => json_with(alloc, bytes, number, new),
     }
 }

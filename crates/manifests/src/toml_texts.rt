@@ -105,6 +105,21 @@ pub(crate) fn cargo_texts<'d>(
     Ok(found)
 }
 
+// Adds Poetry's expression. The word that it has for a license which isn't open is none.
+fn push_of_poetry<'d>(
+    alloc: Global,
+    found: &mut TomlTexts<'d>,
+    document: &'d Table,
+) -> Result<(), AllocError>
+    ensures { OnOk result (map (λ t. t.now) found.new.texts.items ≡
+        map (λ t. t.now) found.old.texts.items ++ spec.poetry_texts (table_view document.now)) }
+{
+    if text_behind(document, "tool", &["poetry", "license"]) == Some("Proprietary") {
+        return Ok(());
+    }
+    push_behind(alloc, found, document, "tool", &["poetry", "license"])
+}
+
 /// What a `pyproject.toml` declares.
 pub(crate) fn pyproject_texts<'d>(
     alloc: Global,
@@ -115,7 +130,7 @@ pub(crate) fn pyproject_texts<'d>(
 {
     let mut found = nothing(alloc);
     push_behind(alloc, &mut found, document, "project", &["license"])?;
-    push_behind(alloc, &mut found, document, "tool", &["poetry", "license"])?;
+    push_of_poetry(alloc, &mut found, document)?;
     Ok(found)
 }
 

@@ -1,5 +1,5 @@
 -- How each form writes the field or element that declares a license.
-use Rattle.std.specs.Prelude.{◌≡◌, ℕ, Bool, true, false, List, [], codes, Option, Some, None}
+use Rattle.std.specs.Prelude.{◌≡◌, ℕ, Bool, true, false, ◌&&◌, ◌||◌, bytes_eq, List, [], codes, Option, Some, None}
 use Rattle.text_places.specs.declared.field_lines.Grammar.{Grammar}
 use Rattle.text_places.specs.declared.field_lines.Notation.{Notation}
 use Rattle.text_places.specs.declared.field_lines.Notation.TheVariants.{Line, Yaml, Shell, Quoted}
@@ -120,3 +120,21 @@ marks_of Mix = codes "#"
 marks_of Conda = codes "{"
 marks_of Appstream = codes "="
 marks_of form = []
+
+-- YAML's words for nothing
+abbrev pub is_null : List ℕ → Bool
+is_null text =
+    bytes_eq text (codes "~") || bytes_eq text (codes "null")
+    || bytes_eq text (codes "Null") || bytes_eq text (codes "NULL")
+
+abbrev pub is_yaml : Notation → Bool
+is_yaml Yaml = true
+is_yaml notation = false
+
+-- the form's own words for a license that no expression tells: Cabal's for none, that of RubyGems
+-- for one that SPDX doesn't list, that of snaps for one that isn't open, and YAML's for nothing
+unfoldable pub is_word_of : PlainForm → List ℕ → Bool
+is_word_of Cabal text = bytes_eq text (codes "NONE")
+is_word_of Gem text = bytes_eq text (codes "Nonstandard")
+is_word_of Snap text = bytes_eq text (codes "Proprietary") || is_null text
+is_word_of form text = is_yaml (notation_of form) && is_null text

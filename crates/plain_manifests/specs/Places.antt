@@ -1,6 +1,7 @@
 -- The texts that a file of fields or elements declares, by their places.
 use Rattle.std.specs.Prelude.{◌≡◌, ℕ, Bool, true, false, ◌&&◌, ◌||◌, not, nat_eq, nat_le, bytes_eq, List, [], ◌∷◌, ◌++◌, codes, Option, Some, None, map, filter, length, slice_range, if◌then◌else◌}
-use Rattle.std.specs.List.{starts_with, list_any}
+use Rattle.std.specs.List.{starts_with, list_any, slice_split}
+use Rattle.std.specs.Char.{is_ascii_whitespace}
 use Rattle.text_places.specs.declared.Span.{Span}
 use Rattle.text_places.specs.declared.field_lines.Grammar.{Grammar}
 use Rattle.text_places.specs.Fields.{fields_of}
@@ -16,12 +17,17 @@ text_at bytes span =
     if nat_le span.start span.end && nat_le span.end (length bytes)
     then slice_range bytes span.start span.end else []
 
--- an element of this form with these attributes declares a license: in NuGet's an expression, and
--- not a file
+-- the attribute says that the element's text is an expression
+abbrev pub tells_expression : List ℕ → Bool
+tells_expression attribute =
+    bytes_eq attribute (codes "type=\"expression\"") ||
+    bytes_eq attribute (codes "type='expression'")
+
+-- an element of this form with these attributes declares a license: in NuGet's an expression, as
+-- one of the attributes says, and not a file
 abbrev pub declares : PlainForm → List ℕ → Bool
 declares Nuget attributes =
-    bytes_eq attributes (codes "type=\"expression\"") ||
-    bytes_eq attributes (codes "type='expression'")
+    list_any tells_expression (slice_split is_ascii_whitespace attributes)
 declares form attributes = true
 
 -- the form's licenses stand in elements

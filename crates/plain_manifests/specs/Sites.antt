@@ -1,21 +1,23 @@
 -- The expressions of a file of fields or elements, each at its place, and the file with another
 -- one.
-use Rattle.std.specs.Prelude.{◌≡◌, ◌≢◌, ◌⊎◌, ℕ, Bool, not, List, ◌++◌, None, Some, map, filter, All, set, take, drop, slice_get}
+use Rattle.std.specs.Prelude.{◌≡◌, ◌≢◌, ◌⊎◌, ℕ, Bool, ◌&&◌, not, List, ◌++◌, None, Some, map, filter, All, set, take, drop, slice_get}
 use Rattle.std.specs.List.{list_any}
 use Rattle.text_places.specs.declared.Span.{Span}
 use Rattle.text_places.specs.Names.{is_one_of}
 use Rattle.plain_manifests.specs.declared.form.PlainForm.{PlainForm}
 use Rattle.plain_manifests.specs.declared.sites.PlainSite.{PlainSite}
-use Rattle.plain_manifests.specs.Grammars.{marks_of}
+use Rattle.plain_manifests.specs.Grammars.{is_word_of, marks_of}
 use Rattle.plain_manifests.specs.Places.{ArePlaces, text_at}
 
 -- the texts at these places
 abbrev pub texts_at : List ℕ → List Span → List (List ℕ)
 texts_at bytes places = map (text_at bytes) places
 
--- the text is an expression, and nothing that the form's own language makes one of
+-- the text is an expression: nothing that the form's own language makes one of, and no word of the
+-- form's own
 abbrev pub is_expression : PlainForm → List ℕ → Bool
-is_expression form text = not (list_any (is_one_of (marks_of form)) text)
+is_expression form text =
+    not (list_any (is_one_of (marks_of form)) text) && not (is_word_of form text)
 
 -- the site is the declared text of its number, at its place
 pub record IsDeclared (bytes : List ℕ) (places : List Span) (site : PlainSite) : Type 0 where

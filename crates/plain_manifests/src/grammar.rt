@@ -158,3 +158,29 @@ pub(crate) fn marks_of(form: PlainForm) -> &'static [u8]
         _ => b"",
     }
 }
+
+// YAML's words for nothing.
+fn is_null(text: &[u8]) -> bool
+    ensures { result ≡ spec.is_null text.now }
+{
+    text == b"~".as_slice()
+        || text == b"null".as_slice()
+        || text == b"Null".as_slice()
+        || text == b"NULL".as_slice()
+}
+
+/// Whether a text is one of the form's own words for a license that no expression tells.
+#[tactic(auto, unfolding(crate::specs::Grammars::is_word_of))]
+pub(crate) fn is_word_of(form: PlainForm, text: &[u8]) -> bool
+    ensures { result ≡ spec.is_word_of form text.now }
+{
+    match form {
+        PlainForm::Cabal => text == b"NONE".as_slice(),
+        PlainForm::Gem => text == b"Nonstandard".as_slice(),
+        PlainForm::Snap => text == b"Proprietary".as_slice() || is_null(text),
+        PlainForm::Conda | PlainForm::Galaxy | PlainForm::Helm | PlainForm::Citation => {
+            is_null(text)
+        }
+        _ => false,
+    }
+}

@@ -2,7 +2,8 @@
 
 ghost use Rattle.std.specs.Prelude.{◌≡◌, ◌++◌, IfOk, OnOk, filter, map, option_map};
 ghost use Rattle.plain_manifests.specs.Places.{AreNamed, AreOfBoth, AreOfOtherName, ArePlaces, HasVersion, IsOfSpdx, has_expressions, text_at};
-ghost use Rattle.std.specs.List.{list_any};
+ghost use Rattle.std.specs.List.{list_any, slice_split};
+ghost use Rattle.std.specs.Char.{is_ascii_whitespace};
 ghost use Rattle.plain_manifests.specs.Places as spec;
 
 use crate::form::PlainForm;
@@ -20,13 +21,34 @@ pub(crate) fn text_at<'b>(bytes: &'b [u8], span: Span) -> &'b [u8]
     }
 }
 
+// Whether an attribute says that the element's text is an expression.
+fn tells_expression(attribute: &[u8]) -> bool
+    ensures { result ≡ spec.tells_expression attribute.now }
+{
+    attribute == b"type=\"expression\"".as_slice() || attribute == b"type='expression'".as_slice()
+}
+
+fn is_blank(byte: u8) -> bool
+    ensures { result ≡ is_ascii_whitespace byte }
+{
+    byte.is_ascii_whitespace()
+}
+
+// Whether one of the attributes says so.
+fn tell_expression(attributes: &[u8]) -> bool
+    ensures { result ≡
+        list_any spec.tells_expression (slice_split is_ascii_whitespace attributes.now) }
+{
+    attributes
+        .split(|byte| is_blank(*byte))
+        .any(|attribute| tells_expression(attribute))
+}
+
 // Whether an element of this form with these attributes declares a license.
 fn declares(form: PlainForm, attributes: &[u8]) -> bool
     ensures { result ≡ spec.declares form attributes.now }
 {
-    form != PlainForm::Nuget
-        || attributes == b"type=\"expression\"".as_slice()
-        || attributes == b"type='expression'".as_slice()
+    form != PlainForm::Nuget || tell_expression(attributes)
 }
 
 fn is_of_elements(form: PlainForm) -> bool

@@ -8,7 +8,7 @@ ghost use Rattle.std.specs.List.{list_any};
 ghost use Rattle.plain_manifests.specs.declared.sites.PlainSite.{PlainSite};
 
 use crate::form::PlainForm;
-use crate::grammar::marks_of;
+use crate::grammar::{is_word_of, marks_of};
 use crate::places::{places, text_at};
 use std::alloc::{AllocError, Global};
 use text_places::Span;
@@ -40,7 +40,7 @@ fn is_expression(form: PlainForm, text: &[u8]) -> bool
     ensures { result ≡ is_expression form text.now }
 {
     let marks = marks_of(form);
-    !has_any(marks, text)
+    !has_any(marks, text) && !is_word_of(form, text)
 }
 
 // A file, and where the texts stand that it declares.
@@ -116,7 +116,8 @@ fn sites_at(
 
 /// The expressions that the bytes declare as a file of this form, in the file's order, each at its place; of a form that has
 /// two names for what declares a license, those of the one before those of the other. Texts that the form's own language makes,
-/// as `%{license}` in RPM's, are left out; so are all of a Cabal file before version 2.2 of its format, which has other names.
+/// as `%{license}` in RPM's, are left out; so are the form's own words for what no expression tells, as Cabal's `NONE`, and all
+/// of a Cabal file before version 2.2 of its format, which has other names.
 ///
 /// The bytes may be no text. Linear in them.
 ///
