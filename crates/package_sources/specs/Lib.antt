@@ -1,4 +1,5 @@
 pub mod Texts
+pub mod Described
 pub mod Folders
 pub mod Several
 pub mod Npm

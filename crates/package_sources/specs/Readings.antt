@@ -16,7 +16,6 @@ use Rattle.package_sources.specs.Several.{choice_of}
 use Rattle.package_sources.specs.declared.formats.npm.Lies.{Lies}
 use Rattle.package_sources.specs.Npm.{is_list, name_of, npm_license, folder}
 use Rattle.package_sources.specs.CycloneDx.{cyclonedx}
-use Rattle.package_sources.specs.Spdx.{spdx}
 
 -- ---- pointers
 
@@ -97,7 +96,6 @@ package_of (reading.Npm l) i = npm l i
 package_of reading.Composer i = composer i
 package_of reading.Pip i = pip i
 package_of reading.CycloneDx i = cyclonedx i
-package_of reading.Spdx i = spdx i
 
 -- the packages that items are: each is one, in their order
 abbrev pub packages_of : Reading → List ItemRow → Result (List PackageRow) Fault

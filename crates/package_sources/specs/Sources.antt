@@ -22,6 +22,7 @@ use Rattle.package_sources.specs.Cargo.{cargo_packages}
 use Rattle.package_sources.specs.Readings.{packages_of}
 use Rattle.package_sources.specs.Npm.{npm_items, lies_in}
 use Rattle.package_sources.specs.CycloneDx as bom
+use Rattle.package_sources.specs.Described.{root}
 use Rattle.package_sources.specs.Spdx as bill
 use Rattle.package_sources.specs.Pointer.{checked}
 use Rattle.package_readers.specs.Lines.{packages_in_lines}
@@ -77,8 +78,9 @@ pip d = on_ok (list_items (codes "") (Some d)) (packages_of reading.Pip)
 abbrev pub cyclonedx : Data → Result (List PackageRow) Fault
 cyclonedx d = on_ok (bom.items d) (packages_of reading.CycloneDx)
 
+-- the packages of the list; the one that the document is about is one's own
 abbrev pub spdx : Data → Result (List PackageRow) Fault
-spdx d = on_ok (bill.items d) (packages_of reading.Spdx)
+spdx d = on_ok (bill.items d) (bill.spdx_packages (root d))
 
 -- what a form makes of the bytes behind the mark
 abbrev pub packages_in : Form → List ℕ → List ℕ → Result (List PackageRow) Fault

@@ -11,7 +11,6 @@ ghost use Rattle.package_sources.specs.Readings as spec;
 use crate::form::Pointers;
 use crate::formats::cyclonedx::cyclonedx;
 use crate::formats::npm::{Lies, folder, is_list, name_of, npm_license};
-use crate::formats::spdx::spdx;
 use crate::several::{Entry, choice_of};
 use package_items::{
     Item, License, Package, SourceError, check_object, copy_of, file_in, folder_in, in_list,
@@ -30,7 +29,6 @@ pub(crate) enum Reading<'p> {
     Composer,
     Pip,
     CycloneDx,
-    Spdx,
 }
 
 fn pointed_version<'v>(
@@ -186,7 +184,6 @@ fn package_of(alloc: Global, reading: &Reading<'_>, item: &Item<'_>) -> Result<P
         Reading::Composer => composer(alloc, item),
         Reading::Pip => pip(alloc, item),
         Reading::CycloneDx => cyclonedx(alloc, item),
-        Reading::Spdx => spdx(alloc, item),
     }
 }
 

@@ -8,8 +8,9 @@ ghost use Rattle.package_sources.specs.Sources as spec;
 use crate::form::{Form, Pointers};
 use crate::formats::cargo::cargo_packages;
 use crate::formats::cyclonedx::cyclonedx_items;
+use crate::formats::described::root;
 use crate::formats::npm::{lies_in, npm_items};
-use crate::formats::spdx::spdx_items;
+use crate::formats::spdx::{spdx_items, spdx_packages};
 use crate::pointer::checked;
 use crate::reading::{Reading, packages_of};
 use package_items::{
@@ -128,7 +129,7 @@ fn spdx(alloc: Global, document: &Value) -> Result<Vec<Package>, SourceError>
     ensures err { IfErr result (Says (λ f. spec.spdx (view document.now) ≡ Err f)) }
 {
     let items = spdx_items(alloc, document)?;
-    packages_of(alloc, &Reading::Spdx, items.as_slice())
+    spdx_packages(alloc, root(alloc, document)?, items.as_slice())
 }
 
 /// The packages that a file of the form lists: each of its items is one, in their order. A package without a name has

@@ -2,7 +2,9 @@
 
 ghost use Rattle.std.specs.Prelude.{◌≡◌, ◌++◌, Ok, Err, IfOk, IfErr, map, codes};
 ghost use Rattle.serde_json.specs.View.{view};
+ghost use Rattle.std.specs.Option.{option_copied};
 ghost use Rattle.package_items.specs.Rows.{Says, item_row, license_of, row_of};
+ghost use Rattle.package_items.specs.Values.{seen};
 ghost use Rattle.package_sources.specs.Spdx as spec;
 
 use package_items::{
@@ -27,16 +29,48 @@ fn license(alloc: Global, item: &Item<'_>) -> Result<License, SourceError>
     }
 }
 
-/// The package that an item is.
-pub(crate) fn spdx(alloc: Global, item: &Item<'_>) -> Result<Package, SourceError>
-    ensures ok { IfOk result (λ p. spec.spdx (item_row item.now) ≡ Ok (row_of p)) }
-    ensures err { IfErr result (Says (λ f. spec.spdx (item_row item.now) ≡ Err f)) }
+// Whether a package is the one that the document is about.
+fn is_id(root: Option<&str>, found: Option<&Value>) -> bool
+    ensures { result ≡ spec.is_id (option_copied root.entry) (seen found.entry) }
+{
+    match (root, found) {
+        (Some(id), Some(Value::String(text))) => text.as_str() == id,
+        _ => false,
+    }
+}
+
+// The package that an item is; the one that the document is about is one's own.
+fn spdx(alloc: Global, root: Option<&str>, item: &Item<'_>) -> Result<Package, SourceError>
+    ensures ok { IfOk result (λ p.
+        spec.spdx (option_copied root.entry) (item_row item.now) ≡ Ok (row_of p)) }
+    ensures err { IfErr result (Says (λ f.
+        spec.spdx (option_copied root.entry) (item_row item.now) ≡ Err f)) }
 {
     check_object(alloc, item)?;
     let name = text_of(alloc, item, "/name", item.value.get("name"))?;
     let version = text_if_any(alloc, item, "/versionInfo", item.value.get("versionInfo"))?;
     let license = license(alloc, item)?;
-    Ok(said(alloc, item, name, version, license)?)
+    let mut package = said(alloc, item, name, version, license)?;
+    package.is_own = is_id(root, item.value.get("SPDXID"));
+    Ok(package)
+}
+
+/// The packages that items are: each is one, in their order.
+pub(crate) fn spdx_packages(
+    alloc: Global,
+    root: Option<&str>,
+    items: &[Item<'_>],
+) -> Result<Vec<Package>, SourceError>
+    ensures ok { IfOk result (λ ps. spec.spdx_packages (option_copied root.entry)
+        (map item_row items.now) ≡ Ok (map row_of ps.items)) }
+    ensures err { IfErr result (Says (λ f. spec.spdx_packages (option_copied root.entry)
+        (map item_row items.now) ≡ Err f)) }
+{
+    let mut packages = Vec::new(alloc);
+    for item in items {
+        packages.push(spdx(alloc, root, item)?)?;
+    }
+    Ok(packages)
 }
 
 /// The packages of a document, or of the bill that GitHub wraps.
