@@ -30,6 +30,10 @@ is_history name =
     bytes_eq name (codes ".git") || bytes_eq name (codes ".hg") ||
     bytes_eq name (codes ".svn") || bytes_eq name (codes ".jj")
 
+-- the folder of license texts, which speak of tags and have none
+abbrev pub is_texts : List ℕ → Bool
+is_texts name = bytes_eq name (codes "LICENSES")
+
 -- the folders of tools: packages that were installed, and what Python compiled
 unfoldable pub is_tools : List ℕ → Bool
 is_tools name =
@@ -42,11 +46,11 @@ is_made has_cargo name = (has_cargo && bytes_eq name (codes "target")) || is_too
 
 abbrev pub folder_visit : Bool → List ℕ → Option Visit
 folder_visit has_cargo name =
-    if is_history name then None else
+    if is_history name || is_texts name then None else
     if is_made has_cargo name then Some visit.LeftOut else Some visit.Folder
 
--- links, devices and folders of version control aren't looked at; folders that were made are left
--- out
+-- links, devices, license texts and folders of version control aren't looked at; folders that were
+-- made are left out
 abbrev pub visit_of : Bool → List ℕ → Kind → Option Visit
 visit_of has_cargo name kind.Other = None
 visit_of has_cargo name kind.File =

@@ -43,6 +43,13 @@ fn is_history(name: &str) -> bool
     name == ".git" || name == ".hg" || name == ".svn" || name == ".jj"
 }
 
+// Whether a folder of this name has license texts, which speak of tags and have none.
+fn is_texts(name: &str) -> bool
+    ensures { result ≡ spec.is_texts name.now }
+{
+    name == "LICENSES"
+}
+
 // Whether others wrote what is in a folder of this name, or a program made it. Beside a `Cargo.toml`, Cargo made `target`.
 fn is_made(name: &str, has_cargo: bool) -> bool
     ensures { result ≡ spec.is_made has_cargo name.now }
@@ -66,7 +73,7 @@ pub(crate) fn visit_of(name: &str, kind: Kind, has_cargo: bool) -> Option<Visit>
         Kind::Other => None,
         Kind::File if is_beside(name) => Some(Visit::LeftBehind),
         Kind::File => Some(Visit::File),
-        Kind::Folder if is_history(name) => None,
+        Kind::Folder if is_history(name) || is_texts(name) => None,
         Kind::Folder if is_made(name, has_cargo) => Some(Visit::LeftOut),
         Kind::Folder => Some(Visit::Folder),
     }
