@@ -1,41 +1,70 @@
 -- What is written and told, one after the other.
-use Rattle.std.proofs.Common.{◌≡◌, ◌∙◌, refl, sym, ap, ℕ, List, [], ◌++◌, Option, None, Some, append_assoc, append-nil}
-use Rattle.std.specs.Io.KnownBytes.{Appends}
+use Rattle.std.proofs.Common.{◌≡◌, ◌∙◌, refl, sym, ap, subst, inl, inr, ◌⊎◌, ℕ, true, List, [], ◌∷◌, ◌++◌, append_assoc, append-nil}
 use Rattle.std.proofs.KnownBytes.{Appends-nil, Appends-trans}
 use Rattle.line_engine.specs.Device.{Told}
-use Rattle.check_files.specs.Told.{Does, Hears, Writes}
+use Rattle.check_files.specs.Told.{Account, AreTexts, Does, Hears, Puts, Writes, each, texts, unkept}
 
-pub hears_nil : {A : Type 0} (a : Option (List A)) → Hears a a []
-hears_nil None = tt
-hears_nil (Some x) = sym (append-nil x)
+-- ---- what is written of what is told
 
-pub hears_trans : {A : Type 0} (a b c : Option (List A)) (xs ys : List A) → Hears a b xs → Hears b c ys → Hears a c (xs ++ ys)
-hears_trans None b c xs ys p q = tt
-hears_trans (Some x) None c xs ys p q = absurd p
-hears_trans (Some x) (Some y) None xs ys p q = absurd q
-hears_trans (Some x) (Some y) (Some z) xs ys p q = q ∙ ap (λ l. l ++ ys) p ∙ append_assoc x xs ys
+texts_append : {A : Type 0} (f : List ℕ → A → List ℕ) (xs ys : List A) (x y : List ℕ) → AreTexts f xs x → AreTexts f ys y → AreTexts f (xs ++ ys) (x ++ y)
+texts_append f [] ys x y p q = subst (AreTexts f ys) (sym (ap (λ (l : List ℕ). l ++ y) p)) q
+texts_append f (a ∷ xs) ys x y p q =
+    (p.0, p.1 ++ y, ap (λ (l : List ℕ). l ++ y) p.2 ∙ append_assoc (f p.0 a) p.1 y, texts_append f xs ys p.1 y p.3 q)
+
+module _ {A : Type 0} (f : List ℕ → A → List ℕ) (a b c : Told) (xs ys : List A) where
+  joined : (b.has_failed ≡ true) ⊎ Writes a b (AreTexts f xs) → (c.has_failed ≡ true) ⊎ Writes b c (AreTexts f ys)
+      → (b.has_failed ≡ true → c.has_failed ≡ true) → (c.has_failed ≡ true) ⊎ Writes a c (AreTexts f (xs ++ ys))
+  joined (inl failed) q stays = inl (stays failed)
+  joined (inr w) (inl failed) stays = inl failed
+  joined (inr w) (inr v) stays =
+      inr (w.0 ++ v.0, Appends-trans a.bytes b.bytes c.bytes w.0 v.0 w.1 v.1, texts_append f xs ys w.0 v.0 w.2 v.2)
+
+  put_both : Puts a b (AreTexts f xs) → Puts b c (AreTexts f ys) → Puts a c (AreTexts f (xs ++ ys))
+  put_both p q = record { stays = λ failed. q.stays (p.stays failed); writes = joined p.writes q.writes q.stays }
+
+pub hears_nil : {A : Type 0} (a : Account A) → Hears a a []
+hears_nil unkept = tt
+hears_nil (each x) = sym (append-nil x)
+hears_nil (texts f out) = (refl, record { stays = λ failed. failed; writes = inr ([], Appends-nil out.bytes, refl) })
+
+module _ {A : Type 0} where
+  pub hears_trans : (a b c : Account A) (xs ys : List A) → Hears a b xs → Hears b c ys → Hears a c (xs ++ ys)
+  hears_trans unkept b c xs ys p q = tt
+  hears_trans (each x) unkept c xs ys p q = absurd p
+  hears_trans (each x) (texts g b) c xs ys p q = absurd p
+  hears_trans (each x) (each y) unkept xs ys p q = absurd q
+  hears_trans (each x) (each y) (texts h c) xs ys p q = absurd q
+  hears_trans (each x) (each y) (each z) xs ys p q = q ∙ ap (λ l. l ++ ys) p ∙ append_assoc x xs ys
+  hears_trans (texts f a) unkept c xs ys p q = absurd p
+  hears_trans (texts f a) (each y) c xs ys p q = absurd p
+  hears_trans (texts f a) (texts g b) unkept xs ys p q = absurd q
+  hears_trans (texts f a) (texts g b) (each z) xs ys p q = absurd q
+  hears_trans (texts f a) (texts g b) (texts h c) xs ys p q =
+      (q.0 ∙ p.0, put_both f a b c xs ys p.1 (subst (λ (t : List ℕ → A → List ℕ). Puts b c (AreTexts t ys)) p.0 q.1))
+
+-- ---- one after the other
 
 -- nothing is written nor told
-pub nothing : {A : Type 0} (out : Told) (heard : Option (List A)) (Is : List ℕ → List A → Type 0) → Is [] [] → Does out out heard heard Is
+pub nothing : {A : Type 0} (out : Told) (heard : Account A) (Is : List ℕ → List A → Type 0) → Is [] [] → Does out out heard heard Is
 nothing out heard Is h = record { text = []; told = []; writes = Appends-nil out.bytes; tells = hears_nil heard; is = h }
 
 -- troubles are told alone
-pub heard_alone : {A : Type 0} (out : Told) (heard heard' : Option (List A)) (told : List A) (Is : List ℕ → List A → Type 0)
+pub heard_alone : {A : Type 0} (out : Told) (heard heard' : Account A) (told : List A) (Is : List ℕ → List A → Type 0)
     → Hears heard heard' told → Is [] told → Does out out heard heard' Is
 heard_alone out heard heard' told Is h is = record { text = []; told = told; writes = Appends-nil out.bytes; tells = h; is = is }
 
 -- something is written alone
-pub written_alone : {A : Type 0} (out out' : Told) (heard : Option (List A)) (Was : List ℕ → Type 0) (Is : List ℕ → List A → Type 0)
+pub written_alone : {A : Type 0} (out out' : Told) (heard : Account A) (Was : List ℕ → Type 0) (Is : List ℕ → List A → Type 0)
     → Writes out out' Was → ((text : List ℕ) → Was text → Is text []) → Does out out' heard heard Is
 written_alone out out' heard Was Is h so = record { text = h.0; told = []; writes = h.1; tells = hears_nil heard; is = so h.0 h.2 }
 
 -- the same is done, of which more is known
-pub known : {A : Type 0} (out out' : Told) (heard heard' : Option (List A)) (Was Is : List ℕ → List A → Type 0)
+pub known : {A : Type 0} (out out' : Told) (heard heard' : Account A) (Was Is : List ℕ → List A → Type 0)
     → Does out out' heard heard' Was → ((text : List ℕ) (told : List A) → Was text told → Is text told) → Does out out' heard heard' Is
 known out out' heard heard' Was Is h so = record { text = h.text; told = h.told; writes = h.writes; tells = h.tells; is = so h.text h.told h.is }
 
 -- one thing is done behind the other
-pub both : {A : Type 0} (a b c : Told) (h k l : Option (List A)) (First Then Is : List ℕ → List A → Type 0)
+pub both : {A : Type 0} (a b c : Told) (h k l : Account A) (First Then Is : List ℕ → List A → Type 0)
     → Does a b h k First → Does b c k l Then
     → ((x : List ℕ) (xs : List A) (y : List ℕ) (ys : List A) → First x xs → Then y ys → Is (x ++ y) (xs ++ ys)) → Does a c h l Is
 both a b c h k l First Then Is p q so = record {

@@ -13,7 +13,7 @@ use Rattle.check_files.specs.Files.{IsFileStep, IsStepBy, is_wanted}
 use Rattle.check_files.specs.Noted.{Notes}
 use Rattle.check_files.specs.Passing.{IsPassed, PassesOver}
 use Rattle.check_files.specs.Tally.{Tally}
-use Rattle.check_files.specs.Told.{Does}
+use Rattle.check_files.specs.Told.{Account, Does}
 use Rattle.check_files.proofs.Doing.{heard_alone}
 
 pub on_ok : {A E : Type 0} (r : Result A E) (P Q : Type 0) → (P → Q) → OnOk r P → OnOk r Q
@@ -21,14 +21,14 @@ on_ok (Ok x) P Q f h = f h
 on_ok (Err e) P Q f h = h
 
 -- what can't be read is passed over
-pub passed : (out : Told) (heard heard' : Option (List CheckTrouble)) (name : List ℕ) (Fails : Error → Type 0) (old new : Tally) (n : String Global) (e : Error)
+pub passed : (out : Told) (heard heard' : Account CheckTrouble) (name : List ℕ) (Fails : Error → Type 0) (old new : Tally) (n : String Global) (e : Error)
     → string_bytes n ≡ name → Fails e → PassesOver (trouble.Unreadable n e) heard heard' old new → Does out out heard heard' (λ text told. IsPassed name Fails old text told new)
 passed out heard heard' name Fails old new n e named fails p =
     heard_alone out heard heard' (trouble.Unreadable n e ∷ []) (λ text told. IsPassed name Fails old text told new) p.tells
     (record { path = n; error = e; path_is = named; fails = fails; has_memory = p.has_memory; text_is = refl; told_is = refl; new_is = p.counts })
 
 -- so it is with a file of which something is taken
-pub file_passed : (out : Told) (heard heard' : Option (List CheckTrouble)) (s : Shelved) (check : Check) (t : Taken) (folder : Option (List ℕ)) (path : List ℕ)
+pub file_passed : (out : Told) (heard heard' : Account CheckTrouble) (s : Shelved) (check : Check) (t : Taken) (folder : Option (List ℕ)) (path : List ℕ)
     (old new : Tally) (noted : Notes) (n : String Global) (e : Error) → is_wanted t path ≡ true
     → string_bytes n ≡ path → s.Fails path e → PassesOver (trouble.Unreadable n e) heard heard' old new
     → Does out out heard heard' (λ text told. IsFileStep s check t folder path old noted text told new noted)

@@ -18,7 +18,7 @@ use Rattle.check_files.specs.Files.{DeclaresPart, IsFileChecked, IsFileStep, IsS
 use Rattle.check_files.specs.Noted.{Notes}
 use Rattle.check_files.specs.Parts.{IsManifestChecked, NotesTable}
 use Rattle.check_files.specs.Tally.{Tally, is_clean, once, tally_of, with_found}
-use Rattle.check_files.specs.Told.{Does, Writes}
+use Rattle.check_files.specs.Told.{Account, Does, Writes}
 use Rattle.check_files.proofs.Doing.{written_alone}
 
 pub tallied : (old new : Sums) (s : Summary) (found text : List ℕ) → IsCounted old new s found text → tally_of new ≡ with_found s (tally_of old)
@@ -70,7 +70,7 @@ file_written s check t folder path bytes old between behind new noted noted' use
   },
 )
 
-pub file_done : (out out' : Told) (heard : Option (List CheckTrouble)) (s : Shelved) (check : Check) (t : Taken) (folder : Option (List ℕ)) (path bytes : List ℕ)
+pub file_done : (out out' : Told) (heard : Account CheckTrouble) (s : Shelved) (check : Check) (t : Taken) (folder : Option (List ℕ)) (path bytes : List ℕ)
     (old new : Tally) (noted noted' : Notes) → is_wanted t path ≡ true → s.Holds path bytes
     → Writes out out' (λ text. IsFileChecked s check t folder path bytes old noted text new noted')
     → Does out out' heard heard (λ text told. IsFileStep s check t folder path old noted text told new noted')

@@ -1,5 +1,5 @@
 -- What is passed over.
-use Rattle.std.specs.Prelude.{◌≡◌, ℕ, Bool, true, false, List, [], ◌∷◌, Option, String, string_bytes}
+use Rattle.std.specs.Prelude.{◌≡◌, ℕ, Bool, true, false, List, [], ◌∷◌, String, string_bytes}
 use Rattle.std.specs.IoError.{error_kind}
 use Rattle.std.specs.declared.alloc.Global.{Global}
 use Rattle.std.specs.declared.io.Error.{Error}
@@ -9,7 +9,7 @@ use Rattle.shelves.specs.Shelf.{Shelved}
 use Rattle.check_files.specs.declared.trouble.CheckTrouble.{CheckTrouble}
 use Rattle.check_files.specs.declared.trouble.CheckTrouble.TheVariants as trouble
 use Rattle.check_files.specs.Tally.{Tally, passed_over}
-use Rattle.check_files.specs.Told.{Hears}
+use Rattle.check_files.specs.Told.{Account, Hears}
 
 abbrev pub is_no_memory : ErrorKind → Bool
 is_no_memory kind.OutOfMemory = true
@@ -24,7 +24,7 @@ is_of_memory (trouble.Unreadable n e) = refuses_memory e
 is_of_memory _ = false
 
 -- this one trouble is told, which isn't of memory, and the status says so
-pub record PassesOver (t : CheckTrouble) (heard heard' : Option (List CheckTrouble))
+pub record PassesOver (t : CheckTrouble) (heard heard' : Account CheckTrouble)
     (old new : Tally) : Type 0 where
   pub tells : Hears heard heard' (t ∷ [])
   pub counts : new ≡ passed_over old

@@ -1,7 +1,7 @@
 // Who is told of troubles, and how far a check is.
 
-ghost use Rattle.std.specs.Prelude.{Option, List, ◌∷◌, [], OnOk};
-ghost use Rattle.check_files.specs.Told.{Hears};
+ghost use Rattle.std.specs.Prelude.{◌∷◌, [], OnOk};
+ghost use Rattle.check_files.specs.Told.{Account, Hears};
 ghost use Rattle.check_files.specs.declared.trouble.CheckTrouble as the_trouble;
 
 use crate::trouble::CheckTrouble;
@@ -9,8 +9,8 @@ use std::alloc::{AllocError, Global};
 
 /// Who is told of troubles when they happen, and how far a check is.
 pub trait Telling {
-    // The troubles that it was told so far, where it keeps them.
-    ghost told: { Self → Option (List the_trouble.CheckTrouble) };
+    // What it keeps of the troubles that it was told.
+    ghost told: { Self → Account the_trouble.CheckTrouble };
 
     /// A file or folder is passed over, or was left behind.
     ///

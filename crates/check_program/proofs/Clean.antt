@@ -19,7 +19,7 @@ use Rattle.check_files.specs.declared.trouble.CheckTrouble.{CheckTrouble}
 use Rattle.check_files.specs.Clean.{IsPassing}
 use Rattle.check_files.specs.Parts.{source_at}
 use Rattle.check_files.specs.Tally.{Tally, tally_of}
-use Rattle.check_files.specs.Told.{Does}
+use Rattle.check_files.specs.Told.{Account, Does}
 use Rattle.check_files.proofs.Clean.{accepted, manifest_clean, not_passed, passing, sum_none, tags_clean}
 use Rattle.check_trees.proofs.Clean.{tree_clean}
 use Rattle.check_program.specs.declared.run.Request.{Request}
@@ -112,6 +112,6 @@ run_clean s inside a text told status h low =
     record { check = h.0; is = h.1; each = (all_clean s h.0 (ways_in a) h.2.steps passes).1 }
 
 -- where the status of a run is 0, all is read and accepted
-pub clean : (out out' : Told) (heard heard' : Option (List CheckTrouble)) (s : Shelved) (inside : Inside) (a : Request) (status : ℕ)
+pub clean : (out out' : Told) (heard heard' : Account CheckTrouble) (s : Shelved) (inside : Inside) (a : Request) (status : ℕ)
     → Does out out' heard heard' (λ text told. IsRun s inside a text told status) → status < 1 → AreAllClean s inside a
 clean out out' heard heard' s inside a status h low = run_clean s inside a h.text h.told status h.is low

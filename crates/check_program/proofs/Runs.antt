@@ -1,17 +1,17 @@
 -- A run over all paths.
-use Rattle.std.proofs.Common.{◌≡◌, ◌∙◌, ap, ℕ, Bool, false, List, [], ◌++◌, Option, map, string_bytes}
+use Rattle.std.proofs.Common.{◌≡◌, ◌∙◌, ap, ℕ, Bool, false, List, [], ◌++◌, map, string_bytes}
 use Rattle.std.specs.Io.KnownBytes.{Appends}
 use Rattle.std.proofs.KnownBytes.{Appends-trans}
 use Rattle.line_engine.specs.Device.{Told}
 use Rattle.check_files.specs.declared.trouble.CheckTrouble.{CheckTrouble}
 use Rattle.check_files.specs.Tally.{Tally, nothing_counted, tally_of}
-use Rattle.check_files.specs.Told.{Does}
+use Rattle.check_files.specs.Told.{Account, Does}
 use Rattle.check_told.specs.Sums.{IsNew}
 use Rattle.check_told.specs.declared.sums.Sums.{Sums}
 use Rattle.spdx_check.specs.declared.totals.Totals.{Totals}
 
 -- what is done stands between two texts
-pub between : (a b c d : Told) (h k : Option (List CheckTrouble)) (first last : List ℕ) (Was Is : List ℕ → List CheckTrouble → Type 0)
+pub between : (a b c d : Told) (h k : Account CheckTrouble) (first last : List ℕ) (Was Is : List ℕ → List CheckTrouble → Type 0)
     → Appends a.bytes b.bytes first → Does b c h k Was → Appends c.bytes d.bytes last
     → ((text : List ℕ) (told : List CheckTrouble) → Was text told → Is (first ++ (text ++ last)) told) → Does a d h k Is
 between a b c d h k first last Was Is p q r so = record {

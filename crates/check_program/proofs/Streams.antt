@@ -19,7 +19,7 @@ use Rattle.check_files.specs.declared.trouble.CheckTrouble.{CheckTrouble}
 use Rattle.check_files.specs.declared.trouble.CheckTrouble.TheVariants as trouble
 use Rattle.check_files.specs.Passing.{IsPassed}
 use Rattle.check_files.specs.Tally.{Tally, is_clean, with_lines}
-use Rattle.check_files.specs.Told.{Does}
+use Rattle.check_files.specs.Told.{Account, Does}
 use Rattle.check_files.proofs.Doing.{heard_alone, hears_nil, known}
 use Rattle.check_program.specs.Lines.{AreAllRead, AreRead, AreSomeRead, FailsBy, GivesBy, IsLinesStep, IsLinesStepOf, rule_of}
 use Rattle.check_program.specs.Unread.{PassesBroken, PassesUnread}
@@ -37,7 +37,7 @@ some_had (Some xs) None bytes c = absurd c
 some_had (Some xs) (Some ys) bytes c = (ys, c)
 
 -- all lines were read
-pub whole : (check : Check) (is_first : Bool) (name : List ℕ) (t t' out out' : Told) (heard : Option (List CheckTrouble)) (old new : Tally) (c : Checked)
+pub whole : (check : Check) (is_first : Bool) (name : List ℕ) (t t' out out' : Told) (heard : Account CheckTrouble) (old new : Tally) (c : Checked)
     → is_first ≡ is_clean old → ChecksLines check is_first name (devices t t' out out') (Ok c) → new ≡ with_lines c.summary c.blanks old
     → Does out out' heard heard (λ text told. AreRead (MayHave t.bytes) check name old text told new)
 whole check is_first name t t' out out' heard old new c e h is =
@@ -64,7 +64,7 @@ whole check is_first name t t' out out' heard old new c e h is =
     }
 
 -- what is read broke off
-pub broken : (check : Check) (is_first : Bool) (name : List ℕ) (t t' out out' : Told) (heard heard' : Option (List CheckTrouble)) (old new : Tally)
+pub broken : (check : Check) (is_first : Bool) (name : List ℕ) (t t' out out' : Told) (heard heard' : Account CheckTrouble) (old new : Tally)
     → is_first ≡ is_clean old → ChecksLines check is_first name (devices t t' out out') (Err Read) → PassesBroken name heard heard' old new
     → Does out out' heard heard' (λ text told. AreRead (MayHave t.bytes) check name old text told new)
 broken check is_first name t t' out out' heard heard' old new e h p =
@@ -99,7 +99,7 @@ held : (Holds : List ℕ → Type 0) (check : Check) (name : List ℕ) (t : Told
 held Holds check name t old new gives text told (inl r) = inl (r.0, gives r.0 r.1, r.2, r.3)
 held Holds check name t old new gives text told (inr r) = inr (r.0, r.1, gives (r.0 ++ r.1) r.2, r.3)
 
-pub given : (Holds : List ℕ → Type 0) (IsFault : Error → Type 0) (check : Check) (name : List ℕ) (t out out' : Told) (heard heard' : Option (List CheckTrouble)) (old new : Tally)
+pub given : (Holds : List ℕ → Type 0) (IsFault : Error → Type 0) (check : Check) (name : List ℕ) (t out out' : Told) (heard heard' : Account CheckTrouble) (old new : Tally)
     → Gives t Holds → Does out out' heard heard' (λ text told. AreRead (MayHave t.bytes) check name old text told new)
     → Does out out' heard heard' (λ text told. IsLinesStepOf Holds IsFault check name old text told new)
 given Holds IsFault check name t out out' heard heard' old new gives d =
@@ -107,18 +107,18 @@ given Holds IsFault check name t out out' heard heard' old new gives d =
     (λ text told r. inl (held Holds check name t old new gives text told r))
 
 -- it can't be opened or read
-pub passed : (IsFault : Error → Type 0) (name : List ℕ) (e : Error) (heard heard' : Option (List CheckTrouble)) (old new : Tally) → IsFault e → (p : PassesUnread name e heard heard' old new)
+pub passed : (IsFault : Error → Type 0) (name : List ℕ) (e : Error) (heard heard' : Account CheckTrouble) (old new : Tally) → IsFault e → (p : PassesUnread name e heard heard' old new)
     → IsPassed name IsFault old [] (trouble.Unreadable p.0 e ∷ []) new
 passed IsFault name e heard heard' old new f p =
     record { path = p.0; error = e; path_is = p.1; fails = f; has_memory = p.2.has_memory; text_is = refl; told_is = refl; new_is = p.2.counts }
 
-pub unopened : (Holds : List ℕ → Type 0) (IsFault : Error → Type 0) (check : Check) (name : List ℕ) (e : Error) (out : Told) (heard heard' : Option (List CheckTrouble)) (old new : Tally)
+pub unopened : (Holds : List ℕ → Type 0) (IsFault : Error → Type 0) (check : Check) (name : List ℕ) (e : Error) (out : Told) (heard heard' : Account CheckTrouble) (old new : Tally)
     → IsFault e → PassesUnread name e heard heard' old new → Does out out heard heard' (λ text told. IsLinesStepOf Holds IsFault check name old text told new)
 unopened Holds IsFault check name e out heard heard' old new f p =
     heard_alone out heard heard' (trouble.Unreadable p.0 e ∷ []) (λ text told. IsLinesStepOf Holds IsFault check name old text told new) p.2.tells (inr (passed IsFault name e heard heard' old new f p))
 
 -- the path is standard input, or it isn't
-pub at_path : (b : Bool) (s : Shelved) (check : Check) (path : List ℕ) (out out' : Told) (heard heard' : Option (List CheckTrouble)) (old new : Tally) → b ≡ is_input path
+pub at_path : (b : Bool) (s : Shelved) (check : Check) (path : List ℕ) (out out' : Told) (heard heard' : Account CheckTrouble) (old new : Tally) → b ≡ is_input path
     → Does out out' heard heard' (λ text told. IsLinesStepOf (GivesBy b s path) (FailsBy b s path) check (if b then codes "<stdin>" else path) old text told new)
     → Does out out' heard heard' (λ text told. IsLinesStep s check path old text told new)
 at_path b s check path out out' heard heard' old new e d =

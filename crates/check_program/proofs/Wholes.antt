@@ -8,7 +8,7 @@ use Rattle.spdx_check.specs.declared.check.Check.{Check}
 use Rattle.check_files.specs.declared.trouble.CheckTrouble.{CheckTrouble}
 use Rattle.check_files.specs.declared.trouble.CheckTrouble.TheVariants as trouble
 use Rattle.check_files.specs.Tally.{Tally}
-use Rattle.check_files.specs.Told.{Does, Writes}
+use Rattle.check_files.specs.Told.{Account, Does, Writes}
 use Rattle.check_files.proofs.Doing.{heard_alone, written_alone}
 use Rattle.check_program.specs.Lines.{Fails, Gives, name_at}
 use Rattle.check_program.specs.Paths.{IsPartChecked, IsPartStep}
@@ -16,7 +16,7 @@ use Rattle.check_program.specs.Unread.{PassesUnread}
 use Rattle.check_program.proofs.Streams.{passed}
 
 -- it is read and checked
-pub read : (s : Shelved) (check : Check) (form : Option Form) (path bytes : List ℕ) (out out' : Told) (heard : Option (List CheckTrouble)) (old new : Tally)
+pub read : (s : Shelved) (check : Check) (form : Option Form) (path bytes : List ℕ) (out out' : Told) (heard : Account CheckTrouble) (old new : Tally)
     → Gives s path bytes → Writes out out' (λ text. IsPartChecked check form (name_at path) bytes old text new)
     → Does out out' heard heard (λ text told. IsPartStep s check form path old text told new)
 read s check form path bytes out out' heard old new gives w =
@@ -24,7 +24,7 @@ read s check form path bytes out out' heard old new gives w =
     (λ text is. inl (bytes, gives, is, refl))
 
 -- it can't be read
-pub unread : (s : Shelved) (check : Check) (form : Option Form) (path : List ℕ) (e : Error) (out : Told) (heard heard' : Option (List CheckTrouble)) (old new : Tally)
+pub unread : (s : Shelved) (check : Check) (form : Option Form) (path : List ℕ) (e : Error) (out : Told) (heard heard' : Account CheckTrouble) (old new : Tally)
     → Fails s path e → PassesUnread (name_at path) e heard heard' old new → Does out out heard heard' (λ text told. IsPartStep s check form path old text told new)
 unread s check form path e out heard heard' old new f p =
     heard_alone out heard heard' (trouble.Unreadable p.0 e ∷ []) (λ text told. IsPartStep s check form path old text told new) p.2.tells

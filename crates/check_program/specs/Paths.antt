@@ -2,6 +2,7 @@
 use Rattle.std.specs.Prelude.{◌≡◌, ◌⊎◌, ℕ, Bool, List, [], ◌∷◌, ◌++◌, Option, None, Some}
 use Rattle.std.specs.Borrow.{Bor}
 use Rattle.std.specs.Option.{option_copied}
+use Rattle.check_files.specs.Told.{Account}
 use Rattle.manifests.specs.declared.form.Form.{Form}
 use Rattle.shelves.specs.Shelf.{Shelved}
 use Rattle.source_trees.specs.Readings.{IsNoReading, IsReading}
@@ -79,7 +80,7 @@ trouble_of_fault (fault.NoManifest n) = Some (trouble.NoManifest n)
 trouble_of_fault (fault.Folder n) = Some (trouble.Folder n)
 trouble_of_fault fault.Memory = None
 
-abbrev pub PassesFault : ReadingFault → Option (List CheckTrouble) → Option (List CheckTrouble) →
+abbrev pub PassesFault : ReadingFault → Account CheckTrouble → Account CheckTrouble →
     Tally → Tally → Type 0
 PassesFault f heard heard' old new = (t : CheckTrouble) × (trouble_of_fault f ≡ Some t)
     × PassesOver t heard heard' old new

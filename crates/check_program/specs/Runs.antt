@@ -1,6 +1,7 @@
 -- What a run of `spdx check` writes and tells, and its status.
-use Rattle.std.specs.Prelude.{◌≡◌, ◌⊎◌, ℕ, Bool, true, false, ◌&&◌, List, [], ◌++◌, Option, Ok, map, if◌then◌else◌}
+use Rattle.std.specs.Prelude.{◌≡◌, ◌⊎◌, ℕ, Bool, true, false, ◌&&◌, List, [], ◌++◌, Ok, map, if◌then◌else◌}
 use Rattle.std.specs.Option.{option_copied}
+use Rattle.check_files.specs.Told.{Account}
 use Rattle.finding_forms.specs.declared.forms.Format.{Format}
 use Rattle.finding_forms.specs.declared.forms.Format.TheVariants as format
 use Rattle.finding_forms.specs.Forms.{beginning, ending}
@@ -78,14 +79,14 @@ IsRun s inside a text told status = (check : Check) × IsCheck s inside a check
 
 -- the list isn't had, or what to write in place of names isn't, and nothing is written or told
 pub record IsNoCheck (s : Shelved) (inside : Inside) (a : Request) (t : ListTrouble)
-    (out out' : Told) (heard heard' : Option (List CheckTrouble)) : Type 0 where
+    (out out' : Told) (heard heard' : Account CheckTrouble) : Type 0 where
   pub why : IsNoNamedList s inside.bytes (option_copied a.list) t ⊎ AreNoExtras inside.heirs t
   pub writes_none : out' ≡ out
   pub tells_none : heard' ≡ heard
 
 -- why a run ends before its end; nothing is said of memory
-abbrev pub IsNoRun : Shelved → Inside → Request → Told → Told → Option (List CheckTrouble) →
-    Option (List CheckTrouble) → CheckEnd → Type 0
+abbrev pub IsNoRun : Shelved → Inside → Request → Told → Told → Account CheckTrouble →
+    Account CheckTrouble → CheckEnd → Type 0
 IsNoRun s inside a out out' heard heard' (end.List t) = IsNoCheck s inside a t out out' heard heard'
 IsNoRun s inside a out out' heard heard' end.Output = out'.has_failed ≡ true
 IsNoRun s inside a out out' heard heard' end.Memory = Unit {0}

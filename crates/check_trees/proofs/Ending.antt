@@ -1,5 +1,5 @@
 -- The end of a folder.
-use Rattle.std.proofs.Common.{◌≡◌, ◌⊎◌, inl, inr, ◌∙◌, refl, sym, ap, subst, ℕ, Bool, true, false, ◌||◌, List, [], ◌∷◌, ◌++◌, Option, None, Some, is_some, map, String, string_bytes}
+use Rattle.std.proofs.Common.{◌≡◌, ◌⊎◌, inl, inr, ◌∙◌, refl, sym, ap, subst, ℕ, Bool, true, false, ◌||◌, List, [], ◌∷◌, ◌++◌, Option, None, is_some, map, String, string_bytes}
 use Rattle.std.specs.IoError.{error_kind}
 use Rattle.std.specs.List.{list_any}
 use Rattle.std.specs.declared.alloc.Global.{Global}
@@ -20,7 +20,7 @@ use Rattle.check_files.specs.declared.trouble.CheckTrouble.TheVariants as troubl
 use Rattle.check_files.specs.Noted.{Notes, nothing_noted}
 use Rattle.check_files.specs.Passing.{PassesOver, is_no_memory, is_of_memory, refuses_memory}
 use Rattle.check_files.specs.Tally.{Tally, with_texts}
-use Rattle.check_files.specs.Told.{Does, Hears, Writes}
+use Rattle.check_files.specs.Told.{Account, Does, Hears, Writes}
 use Rattle.check_files.proofs.Doing.{both, heard_alone, known, nothing, written_alone}
 use Rattle.check_trees.specs.Ends.{AreOwed, AreTexts, AreTextsOr, AreWholes, IsBareStep, IsEnd, IsEndBy, IsTextsFolder, IsTextsStep, IsUnseenBy, OwesTexts, are_none, left_trouble}
 use Rattle.check_trees.specs.Steps.{AreSteps, IsWalked, PassesAll}
@@ -49,7 +49,7 @@ had_owed s check folder used files [] old text told new (inr x) h = absurd (true
 had_owed s check folder used files (t ∷ ts) old text told new x h = had s folder files (t ∷ ts) x h.have_memory
 
 -- what is owed of these texts is told
-pub owed : (s : Shelved) (check : Check) (folder : List ℕ) (used files : List (List ℕ)) (troubles : List CheckTrouble) (out out' : Told) (heard heard' : Option (List CheckTrouble)) (old new : Tally)
+pub owed : (s : Shelved) (check : Check) (folder : List ℕ) (used files : List (List ℕ)) (troubles : List CheckTrouble) (out out' : Told) (heard heard' : Account CheckTrouble) (old new : Tally)
     → AreTextsOr s folder files troubles → Does out out' heard heard' (λ text told. AreOwed check folder used files troubles old text told new)
     → Does out out' heard heard' (λ text told. OwesTexts s check folder used old text told new)
 owed s check folder used files troubles out out' heard heard' old new texts d =
@@ -57,7 +57,7 @@ owed s check folder used files troubles out out' heard heard' old new texts d =
     (λ text told h. record { files = files; troubles = troubles; texts = had_owed s check folder used files troubles old text told new texts h; owed = h })
 
 -- why not all can be had is told
-pub owed_passed : (check : Check) (folder : List ℕ) (used files : List (List ℕ)) (troubles : List CheckTrouble) (out : Told) (heard heard' : Option (List CheckTrouble)) (old new : Tally)
+pub owed_passed : (check : Check) (folder : List ℕ) (used files : List (List ℕ)) (troubles : List CheckTrouble) (out : Told) (heard heard' : Account CheckTrouble) (old new : Tally)
     → are_none troubles ≡ false → PassesAll troubles heard heard' old new → Does out out heard heard' (λ text told. AreOwed check folder used files troubles old text told new)
 owed_passed check folder used files [] out heard heard' old new some p = absurd (true≢false some)
 owed_passed check folder used files (t ∷ ts) out heard heard' old new some p =
@@ -65,7 +65,7 @@ owed_passed check folder used files (t ∷ ts) out heard heard' old new some p =
     (record { text_is = refl; told_is = refl; new_is = p.counts; have_memory = p.have_memory })
 
 -- all can be had
-pub owed_put : (check : Check) (folder : List ℕ) (used files : List (List ℕ)) (troubles : List CheckTrouble) (out out' : Told) (heard : Option (List CheckTrouble)) (old new : Tally)
+pub owed_put : (check : Check) (folder : List ℕ) (used files : List (List ℕ)) (troubles : List CheckTrouble) (out out' : Told) (heard : Account CheckTrouble) (old new : Tally)
     → are_none troubles ≡ true → Writes out out' (λ text. AreWholes check (owed_by folder used (whole_names files)) with_texts old text new)
     → Does out out' heard heard (λ text told. AreOwed check folder used files troubles old text told new)
 owed_put check folder used files (t ∷ ts) out out' heard old new none d = absurd (true≢false (sym none))
@@ -74,14 +74,14 @@ owed_put check folder used files [] out out' heard old new none d =
     (λ text x. (x, refl))
 
 -- there is no folder of texts
-pub no_texts : (s : Shelved) (check : Check) (folder : Option (List ℕ)) (used : List (List ℕ)) (out : Told) (heard : Option (List CheckTrouble)) (old : Tally) → folder ≡ None
+pub no_texts : (s : Shelved) (check : Check) (folder : Option (List ℕ)) (used : List (List ℕ)) (out : Told) (heard : Account CheckTrouble) (old : Tally) → folder ≡ None
     → Does out out heard heard (λ text told. IsTextsStep s check folder used old text told old)
 no_texts s check folder used out heard old is =
     subst (λ (f : Option (List ℕ)). Does out out heard heard (λ text told. IsTextsStep s check f used old text told old)) (sym is)
     (nothing out heard (λ text told. IsTextsStep s check None used old text told old) (refl, refl, refl))
 
 -- what runs left is told alone
-pub left_alone : (is : Bool) (s : Shelved) (check : Check) (is_told : Bool) (folder : Option (List ℕ)) (noted : Notes) (out : Told) (heard heard' : Option (List CheckTrouble)) (old : Tally)
+pub left_alone : (is : Bool) (s : Shelved) (check : Check) (is_told : Bool) (folder : Option (List ℕ)) (noted : Notes) (out : Told) (heard heard' : Account CheckTrouble) (old : Tally)
     → is ≡ false → Hears heard heard' (map left_trouble noted.left_behind) → Does out out heard heard' (λ text told. IsEnd is s check is_told folder noted old text told old)
 left_alone is s check is_told folder noted out heard heard' old off h =
     heard_alone out heard heard' (map left_trouble noted.left_behind) (λ text told. IsEnd is s check is_told folder noted old text told old) h
@@ -92,7 +92,7 @@ left_alone is s check is_told folder noted out heard heard' old off h =
     })
 
 -- texts and files without a license are told behind it
-pub all_ended : (is : Bool) (s : Shelved) (check : Check) (is_told : Bool) (folder : Option (List ℕ)) (noted : Notes) (a b c : Told) (h k l : Option (List CheckTrouble)) (old between new : Tally)
+pub all_ended : (is : Bool) (s : Shelved) (check : Check) (is_told : Bool) (folder : Option (List ℕ)) (noted : Notes) (a b c : Told) (h k l : Account CheckTrouble) (old between new : Tally)
     → is ≡ true → Hears h k (map left_trouble noted.left_behind) → Does a b k l (λ text told. IsTextsStep s check folder noted.used old text told between)
     → Writes b c (λ text. IsBareStep is_told check (is_some folder) noted.untagged between text new) → Does a c h l (λ text told. IsEnd is s check is_told folder noted old text told new)
 all_ended is s check is_told folder noted a b c h k l old between new on left texts bare =
@@ -111,7 +111,7 @@ all_ended is s check is_told folder noted a b c h k l old between new on left te
     (record { behind = ys; told_is = ap (λ (ts : List CheckTrouble). ts ++ ys) p.1; ends = subst (λ (b : Bool). IsEndBy b s check is_told folder noted old y ys new) (sym on) q }))
 
 -- all that is below a folder, and its end
-pub tree_checked : (s : Shelved) (check : Check) (m : Manner) (path : List ℕ) (folder : Option (List ℕ)) (stops : List Stop) (noted noted' : Notes) (a b c : Told) (h k l : Option (List CheckTrouble))
+pub tree_checked : (s : Shelved) (check : Check) (m : Manner) (path : List ℕ) (folder : Option (List ℕ)) (stops : List Stop) (noted noted' : Notes) (a b c : Told) (h k l : Account CheckTrouble)
     (old between new : Tally) → IsTextsFolder s m.texts path folder → noted ≡ nothing_noted → IsWalked s check m.taken folder stops old noted a b h k between noted'
     → Does b c k l (λ text told. IsEnd (is_all m.taken) s check m.untagged folder noted' between text told new) → IsBegun s path stops
     → Does a c h l (λ text told. IsTreeChecked s check m path old text told new)
@@ -136,7 +136,7 @@ tree_checked s check m path folder stops noted noted' a b c h k l old between ne
     })
 
 -- the folder can't be looked at
-pub tree_passed : (s : Shelved) (check : Check) (m : Manner) (path : List ℕ) (n : String Global) (e : Error) (out : Told) (heard heard' : Option (List CheckTrouble)) (old new : Tally)
+pub tree_passed : (s : Shelved) (check : Check) (m : Manner) (path : List ℕ) (n : String Global) (e : Error) (out : Told) (heard heard' : Account CheckTrouble) (old new : Tally)
     → string_bytes n ≡ path → s.Fails path e ⊎ (error_kind e ≡ OutOfMemory) → PassesOver (trouble.Unreadable n e) heard heard' old new
     → Does out out heard heard' (λ text told. IsTreeStep s check m path old text told new)
 tree_passed s check m path n e out heard heard' old new named (inr f) p = absurd (true≢false (sym (no_memory e f) ∙ p.has_memory))

@@ -12,23 +12,23 @@ use Rattle.spdx_check.specs.declared.check.Check.{Check}
 use Rattle.check_files.specs.declared.trouble.CheckTrouble.{CheckTrouble}
 use Rattle.check_files.specs.Noted.{Notes}
 use Rattle.check_files.specs.Tally.{Tally}
-use Rattle.check_files.specs.Told.{Does, Hears}
+use Rattle.check_files.specs.Told.{Account, Does, Hears}
 use Rattle.check_files.proofs.Doing.{both, hears_trans, known, nothing}
 use Rattle.check_trees.specs.Steps as steps
 use Rattle.check_trees.specs.Steps.{AreSteps, IsSeenStep, IsSoFar, IsWalked}
 
 -- nothing is told before
-pub behind_silence : (out out' : Told) (h k l : Option (List CheckTrouble)) (Is : List ℕ → List CheckTrouble → Type 0) → Hears h k [] → Does out out' k l Is → Does out out' h l Is
+pub behind_silence : (out out' : Told) (h k l : Account CheckTrouble) (Is : List ℕ → List CheckTrouble → Type 0) → Hears h k [] → Does out out' k l Is → Does out out' h l Is
 behind_silence out out' h k l Is none d = record { text = d.text; told = d.told; writes = d.writes; tells = hears_trans h k l [] d.told none d.tells; is = d.is }
 
 -- nor behind
-pub before_silence : (out out' : Told) (h k l : Option (List CheckTrouble)) (Is : List ℕ → List CheckTrouble → Type 0) → Does out out' h k Is → Hears k l [] → Does out out' h l Is
+pub before_silence : (out out' : Told) (h k l : Account CheckTrouble) (Is : List ℕ → List CheckTrouble → Type 0) → Does out out' h k Is → Hears k l [] → Does out out' h l Is
 before_silence out out' h k l Is d none =
     record { text = d.text; told = d.told; writes = d.writes; tells = subst (λ (ts : List CheckTrouble). Hears h l ts) (append-nil d.told) (hears_trans h k l d.told [] d.tells none); is = d.is }
 
 module _ (s : Shelved) (check : Check) (t : Taken) (folder : Option (List ℕ)) where
   -- a walk is at its beginning
-  pub begun : (stops : List Stop) (old : Tally) (noted : Notes) (out : Told) (heard : Option (List CheckTrouble)) → IsSoFar s check t folder stops stops old noted out out heard heard old noted
+  pub begun : (stops : List Stop) (old : Tally) (noted : Notes) (out : Told) (heard : Account CheckTrouble) → IsSoFar s check t folder stops stops old noted out out heard heard old noted
   begun stops old noted out heard = record {
     all = [];
     leads = λ rest h. h;
@@ -36,7 +36,7 @@ module _ (s : Shelved) (check : Check) (t : Taken) (folder : Option (List ℕ)) 
   }
 
   -- it came to one thing more
-  pub further : (stops now after : List Stop) (x : Seen) (old between new : Tally) (noted notes noted' : Notes) (a b c : Told) (h k l m : Option (List CheckTrouble))
+  pub further : (stops now after : List Stop) (x : Seen) (old between new : Tally) (noted notes noted' : Notes) (a b c : Told) (h k l m : Account CheckTrouble)
       → IsSoFar s check t folder stops now old noted a b h k between notes → IsNext s now (Some x) after → Hears k l []
       → Does b c l m (λ text told. IsSeenStep s check t folder x between notes text told new noted') → IsSoFar s check t folder stops after old noted a c h m new noted'
   further stops now after x old between new noted notes noted' a b c h k l m far is silent d = record {
@@ -52,7 +52,7 @@ module _ (s : Shelved) (check : Check) (t : Taken) (folder : Option (List ℕ)) 
   }
 
   -- it is at its end
-  pub ended : (stops now after : List Stop) (old new : Tally) (noted noted' : Notes) (a b : Told) (h k l : Option (List CheckTrouble))
+  pub ended : (stops now after : List Stop) (old new : Tally) (noted noted' : Notes) (a b : Told) (h k l : Account CheckTrouble)
       → IsSoFar s check t folder stops now old noted a b h k new noted' → IsNext s now None after → Hears k l [] → IsWalked s check t folder stops old noted a b h l new noted'
   ended stops now after old new noted noted' a b h k l far is silent = record {
     all = far.all;

@@ -16,7 +16,7 @@ use Rattle.check_files.specs.Files.{IsFileStep}
 use Rattle.check_files.specs.Noted.{Notes}
 use Rattle.check_files.specs.Passing.{PassesOver, is_of_memory}
 use Rattle.check_files.specs.Tally.{Tally, passed_over, with_left_out}
-use Rattle.check_files.specs.Told.{Does, Hears}
+use Rattle.check_files.specs.Told.{Account, Does, Hears}
 
 -- ---- troubles
 
@@ -41,13 +41,13 @@ pub record ArePassed (ts : List CheckTrouble) (old : Tally) (text : List ℕ)
   pub have_memory : list_any is_of_memory ts ≡ false
 
 -- the same of one trouble, or of none
-abbrev pub PassesIf : Option CheckTrouble → Option (List CheckTrouble) →
-    Option (List CheckTrouble) → Tally → Tally → Type 0
+abbrev pub PassesIf : Option CheckTrouble → Account CheckTrouble →
+    Account CheckTrouble → Tally → Tally → Type 0
 PassesIf None heard heard' old new = Hears heard heard' [] × (new ≡ old)
 PassesIf (Some t) heard heard' old new = PassesOver t heard heard' old new
 
 -- the same of all of these
-pub record PassesAll (ts : List CheckTrouble) (heard heard' : Option (List CheckTrouble))
+pub record PassesAll (ts : List CheckTrouble) (heard heard' : Account CheckTrouble)
     (old new : Tally) : Type 0 where
   pub tells : Hears heard heard' ts
   pub counts : new ≡ passed_by ts old
@@ -92,7 +92,7 @@ pub data AreSteps (s : Shelved) (check : Check) (t : Taken) (folder : Option (Li
 -- all that a walk has yet to come to
 pub record IsWalked (s : Shelved) (check : Check) (t : Taken) (folder : Option (List ℕ))
     (stops : List Stop) (old : Tally) (noted : Notes) (out out' : Told)
-    (heard heard' : Option (List CheckTrouble)) (new : Tally) (noted' : Notes) : Type 0 where
+    (heard heard' : Account CheckTrouble) (new : Tally) (noted' : Notes) : Type 0 where
   pub all : List Seen
   pub sees : AreSeen s stops all
   pub does : Does out out' heard heard' (λ text told.
@@ -101,7 +101,7 @@ pub record IsWalked (s : Shelved) (check : Check) (t : Taken) (folder : Option (
 -- what a walk came to, behind which all that it has yet to come to is seen
 pub record IsSoFar (s : Shelved) (check : Check) (t : Taken) (folder : Option (List ℕ))
     (begun now : List Stop) (old : Tally) (noted : Notes) (out out' : Told)
-    (heard heard' : Option (List CheckTrouble)) (new : Tally) (noted' : Notes) : Type 0 where
+    (heard heard' : Account CheckTrouble) (new : Tally) (noted' : Notes) : Type 0 where
   pub all : List Seen
   pub leads : (rest : List Seen) → AreSeen s now rest → AreSeen s begun (all ++ rest)
   pub does : Does out out' heard heard' (λ text told.

@@ -76,6 +76,7 @@ fn is_there(folder: Option<&str>) -> bool
 }
 
 // Tells what runs that were killed left. None of it is removed, since another run may be at work on it.
+#[tactic(auto, using(crate::proofs::Seeing::none_left, crate::proofs::Seeing::one_more_left))]
 fn tell_left<T: Telling>(
     alloc: Global,
     left_behind: Vec<String>,

@@ -72,6 +72,7 @@ fn shown<T: Telling>(
 }
 
 // Checks what a walk comes to, if it is a file; else counts or notes it, or tells that it is passed over.
+#[tactic(auto, using(crate::proofs::Seeing::unheard, crate::proofs::Seeing::passed))]
 fn check_seen<S: Shelf, O: Sink, T: Telling>(
     alloc: Global,
     shelf: &S,

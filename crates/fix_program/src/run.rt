@@ -156,7 +156,7 @@ pub fn fix<S: Shelf, P: Progress>(
         (inside_of inside.entry.list.now inside.entry.extras.now) request.entry) }
     ensures passes { IfOk result (λ run. status_of run < 1 → AreAllAccepted (S.told shelf.now)
         (inside_of inside.entry.list.now inside.entry.extras.now) request.entry) }
-    ensures kept { OnOk result (P.kept progress.new ≡ P.kept progress.old) }
+    ensures kept { P.kept progress.new ≡ P.kept progress.old }
 {
     let catalogue = named_list(alloc, shelf, inside, request.list)?;
     let manner = Manner {
@@ -185,7 +185,7 @@ fn paths_fixed<S: Shelf, P: Progress>(
     ensures ends { IfOk result (λ ends. AllZip (IsPathEnd (S.told shelf.now)
         manner.entry.catalogue.now manner.entry.is_written wanted.entry) (map path_in paths.now)
         ends.items) }
-    ensures kept { OnOk result (P.kept progress.new ≡ P.kept progress.old) }
+    ensures kept { P.kept progress.new ≡ P.kept progress.old }
 {
     let mut fixed = Vec::new(alloc);
     for path in paths {
@@ -205,7 +205,7 @@ fn path_ends<S: Shelf, P: Progress>(
 ) -> Result<Vec<FileEnd>, AllocError>
     ensures ends { IfOk result (λ ends. ArePathEnds (S.told shelf.now) manner.entry.catalogue.now
         manner.entry.is_written wanted.entry path.now ends.items) }
-    ensures kept { OnOk result (P.kept progress.new ≡ P.kept progress.old) }
+    ensures kept { P.kept progress.new ≡ P.kept progress.old }
 {
     match reading_of(alloc, shelf, wanted, path) {
         Ok(reading) => read_ends(alloc, shelf, manner, reading, path, progress),
@@ -224,7 +224,7 @@ fn read_ends<S: Shelf, P: Progress>(
 ) -> Result<Vec<FileEnd>, AllocError>
     ensures ends { IfOk result (λ ends. AreReadEnds (S.told shelf.now) manner.entry.catalogue.now
         manner.entry.is_written reading path.now ends.items) }
-    ensures kept { OnOk result (P.kept progress.new ≡ P.kept progress.old) }
+    ensures kept { P.kept progress.new ≡ P.kept progress.old }
 {
     let parts = match reading {
         Reading::Tree(taken) => {

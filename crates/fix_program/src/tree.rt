@@ -49,7 +49,7 @@ pub(crate) fn tree_ends<S: Shelf, P: Progress>(
 ) -> Result<Vec<FileEnd>, AllocError>
     ensures ends { IfOk result (λ ends. AreTreeEnds (S.told shelf.now) manner.entry.catalogue.now
         manner.entry.is_written taken path.now ends.items) }
-    ensures kept { OnOk result (P.kept progress.new ≡ P.kept progress.old) }
+    ensures kept { P.kept progress.new ≡ P.kept progress.old }
 {
     match Walk::new(alloc, shelf, path) {
         Ok(walk) => walked(alloc, shelf, manner, taken, walk, progress),
@@ -78,7 +78,7 @@ fn walked<S: Shelf, P: Progress>(
 ) -> Result<Vec<FileEnd>, AllocError>
     ensures ends { IfOk result (λ ends. AreWalkEnds (S.told shelf.now) manner.entry.catalogue.now
         manner.entry.is_written taken (waiting walk) ends.items) }
-    ensures kept { OnOk result (P.kept progress.new ≡ P.kept progress.old) }
+    ensures kept { P.kept progress.new ≡ P.kept progress.old }
 {
     let mut ends = Vec::new(alloc);
     let mut files = 0;
@@ -101,7 +101,7 @@ fn shown<P: Progress>(
     seen: &Seen,
     progress: &mut P,
 ) -> Result<u64, AllocError>
-    ensures { OnOk result (P.kept progress.new ≡ P.kept progress.old) }
+    ensures { P.kept progress.new ≡ P.kept progress.old }
 {
     if !matches!(seen, Seen::File(_)) {
         return Ok(files);

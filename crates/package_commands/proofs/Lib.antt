@@ -1,4 +1,5 @@
 pub mod Steps
+pub mod Hearing
 pub mod Ends
 pub mod Diffs
 pub mod Choosing

@@ -6,7 +6,7 @@ use Rattle.std.specs.Prelude.{Option, None, Some, String, codes, is_some}
 use Rattle.std.specs.Io.KnownBytes.{Appends}
 use Rattle.std.proofs.KnownBytes.{Appends-nil}
 use Rattle.line_engine.specs.Device.{Told}
-use Rattle.check_files.specs.Told.{Does, Hears, Tells, Writes}
+use Rattle.check_files.specs.Told.{Account, Does, Hears, Tells, Writes}
 use Rattle.check_files.proofs.Doing.{heard_alone, nothing}
 use Rattle.choice_program.specs.declared.choosing.ChoiceTrouble.{ChoiceTrouble}
 use Rattle.list_program.specs.Named.{InsideBytes}
@@ -39,7 +39,7 @@ page_bytes_put out out' page v is writes = (v.items, writes, sym (ap bytes_of is
 pub no_bytes_put : (out : Told) (page : Option (Vec ℕ)) → page ≡ None → Writes out out (λ text. text ≡ bytes_of page)
 no_bytes_put out page is = ([], Appends-nil out.bytes, sym (ap bytes_of is))
 
-pub page_put : (out out' : Told) (h k : Option (List Trouble)) (n : ToldPage) → Hears h k (map missing_trouble n.missing.items) → Writes out out' (λ text. text ≡ bytes_of n.page)
+pub page_put : (out out' : Told) (h k : Account Trouble) (n : ToldPage) → Hears h k (map missing_trouble n.missing.items) → Writes out out' (λ text. text ≡ bytes_of n.page)
     → Does out out' h k (IsNoticeEnd (end.Told n) n.totals)
 page_put out out' h k n tells put = record {
   text = put.0;
@@ -51,35 +51,35 @@ page_put out out' h k n tells put = record {
 
 -- ---- why there is none
 
-unwritten : (out : Told) (h k : Option (List Trouble)) (e : End) → page_of e ≡ None → totals_of e ≡ None → Tells h k (IsEndTold e) → Does out out h k (IsNoticeEnd e None)
+unwritten : (out : Told) (h k : Account Trouble) (e : End) → page_of e ≡ None → totals_of e ≡ None → Tells h k (IsEndTold e) → Does out out h k (IsNoticeEnd e None)
 unwritten out h k e none no_totals p =
     heard_alone out h k p.told (IsNoticeEnd e None) p.tells (record { text_is = sym (ap bytes_in none); told_are = p.is; totals_are = sym no_totals })
 
-ended_as : (out out' : Told) (h k : Option (List Trouble)) (e x : End) (totals : Option (String Global)) → e ≡ x → Does out out' h k (IsNoticeEnd x totals) → Does out out' h k (IsNoticeEnd e totals)
+ended_as : (out out' : Told) (h k : Account Trouble) (e x : End) (totals : Option (String Global)) → e ≡ x → Does out out' h k (IsNoticeEnd x totals) → Does out out' h k (IsNoticeEnd e totals)
 ended_as out out' h k e x totals is d = subst (λ (y : End). Does out out' h k (IsNoticeEnd y totals)) (sym is) d
 
-pub left_out_end : (out : Told) (h : Option (List Trouble)) (e : End) → e ≡ end.LeftOut → Does out out h h (IsNoticeEnd e None)
+pub left_out_end : (out : Told) (h : Account Trouble) (e : End) → e ≡ end.LeftOut → Does out out h h (IsNoticeEnd e None)
 left_out_end out h e is = ended_as out out h h e end.LeftOut None is (nothing out h (IsNoticeEnd end.LeftOut None) (record { text_is = refl; told_are = refl; totals_are = refl }))
 
-pub no_choice_end : (out : Told) (h k : Option (List Trouble)) (e : End) (t : ChoiceTrouble) → e ≡ end.NoChoice t → Tells h k (AreUnchosenTold t) → Does out out h k (IsNoticeEnd e None)
+pub no_choice_end : (out : Told) (h k : Account Trouble) (e : End) (t : ChoiceTrouble) → e ≡ end.NoChoice t → Tells h k (AreUnchosenTold t) → Does out out h k (IsNoticeEnd e None)
 no_choice_end out h k e t is p = ended_as out out h k e (end.NoChoice t) None is (unwritten out h k (end.NoChoice t) refl refl p)
 
-pub no_folder_end : (out : Told) (h k : Option (List Trouble)) (e : End) (t : TextTrouble) → e ≡ end.NoFolder t → Tells h k (IsOnly (IsFolderTold t.path t.why))
+pub no_folder_end : (out : Told) (h k : Account Trouble) (e : End) (t : TextTrouble) → e ≡ end.NoFolder t → Tells h k (IsOnly (IsFolderTold t.path t.why))
     → Does out out h k (IsNoticeEnd e None)
 no_folder_end out h k e t is p = ended_as out out h k e (end.NoFolder t) None is (unwritten out h k (end.NoFolder t) refl refl p)
 
-pub no_own_end : (out : Told) (h k : Option (List Trouble)) (e : End) (ts : Vec TextTrouble) → e ≡ end.NoOwn ts → Tells h k (AreTextsTold (codes "a link out of the folder") ts.items)
+pub no_own_end : (out : Told) (h k : Account Trouble) (e : End) (ts : Vec TextTrouble) → e ≡ end.NoOwn ts → Tells h k (AreTextsTold (codes "a link out of the folder") ts.items)
     → Does out out h k (IsNoticeEnd e None)
 no_own_end out h k e ts is p = ended_as out out h k e (end.NoOwn ts) None is (unwritten out h k (end.NoOwn ts) refl refl p)
 
-pub no_general_end : (out : Told) (h k : Option (List Trouble)) (e : End) (ts : Vec TextTrouble) → e ≡ end.NoGeneral ts
+pub no_general_end : (out : Told) (h k : Account Trouble) (e : End) (ts : Vec TextTrouble) → e ≡ end.NoGeneral ts
     → Tells h k (AreTextsTold (codes "a link out of the folder; --follow reads it") ts.items) → Does out out h k (IsNoticeEnd e None)
 no_general_end out h k e ts is p = ended_as out out h k e (end.NoGeneral ts) None is (unwritten out h k (end.NoGeneral ts) refl refl p)
 
-pub not_utf8_end : (out : Told) (h k : Option (List Trouble)) (e : End) (name : String Global) → e ≡ end.NotUtf8 name → Tells h k (IsOnly (IsNotUtf8 name)) → Does out out h k (IsNoticeEnd e None)
+pub not_utf8_end : (out : Told) (h k : Account Trouble) (e : End) (name : String Global) → e ≡ end.NotUtf8 name → Tells h k (IsOnly (IsNotUtf8 name)) → Does out out h k (IsNoticeEnd e None)
 not_utf8_end out h k e name is p = ended_as out out h k e (end.NotUtf8 name) None is (unwritten out h k (end.NotUtf8 name) refl refl p)
 
-pub told_end : (out out' : Told) (h k : Option (List Trouble)) (e : End) (n : ToldPage) (totals : Option (String Global)) → e ≡ end.Told n
+pub told_end : (out out' : Told) (h k : Account Trouble) (e : End) (n : ToldPage) (totals : Option (String Global)) → e ≡ end.Told n
     → Does out out' h k (IsNoticeEnd (end.Told n) totals) → Does out out' h k (IsNoticeEnd e totals)
 told_end out out' h k e n totals is d = ended_as out out' h k e (end.Told n) totals is d
 

@@ -2,8 +2,8 @@
 use Rattle.std.proofs.Common.{◌≡◌, ℕ, List, [], ◌∷◌, ◌++◌, refl, string_bytes, subst, sym}
 use Rattle.std.specs.declared.alloc.Global.{Global}
 use Rattle.std.specs.declared.io.Error.{Error}
-use Rattle.std.specs.Prelude.{Option, String, codes}
-use Rattle.check_files.specs.Told.{Hears, Tells}
+use Rattle.std.specs.Prelude.{String, codes}
+use Rattle.check_files.specs.Told.{Account, Hears, Tells}
 use Rattle.check_files.proofs.Doing.{hears_nil, hears_trans}
 use Rattle.spdx_commands.proofs.Steps.{zip_push}
 use Rattle.spdx_troubles.specs.declared.trouble.Trouble.{Trouble}
@@ -16,10 +16,10 @@ use Rattle.package_commands.proofs.Choosing.{only_told}
 
 -- ---- one trouble
 
-pub folder_told : (h k : Option (List Trouble)) (path : String Global) (why : Obstacle) (t : Trouble) → IsFolderTold path why t → Hears h k (t ∷ []) → Tells h k (IsOnly (IsFolderTold path why))
+pub folder_told : (h k : Account Trouble) (path : String Global) (why : Obstacle) (t : Trouble) → IsFolderTold path why t → Hears h k (t ∷ []) → Tells h k (IsOnly (IsFolderTold path why))
 folder_told h k path why t is tells = only_told h k (IsFolderTold path why) t is tells
 
-pub not_utf8_told : (h k : Option (List Trouble)) (name told : String Global) → string_bytes told ≡ codes "is no UTF-8, which pages of HTML and of JSON are"
+pub not_utf8_told : (h k : Account Trouble) (name told : String Global) → string_bytes told ≡ codes "is no UTF-8, which pages of HTML and of JSON are"
     → Hears h k (trouble.Text name told ∷ []) → Tells h k (IsOnly (IsNotUtf8 name))
 not_utf8_told h k name told is tells = only_told h k (IsNotUtf8 name) (trouble.Text name told) (not_utf8 is) tells
 
@@ -41,10 +41,10 @@ other_told name other not = refl
 
 -- ---- each text
 
-pub none_told : (h : Option (List Trouble)) (link : List ℕ) → Tells h h (AreTextsTold link [])
+pub none_told : (h : Account Trouble) (link : List ℕ) → Tells h h (AreTextsTold link [])
 none_told h link = record { told = []; tells = hears_nil h; is = tt }
 
-pub text_told : (h k l : Option (List Trouble)) (link : List ℕ) (xs : List TextTrouble) (x : TextTrouble) (t : Trouble) → Tells h k (AreTextsTold link xs) → IsTextTold link x t
+pub text_told : (h k l : Account Trouble) (link : List ℕ) (xs : List TextTrouble) (x : TextTrouble) (t : Trouble) → Tells h k (AreTextsTold link xs) → IsTextTold link x t
     → Hears k l (t ∷ []) → Tells h l (AreTextsTold link (xs ++ x ∷ []))
 text_told h k l link xs x t p is tells = record {
   told = p.told ++ t ∷ [];

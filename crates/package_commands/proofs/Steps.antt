@@ -6,7 +6,7 @@ use Rattle.std.specs.Borrow.{Bor}
 use Rattle.std.specs.List.{filter_map}
 use Rattle.std.proofs.lemmas.List.{map-append, take_more}
 use Rattle.std.proofs.lemmas.List.Elements.{filter-append, filter_map-append}
-use Rattle.check_files.specs.Told.{Hears, Tells}
+use Rattle.check_files.specs.Told.{Account, Hears, Tells}
 use Rattle.check_files.proofs.Doing.{hears_nil, hears_trans}
 use Rattle.general_texts.specs.Held.{each_first, name_in}
 use Rattle.general_texts.proofs.Firsts.{first_more}
@@ -48,10 +48,10 @@ guessed_more files word i d f old new before lt at more =
 
 -- ---- words that are told
 
-pub none_told : (files : List Listed) (heard : Option (List Trouble)) → Tells heard heard (AreWordsTold files [])
+pub none_told : (files : List Listed) (heard : Account Trouble) → Tells heard heard (AreWordsTold files [])
 none_told files heard = record { told = []; tells = hears_nil heard; is = tt }
 
-pub word_told : (files : List Listed) (h k l : Option (List Trouble)) (words : List (Bor (List ℕ))) (word : Bor (List ℕ)) (name : String Global)
+pub word_told : (files : List Listed) (h k l : Account Trouble) (words : List (Bor (List ℕ))) (word : Bor (List ℕ)) (name : String Global)
     → Tells h k (AreWordsTold files (map name_in words)) → string_bytes name ≡ which (guessed_as files word.now) → Hears k l (trouble.Guessed name word ∷ [])
     → Tells h l (AreWordsTold files (map name_in (words ++ word ∷ [])))
 word_told files h k l words word name p is tells = record {

@@ -1,5 +1,5 @@
 -- What `diff` writes and tells, and with which status it ends.
-use Rattle.std.specs.Prelude.{◌≡◌, ℕ, Bool, true, false, List, [], ◌++◌, Option, None, Some, String, codes, map, nat_lt, option_map, string_bytes, if◌then◌else◌}
+use Rattle.std.specs.Prelude.{◌≡◌, ◌==◌, ℕ, Bool, true, false, List, [], ◌++◌, Option, None, Some, String, codes, map, nat_lt, option_map, string_bytes, if◌then◌else◌}
 use Rattle.std.specs.declared.alloc.Global.{Global}
 use Rattle.std.specs.Fmt.{decimal}
 use Rattle.changes_program.specs.Run.{IsRun, status_of}
@@ -19,15 +19,19 @@ use Rattle.spdx_troubles.specs.declared.trouble.Trouble.{Trouble}
 
 -- ---- the line of totals
 
+abbrev pub packages_word : ℕ → List ℕ
+packages_word count = if count == 1 then codes "package" else codes "packages"
+
 abbrev pub packages_text : Totals → List ℕ
 packages_text t =
-    decimal t.before ++ (codes " packages before, " ++ (decimal t.now ++ (codes " now: " ++
-    (decimal t.came ++ (codes " came, " ++ (decimal t.went ++ codes " went"))))))
+    decimal t.before ++ (codes " " ++ (packages_word t.before ++ (codes " before, " ++
+    (decimal t.now ++ (codes " now: " ++ (decimal t.came ++ (codes " came, " ++
+    (decimal t.went ++ codes " went"))))))))
 
 abbrev pub changed_text : Totals → List ℕ
 changed_text t =
     codes ", " ++ (decimal t.changed ++ (codes " changed license (" ++
-    (decimal t.more ++ codes " ask for more)")))
+    (decimal t.more ++ codes " ask for more or other)")))
 
 -- nothing where none is refused
 abbrev pub refused_text : ℕ → List ℕ

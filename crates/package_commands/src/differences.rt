@@ -60,7 +60,8 @@ pub fn diff<S: Shelf, O: Sink, T: Listener>(
         changed)) }
     ensures err { IfErr result (IsStopped gate_trouble (IsNoRun (S.told shelf.now)
         (inside_of inside.entry.list.now inside.entry.extras.now) heirs.now asked.entry.run)
-        (O.told output.old) (O.told output.new)) }
+        (O.told output.old) (O.told output.new)
+        (T.heard listener.new ≡ T.heard listener.old)) }
     ensures read { IfOk result (λ changed. changed.status < 2 →
         AreBothRead (S.told shelf.now) asked.entry.run) }
     ensures passes { IfOk result (λ changed. changed.status < 1 → (path : List ℕ) →
@@ -140,6 +141,12 @@ fn totals_text(alloc: Global, totals: Totals) -> Result<String, AllocError>
     Ok(line)
 }
 
+fn packages_word(count: usize) -> &'static str
+    ensures { result.now ≡ spec.packages_word count }
+{
+    if count == 1 { "package" } else { "packages" }
+}
+
 // How many packages there are, and how many came and went.
 fn put_packages(line: &mut String, totals: Totals) -> Result<(), AllocError>
     ensures { OnOk result (string_bytes line.new
@@ -152,9 +159,10 @@ fn put_packages(line: &mut String, totals: Totals) -> Result<(), AllocError>
         went,
         ..
     } = totals;
+    let word = packages_word(before);
     write!(
         line,
-        "{before} packages before, {now} now: {came} came, {went} went"
+        "{before} {word} before, {now} now: {came} came, {went} went"
     )
 }
 
@@ -164,7 +172,10 @@ fn put_changed(line: &mut String, totals: Totals) -> Result<(), AllocError>
         ≡ string_bytes line.old ++ spec.changed_text totals) }
 {
     let Totals { changed, more, .. } = totals;
-    write!(line, ", {changed} changed license ({more} ask for more)")
+    write!(
+        line,
+        ", {changed} changed license ({more} ask for more or other)"
+    )
 }
 
 // How many the policy refuses, if it refuses some.

@@ -53,7 +53,8 @@ pub fn gate<S: Shelf, O: Sink, T: Listener>(
         status)) }
     ensures err { IfErr result (IsStopped gate_trouble (IsNoRun (S.told shelf.now)
         (inside_of inside.entry.list.now inside.entry.extras.now) heirs.now asked.entry.run)
-        (O.told output.old) (O.told output.new)) }
+        (O.told output.old) (O.told output.new)
+        (T.heard listener.new ≡ T.heard listener.old)) }
     ensures passes { IfOk result (λ status. status < 1 →
         option_copied asked.entry.run.baseline ≡ None →
         AreAllAllowed (S.told shelf.now) (inside_of inside.entry.list.now inside.entry.extras.now)
@@ -77,6 +78,7 @@ pub fn gate<S: Shelf, O: Sink, T: Listener>(
 /// # Errors
 ///
 /// Memory was refused.
+#[tactic(auto, using(crate::proofs::Hearing::none_heard, crate::proofs::Hearing::one_more_heard))]
 pub(crate) fn tell_left_out<T: Listener>(
     alloc: Global,
     left_out: Vec<FileFault>,

@@ -57,7 +57,8 @@ pub fn notice<S: Shelf, O: Sink, T: Listener>(
         told noticed)) }
     ensures err { IfErr result (IsStopped notice_trouble (IsNoRun (S.told shelf.now)
         (inside_of inside.entry.list.now inside.entry.extras.now) request.entry)
-        (O.told output.old) (O.told output.new)) }
+        (O.told output.old) (O.told output.new)
+        (T.heard listener.new ≡ T.heard listener.old)) }
     ensures passes { IfOk result (λ noticed. noticed.status < 1 → Does (O.told output.old)
         (O.told output.new) (T.heard listener.old) (T.heard listener.new)
         (IsPage (S.told shelf.now) (inside_of inside.entry.list.now inside.entry.extras.now)
@@ -139,6 +140,7 @@ fn put_page<O: Sink, T: Listener>(
     Ok(totals)
 }
 
+#[tactic(auto, using(crate::proofs::Hearing::none_heard, crate::proofs::Hearing::one_more_heard))]
 fn tell_missing<T: Listener>(
     alloc: Global,
     missing: Vec<Missing>,

@@ -1,5 +1,5 @@
 -- What was left beside the files at paths, one after the other.
-use Rattle.std.proofs.Common.{◌≡◌, ◌∙◌, refl, sym, ap, ℕ, ◌+◌, ◌<◌, ◌||◌, Bool, arith, true, false, List, [], ◌∷◌, ◌++◌, Option, append-nil, get_or, length, map, subst, take}
+use Rattle.std.proofs.Common.{◌≡◌, ◌∙◌, refl, sym, ap, ℕ, ◌+◌, ◌<◌, ◌||◌, Bool, arith, true, false, List, [], ◌∷◌, ◌++◌, append-nil, get_or, length, map, subst, take}
 use Rattle.std.specs.Prelude.{IsPermutation, IsSorted, String, bytes_eq, cond, flat_map, not, string_bytes}
 use Rattle.std.specs.declared.alloc.Global.{Global}
 use Rattle.std.specs.String.{string_cmp}
@@ -11,7 +11,7 @@ use Rattle.std.proofs.lemmas.List.{map_more}
 use Rattle.std.proofs.lemmas.List.Folds.{list_any-append}
 use Rattle.std.proofs.lemmas.List.Sorted.{IsPermutation-map}
 use Rattle.std.proofs.lemmas.Map.Text.{is_eq-slice_cmp}
-use Rattle.check_files.specs.Told.{Hears, Tells}
+use Rattle.check_files.specs.Told.{Account, Hears, Tells}
 use Rattle.check_files.proofs.Doing.{hears_nil, hears_trans}
 use Rattle.fix_program.specs.Runs.{path_in}
 use Rattle.shelves.specs.Shelf.{Named, Shelved}
@@ -27,14 +27,14 @@ pub record AreBesideSoFar (s : Shelved) (known : BTreeSet (Bor (List ℕ))) (pat
   pub are : AreBeside s paths folders told
   pub knows : AreKnown known folders
 
-pub begun : (s : Shelved) (known : BTreeSet (Bor (List ℕ))) (heard : Option (List Trouble)) → known.keys ≡ [] → Tells heard heard (AreBesideSoFar s known [])
+pub begun : (s : Shelved) (known : BTreeSet (Bor (List ℕ))) (heard : Account Trouble) → known.keys ≡ [] → Tells heard heard (AreBesideSoFar s known [])
 begun s known heard empty = record {
   told = [];
   tells = hears_nil heard;
   is = record { folders = []; are = none; knows = λ x. ap (list_any (λ (k : Bor (List ℕ)). is_eq (text_cmp x k))) empty };
 }
 
-pub further : (s : Shelved) (old new : BTreeSet (Bor (List ℕ))) (paths : List (Bor (List ℕ))) (i : ℕ) (d : Bor (List ℕ)) (h k l : Option (List Trouble)) → i < length paths
+pub further : (s : Shelved) (old new : BTreeSet (Bor (List ℕ))) (paths : List (Bor (List ℕ))) (i : ℕ) (d : Bor (List ℕ)) (h k l : Account Trouble) → i < length paths
     → Tells h k (AreBesideSoFar s old (map path_in (take i paths)))
     → ((known : List (List ℕ)) → AreKnown old known → Tells k l (TellsBeside s old new known (get_or paths i d).now))
     → Tells h l (AreBesideSoFar s new (map path_in (take (i + 1) paths)))
@@ -82,13 +82,13 @@ same_known known folders knows = subst (AreKnown known) (sym (append-nil folders
 -- ---- a path
 
 -- no file is there
-pub nothing_beside : (s : Shelved) (known : BTreeSet (Bor (List ℕ))) (folders : List (List ℕ)) (path : List ℕ) (heard : Option (List Trouble))
+pub nothing_beside : (s : Shelved) (known : BTreeSet (Bor (List ℕ))) (folders : List (List ℕ)) (path : List ℕ) (heard : Account Trouble)
     → IsNoFile s path → AreKnown known folders → Tells heard heard (TellsBeside s known known folders path)
 nothing_beside s known folders path heard absent knows =
     record { told = []; tells = hears_nil heard; is = record { more = []; is = no_file absent; keeps = same_known known folders knows } }
 
 -- of its folder it is told already
-pub told_already : (s : Shelved) (old new : BTreeSet (Bor (List ℕ))) (folders : List (List ℕ)) (path : List ℕ) (folder : Bor (List ℕ)) (heard : Option (List Trouble))
+pub told_already : (s : Shelved) (old new : BTreeSet (Bor (List ℕ))) (folders : List (List ℕ)) (path : List ℕ) (folder : Bor (List ℕ)) (heard : Account Trouble)
     → s.IsFolder path false → folder.now ≡ folder_of path → contains text_cmp old folder ≡ true → new.keys ≡ old.keys → AreKnown old folders
     → Tells heard heard (TellsBeside s old new folders path)
 told_already s old new folders path folder heard is same has keys knows = record {
@@ -102,7 +102,7 @@ told_already s old new folders path folder heard is same has keys knows = record
 }
 
 -- it is told now
-pub told_now : (s : Shelved) (old new : BTreeSet (Bor (List ℕ))) (folders : List (List ℕ)) (path : List ℕ) (folder : Bor (List ℕ)) (left : List (String Global)) (heard heard' : Option (List Trouble))
+pub told_now : (s : Shelved) (old new : BTreeSet (Bor (List ℕ))) (folders : List (List ℕ)) (path : List ℕ) (folder : Bor (List ℕ)) (left : List (String Global)) (heard heard' : Account Trouble)
     → s.IsFolder path false → folder.now ≡ folder_of path → contains text_cmp old folder ≡ false
     → ((x : Bor (List ℕ)) → contains text_cmp new x ≡ cond (is_eq (text_cmp folder x)) true (contains text_cmp old x))
     → AreLeftIn s folder.now left → Hears heard heard' (map trouble.LeftBehind left) → AreKnown old folders

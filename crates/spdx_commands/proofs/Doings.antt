@@ -1,5 +1,5 @@
 -- What `fix` does, one thing behind the other.
-use Rattle.std.proofs.Common.{◌≡◌, ◌∙◌, refl, sym, ap, subst, inl, inr, ℕ, ◌||◌, ◌&&◌, Bool, true, false, List, [], ◌∷◌, ◌++◌, Option, String, append_assoc, append-nil, arith, map, string_bytes}
+use Rattle.std.proofs.Common.{◌≡◌, ◌∙◌, refl, sym, ap, subst, inl, inr, ℕ, ◌||◌, ◌&&◌, Bool, true, false, List, [], ◌∷◌, ◌++◌, String, append_assoc, append-nil, arith, map, string_bytes}
 use Rattle.std.specs.Prelude.{Result, Ok, Err, IfErr, IfOk, OnOk, IsErrAnd, flat_map, max, if◌then◌else◌}
 use Rattle.std.specs.declared.alloc.Global.{Global}
 use Rattle.std.specs.declared.io.Error.{Error}
@@ -8,7 +8,7 @@ use Rattle.std.proofs.KnownBytes.{Appends-nil, Appends-trans}
 use Rattle.std.proofs.lemmas.Grind.{flat_map-append}
 use Rattle.std.proofs.lemmas.List.Folds.{list_any-append}
 use Rattle.line_engine.specs.Device.{Told}
-use Rattle.check_files.specs.Told.{Hears, Tells}
+use Rattle.check_files.specs.Told.{Account, Hears, Tells}
 use Rattle.check_files.proofs.Doing.{hears_nil, hears_trans}
 use Rattle.shelves.specs.Shelf.{Shelved}
 use Rattle.shelves.specs.declared.shelf.Stamp.{Stamp}
@@ -89,7 +89,7 @@ idle x nodes Is h = record {
 }
 
 -- a text is written
-pub written : (out out' : Told) (h : Option (List Trouble)) (k : Option (List Attempt)) (nodes : Nodes) (text : List ℕ) (Is : List Attempt → Done → Type 0)
+pub written : (out out' : Told) (h : Account Trouble) (k : Account Attempt) (nodes : Nodes) (text : List ℕ) (Is : List Attempt → Done → Type 0)
     → Appends out.bytes out'.bytes text → ((before : List Attempt) → Is before (writing text))
     → Did (stand out h k) (stand out' h k) (Comes nodes nodes 0 Is)
 written out out' h k nodes text Is appends is = record {
@@ -103,7 +103,7 @@ written out out' h k nodes text Is appends is = record {
 one_worst : (u : Trouble) (status : ℕ) → status ≡ status_of u → status ≡ worst (u ∷ [])
 one_worst u status e = omega (arith, e)
 
-left_out_by : (out : Told) (h l : Option (List Trouble)) (k : Option (List Attempt)) (nodes : Nodes) (t : FixTrouble) (status : ℕ) (heard : List Trouble)
+left_out_by : (out : Told) (h l : Account Trouble) (k : Account Attempt) (nodes : Nodes) (t : FixTrouble) (status : ℕ) (heard : List Trouble)
     → Hears h l heard → IsLeftOutTold t status heard → Did (stand out h k) (stand out l k) (Comes nodes nodes status (λ _. IsLeftOut t))
 left_out_by out h l k nodes t status heard tells (told u is status_is) = record {
   done = telling (u ∷ []);
@@ -118,7 +118,7 @@ left_out_by out h l k nodes t status heard tells (told u is status_is) = record 
 }
 
 -- it is told why a file is left out
-pub left_out_told : (out : Told) (h l : Option (List Trouble)) (k : Option (List Attempt)) (nodes : Nodes) (t : FixTrouble) (status : ℕ)
+pub left_out_told : (out : Told) (h l : Account Trouble) (k : Account Attempt) (nodes : Nodes) (t : FixTrouble) (status : ℕ)
     → Tells h l (IsLeftOutTold t status) → Did (stand out h k) (stand out l k) (Comes nodes nodes status (λ _. IsLeftOut t))
 left_out_told out h l k nodes t status p = left_out_by out h l k nodes t status p.told p.tells p.is
 
@@ -127,17 +127,17 @@ loss_zero path loss.Nothing = refl
 loss_zero path loss.SetId = refl
 
 -- its bytes were tried
-abbrev pub IsTried : Option (List Attempt) → Option (List Attempt) → Replacement → Result Loss Obstacle → Type 0
+abbrev pub IsTried : Account Attempt → Account Attempt → Replacement → Result Loss Obstacle → Type 0
 IsTried k m r answer = Hears k m (noted (attempt (string_bytes r.path) r.stamp r.bytes.items answer))
 
-pub tried : (k m : Option (List Attempt)) (r : Replacement) (answer : Result Loss Obstacle) (path bytes : List ℕ) → path ≡ string_bytes r.path → bytes ≡ r.bytes.items
+pub tried : (k m : Account Attempt) (r : Replacement) (answer : Result Loss Obstacle) (path bytes : List ℕ) → path ≡ string_bytes r.path → bytes ≡ r.bytes.items
     → Hears k m (noted (attempt path r.stamp bytes answer)) → IsTried k m r answer
 tried k m r answer path bytes is same h =
     subst (λ (b : List ℕ). Hears k m (noted (attempt (string_bytes r.path) r.stamp b answer))) same
     (subst (λ (p : List ℕ). Hears k m (noted (attempt p r.stamp bytes answer))) is h)
 
 -- the bytes take the file's place
-pub placed : (out : Told) (h l : Option (List Trouble)) (k m : Option (List Attempt)) (old new : Nodes) (r : Replacement) (answer : Result Loss Obstacle) (x : Loss)
+pub placed : (out : Told) (h l : Account Trouble) (k m : Account Attempt) (old new : Nodes) (r : Replacement) (answer : Result Loss Obstacle) (x : Loss)
     → answer ≡ Ok x → IsTried k m r answer → Hears h l (told_of r.path (Ok x))
     → ((other : Stamp) → has_node new other ≡ (same_node r.stamp other || has_node old other))
     → Did (stand out h k) (stand out l m) (Comes old new 0 (λ _. IsPlaced r))
@@ -160,7 +160,7 @@ noted_on path stamp bytes (obstacle.Owner x) e = refl
 noted_on path stamp bytes (obstacle.Failed x) e = absurd (let bad : true ≡ false = e in cc)
 
 -- they don't, and it is told why
-pub hindered : (h l : Option (List Trouble)) (k m : Option (List Attempt)) (nodes : Nodes) (r : Replacement) (answer : Result Loss Obstacle) (o : Obstacle) (result : Result ℕ Trouble)
+pub hindered : (h l : Account Trouble) (k m : Account Attempt) (nodes : Nodes) (r : Replacement) (answer : Result Loss Obstacle) (o : Obstacle) (result : Result ℕ Trouble)
     → answer ≡ Err o → IsTried k m r answer
     → IfOk result (λ status. status ≡ status_of (hindrance r.path o)) → OnOk result (Hears h l (hindrance r.path o ∷ [])) → OnOk result (is_end (Err o) ≡ false)
     → IfOk result (λ status. (out : Told) → Did (stand out h k) (stand out l m) (Comes nodes nodes status (λ _. IsPlaced r)))
@@ -193,14 +193,14 @@ module _ (old new : Nodes) (Was Is : List Attempt → Done → Type 0) (so : (be
   }
 
   -- of the result of a call, whatever the output is
-  pub result_known : (h l : Option (List Trouble)) (k m : Option (List Attempt)) (r : Result ℕ Trouble)
+  pub result_known : (h l : Account Trouble) (k m : Account Attempt) (r : Result ℕ Trouble)
       → IfOk r (λ status. (out : Told) → Did (stand out h k) (stand out l m) (Comes old new status Was))
       → IfOk r (λ status. (out : Told) → Did (stand out h k) (stand out l m) (Comes old new status Is))
   result_known h l k m (Ok status) p = λ out. known (stand out h k) (stand out l m) status (p out)
   result_known h l k m (Err t) p = tt
 
   -- at this output
-  pub result_at : (out : Told) (h l : Option (List Trouble)) (k m : Option (List Attempt)) (r : Result ℕ Trouble)
+  pub result_at : (out : Told) (h l : Account Trouble) (k m : Account Attempt) (r : Result ℕ Trouble)
       → IfOk r (λ status. (out : Told) → Did (stand out h k) (stand out l m) (Comes old new status Was))
       → IfOk r (λ status. Did (stand out h k) (stand out l m) (Comes old new status Is))
   result_at out h l k m (Ok status) p = known (stand out h k) (stand out l m) status (p out)
@@ -211,7 +211,7 @@ module _ (old new : Nodes) (Was Is : List Attempt → Done → Type 0) (so : (be
   result_of a b (Err t) p = tt
 
 -- what is told of a file that is left out
-pub told_left_out : {E : Type 0} (h l : Option (List Trouble)) (t : FixTrouble) (u : Trouble) (r : Result ℕ E) → IsFixTrouble t u → IfOk r (λ status. status ≡ status_of u)
+pub told_left_out : {E : Type 0} (h l : Account Trouble) (t : FixTrouble) (u : Trouble) (r : Result ℕ E) → IsFixTrouble t u → IfOk r (λ status. status ≡ status_of u)
     → OnOk r (Hears h l (u ∷ [])) → IfOk r (λ status. Tells h l (IsLeftOutTold t status))
 told_left_out h l t u (Ok status) is status_is tells = record { told = u ∷ []; tells = tells; is = told u is status_is }
 told_left_out h l t u (Err e) is status_is tells = tt
@@ -243,23 +243,23 @@ passed_by path obstacle.Linked t is over = refl
 passed_by path (obstacle.Owner e) t is over = refl
 passed_by path (obstacle.Failed e) t is over = absurd (never_passed path e (is_of_memory e) (sym (ap is_passed_over is) ∙ over))
 
-pub memory_off : (k m : Option (List Attempt)) (r : Result ℕ Trouble) → IsErrAnd r (λ t. t ≡ trouble.Memory) → IfErr r (λ t. (out : Told) → IsBrokenOff out k m t)
+pub memory_off : (k m : Account Attempt) (r : Result ℕ Trouble) → IsErrAnd r (λ t. t ≡ trouble.Memory) → IfErr r (λ t. (out : Told) → IsBrokenOff out k m t)
 memory_off k m (Ok x) h = tt
 memory_off k m (Err t) h = λ out. subst (IsBrokenOff out k m) (sym h) (broken trouble.Memory tt)
 
-pub memory_at : (out : Told) (k m : Option (List Attempt)) (r : Result ℕ Trouble) → IsErrAnd r (λ t. t ≡ trouble.Memory) → IfErr r (IsBrokenOff out k m)
+pub memory_at : (out : Told) (k m : Account Attempt) (r : Result ℕ Trouble) → IsErrAnd r (λ t. t ≡ trouble.Memory) → IfErr r (IsBrokenOff out k m)
 memory_at out k m (Ok x) h = tt
 memory_at out k m (Err t) h = subst (IsBrokenOff out k m) (sym h) (broken trouble.Memory tt)
 
-pub output_at : (out : Told) (k m : Option (List Attempt)) → out.has_failed ≡ true → (r : Result ℕ Trouble) → IsErrAnd r (λ t. t ≡ trouble.Output) → IfErr r (IsBrokenOff out k m)
+pub output_at : (out : Told) (k m : Account Attempt) → out.has_failed ≡ true → (r : Result ℕ Trouble) → IsErrAnd r (λ t. t ≡ trouble.Output) → IfErr r (IsBrokenOff out k m)
 output_at out k m failed (Ok x) h = tt
 output_at out k m failed (Err t) h = subst (IsBrokenOff out k m) (sym h) (broken trouble.Output failed)
 
-pub off_at : (out : Told) (k m : Option (List Attempt)) (r : Result ℕ Trouble) → IfErr r (λ t. (out : Told) → IsBrokenOff out k m t) → IfErr r (IsBrokenOff out k m)
+pub off_at : (out : Told) (k m : Account Attempt) (r : Result ℕ Trouble) → IfErr r (λ t. (out : Told) → IsBrokenOff out k m t) → IfErr r (IsBrokenOff out k m)
 off_at out k m (Ok x) h = tt
 off_at out k m (Err t) h = h out
 
-noted_end : (k m : Option (List Attempt)) (path : String Global) (stamp : Stamp) (bytes : List ℕ) (o : Obstacle) (t : Trouble)
+noted_end : (k m : Account Attempt) (path : String Global) (stamp : Stamp) (bytes : List ℕ) (o : Obstacle) (t : Trouble)
     → Hears k m (noted (attempt (string_bytes path) stamp bytes (Err o))) → IsUnwritten path o t → (out : Told) → IsBrokenOff out k m t
 noted_end k m path stamp bytes obstacle.Changed t tries is out = subst (IsBrokenOff out k m) (sym is) (broken trouble.Memory tt)
 noted_end k m path stamp bytes obstacle.Linked t tries is out = subst (IsBrokenOff out k m) (sym is) (broken trouble.Memory tt)
@@ -271,7 +271,7 @@ noted_end k m path stamp bytes (obstacle.Failed e) t tries (inr is) out =
     (unwritten [] path stamp bytes e (subst (λ (b : Bool). Hears k m (if b then [] else a ∷ [])) is.0 tries))
 
 -- the file can't be written
-pub unwritten_off : (k m : Option (List Attempt)) (r : Replacement) (answer : Result Loss Obstacle) (o : Obstacle) (result : Result ℕ Trouble)
+pub unwritten_off : (k m : Account Attempt) (r : Replacement) (answer : Result Loss Obstacle) (o : Obstacle) (result : Result ℕ Trouble)
     → answer ≡ Err o → IsTried k m r answer → IfErr result (IsUnwritten r.path o)
     → IfErr result (λ t. (out : Told) → IsBrokenOff out k m t)
 unwritten_off k m r answer o (Ok x) is tries off = tt
@@ -279,17 +279,17 @@ unwritten_off k m r answer o (Err t) is tries off =
     noted_end k m r.path r.stamp r.bytes.items o t (subst (IsTried k m r) is tries) off
 
 -- behind others that were tried
-pub off_behind : (out : Told) (k l m : Option (List Attempt)) (tried : List Attempt) (t : Trouble) → Hears k l tried → IsBrokenOff out l m t → IsBrokenOff out k m t
+pub off_behind : (out : Told) (k l m : Account Attempt) (tried : List Attempt) (t : Trouble) → Hears k l tried → IsBrokenOff out l m t → IsBrokenOff out k m t
 off_behind out k l m tried t first (broken u is) = broken u is
 off_behind out k l m tried t first (unwritten before path stamp bytes e last) =
     let a = attempt (string_bytes path) stamp bytes (Err (obstacle.Failed e)) in
     unwritten (tried ++ before) path stamp bytes e (subst (Hears k m) (sym (append_assoc tried before (a ∷ []))) (hears_trans k l m tried (before ++ a ∷ []) first last))
 
-pub same_off : (out : Told) (k m : Option (List Attempt)) (part : Trouble) → IsBrokenOff out k m part → (r : Result ℕ Trouble) → IsErrAnd r (λ t. t ≡ part) → IfErr r (IsBrokenOff out k m)
+pub same_off : (out : Told) (k m : Account Attempt) (part : Trouble) → IsBrokenOff out k m part → (r : Result ℕ Trouble) → IsErrAnd r (λ t. t ≡ part) → IfErr r (IsBrokenOff out k m)
 same_off out k m part is (Ok x) h = tt
 same_off out k m part is (Err t) h = subst (IsBrokenOff out k m) (sym h) is
 
-pub part_off : (out : Told) (k l m : Option (List Attempt)) (tried : List Attempt) (part : Trouble) → Hears k l tried → IsBrokenOff out l m part
+pub part_off : (out : Told) (k l m : Account Attempt) (tried : List Attempt) (part : Trouble) → Hears k l tried → IsBrokenOff out l m part
     → (r : Result ℕ Trouble) → IsErrAnd r (λ t. t ≡ part) → IfErr r (IsBrokenOff out k m)
 part_off out k l m tried part first is (Ok x) h = tt
 part_off out k l m tried part first is (Err t) h = subst (IsBrokenOff out k m) (sym h) (off_behind out k l m tried part first is)
@@ -336,7 +336,7 @@ module _ (s : Shelved) (c : Rows) where
       })
 
   -- what was left behind is told last
-  pub path_done : (a b : Stand) (l : Option (List Trouble)) (x : SoFar) (o : Nodes) (p : PathEnd) (status : ℕ) (left : List (String Global))
+  pub path_done : (a b : Stand) (l : Account Trouble) (x : SoFar) (o : Nodes) (p : PathEnd) (status : ℕ) (left : List (String Global))
       → Did a b (Comes x.replaced o status (λ before. AreEndsDone s c before p.ends.items)) → Hears b.heard l (map trouble.LeftBehind left)
       → left ≡ x.left.items ++ flat_map left_behind p.ends.items
       → Did a (stand b.output l b.tried) (λ d. x.left.items ≡ [] → Comes x.replaced o status (λ before. IsPathDone s c before p) d)

@@ -1,9 +1,9 @@
 -- The command `fix`.
-use Rattle.std.proofs.Common.{◌≡◌, refl, sym, subst, ℕ, ◌<◌, false, List, [], ◌++◌, Option, arith, map}
+use Rattle.std.proofs.Common.{◌≡◌, refl, sym, subst, ℕ, ◌<◌, false, List, [], ◌++◌, arith, map}
 use Rattle.std.specs.Prelude.{All, Result, Ok, Err, IfErr, IsErrAnd, max}
 use Rattle.std.proofs.KnownBytes.{Appends-nil, Appends-trans}
 use Rattle.line_engine.specs.Device.{Told}
-use Rattle.check_files.specs.Told.{Hears, Tells}
+use Rattle.check_files.specs.Told.{Account, Hears, Tells}
 use Rattle.check_files.proofs.Doing.{hears_nil, hears_trans}
 use Rattle.shelves.specs.Shelf.{Shelved}
 use Rattle.fix_program.specs.Runs as plan
@@ -26,10 +26,10 @@ use Rattle.spdx_troubles.specs.declared.trouble.Trouble.TheVariants as trouble
 module _ (s : Shelved) (inside : InsideBytes) (a : Request) where
   -- ---- why it stops
 
-  pub not_begun : (x : Stand) (l : Option (List Trouble)) (cause : FixFault) → IsNoRun s inside a cause → (r : Result ℕ Trouble) → IsErrAnd r (λ t. t ≡ fix_fault_trouble cause)
+  pub not_begun : (x : Stand) (l : Account Trouble) (cause : FixFault) → l ≡ x.heard → IsNoRun s inside a cause → (r : Result ℕ Trouble) → IsErrAnd r (λ t. t ≡ fix_fault_trouble cause)
       → IfErr r (IsFixStopped s inside a x (stand x.output l x.tried))
-  not_begun x l cause is (Ok y) h = tt
-  not_begun x l cause is (Err t) h = subst (IsFixStopped s inside a x (stand x.output l x.tried)) (sym h) (caused cause is refl refl)
+  not_begun x l cause same is (Ok y) h = tt
+  not_begun x l cause same is (Err t) h = subst (IsFixStopped s inside a x (stand x.output l x.tried)) (sym h) (caused cause is refl same refl)
 
   pub part_broken : (x y : Stand) (part : Trouble) → IsBrokenOff y.output x.tried y.tried part → (r : Result ℕ Trouble) → IsErrAnd r (λ t. t ≡ part) → IfErr r (IsFixStopped s inside a x y)
   part_broken x y part is (Ok z) h = tt
@@ -43,14 +43,14 @@ module _ (s : Shelved) (inside : InsideBytes) (a : Request) where
   greatest : (run told status : ℕ) (xs ys : List Trouble) → told ≡ worst xs → worst ys ≡ 0 → status ≡ max run told → status ≡ max run (worst (xs ++ ys))
   greatest run told status xs ys e f g = let all = worst_append xs ys in omega (arith, e, f, g, all)
 
-  pub fix_done : (x : Stand) (out : Told) (begun h l : Option (List Trouble)) (m : Option (List Attempt)) (run : Run) (told status : ℕ) → begun ≡ x.heard → IsRun s inside a run
+  pub fix_done : (x : Stand) (out : Told) (begun h l : Account Trouble) (m : Account Attempt) (run : Run) (told status : ℕ) → begun ≡ x.heard → IsRun s inside a run
       → Did (stand x.output begun x.tried) (stand out h m) (IsWorst told (ArePathsDone s run.catalogue run.paths.items))
       → Tells h l (IsBesideTold a.is_written s (map path_in a.paths.now)) → status ≡ max (plan.status_of run) told
       → Did x (stand out l m) (IsFix s inside a status)
   fix_done x out begun h l m run told status same is_run q p is = record {
     done = behind q.done (telling p.told);
     writes = Appends-trans x.output.bytes out.bytes out.bytes q.done.text [] q.writes (Appends-nil out.bytes);
-    tells = hears_trans x.heard h l q.done.told p.told (subst (λ (b : Option (List Trouble)). Hears b h q.done.told) same q.tells) p.tells;
+    tells = hears_trans x.heard h l q.done.told p.told (subst (λ (b : Account Trouble). Hears b h q.done.told) same q.tells) p.tells;
     tries = hears_trans x.tried m m q.done.tried [] q.tries (hears_nil m);
     is = record {
       run = run;

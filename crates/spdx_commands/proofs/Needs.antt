@@ -3,7 +3,7 @@ use Rattle.std.proofs.Common.{◌≡◌, ◌∙◌, refl, sym, ap, subst, ℕ, B
 use Rattle.std.specs.Prelude.{All, Result}
 use Rattle.std.specs.Global.{Vec}
 use Rattle.std.proofs.lemmas.List.Elements.{All-append, All-cons, All-head, All-nil, All-same, All-tail}
-use Rattle.check_files.specs.Told.{Hears}
+use Rattle.check_files.specs.Told.{Account, Hears}
 use Rattle.shelves.specs.Shelf.{Shelved}
 use Rattle.spdx_requirement.specs.Rows.{Rows}
 use Rattle.file_fixes.specs.Mended.{bytes_in}
@@ -155,7 +155,7 @@ module _ (s : Shelved) (inside : InsideBytes) (a : Request) (status : ℕ) (d : 
       (paths_for s h.run.catalogue a.is_written h.are_done (each_fixed s inside a h.run h.is_run))
 
   -- no file is touched where none is to be written
-  pub kept_so : (k m : Option (List Attempt)) → a.is_written ≡ false → Hears k m d.tried → Hears k m []
+  pub kept_so : (k m : Account Attempt) → a.is_written ≡ false → Hears k m d.tried → Hears k m []
   kept_so k m off tries =
       subst (Hears k m) (none_tried s h.run.catalogue d.tried (subst (λ (w : Bool). All (IsFor s h.run.catalogue w) d.tried) off all_for)) tries
 

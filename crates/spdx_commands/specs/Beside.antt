@@ -11,6 +11,8 @@ use Rattle.std.specs.Ordering.{nat_cmp}
 use Rattle.std.specs.Path.{rsplit_once}
 use Rattle.std.specs.String.{string_cmp}
 use Rattle.shelves.specs.Shelf.{Named, Shelved}
+use Rattle.shelves.specs.declared.shelf.Kind.{Kind}
+use Rattle.shelves.specs.declared.shelf.Kind.TheVariants as kind
 use Rattle.source_trees.specs.Stops.{below}
 use Rattle.source_trees.specs.Visits.{is_beside}
 use Rattle.fix_program.specs.Files.{is_input}
@@ -32,9 +34,14 @@ folder_at (Some (folder, name)) = folder_by folder
 abbrev pub folder_of : List ℕ → List ℕ
 folder_of path = folder_at (rsplit_once 47 path)
 
+-- a file of such a name was left behind; a folder or a link wasn't
+abbrev pub is_left : Kind → List ℕ → Bool
+is_left kind.File name = is_beside name
+is_left _ name = false
+
 -- the path of what was left behind, if this was
 abbrev pub left_at : List ℕ → Named → List (List ℕ)
-left_at folder n = if is_beside n.name then below folder n.name ∷ [] else []
+left_at folder n = if is_left n.kind n.name then below folder n.name ∷ [] else []
 
 -- by ascending paths those in the folder; none, where it can't be read
 pub data AreLeftIn (s : Shelved) (folder : List ℕ) (left : List (String Global)) : Type 0 where

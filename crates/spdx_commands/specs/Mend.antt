@@ -1,5 +1,5 @@
 -- What `fix` writes, tells and puts in the places of files, and with which status it ends.
-use Rattle.std.specs.Prelude.{◌≡◌, ℕ, Bool, true, false, List, [], ◌∷◌, ◌++◌, Option, Some, All, Result, Ok, Err, String, flat_map, map, max, string_bytes, if◌then◌else◌}
+use Rattle.std.specs.Prelude.{◌≡◌, ℕ, Bool, true, false, List, [], ◌∷◌, ◌++◌, Some, All, Result, Ok, Err, String, flat_map, map, max, string_bytes, if◌then◌else◌}
 use Rattle.std.specs.declared.alloc.Global.{Global}
 use Rattle.std.specs.declared.io.Error.{Error}
 use Rattle.std.specs.Option.{option_copied}
@@ -9,7 +9,7 @@ use Rattle.shelves.specs.Shelf.{Shelved}
 use Rattle.shelves.specs.declared.shelf.Stamp.{Stamp}
 use Rattle.spdx_requirement.specs.Rows.{Rows}
 use Rattle.list_program.specs.Named.{InsideBytes, IsNamedList}
-use Rattle.check_files.specs.Told.{Hears}
+use Rattle.check_files.specs.Told.{Account, Hears}
 use Rattle.file_fixes.specs.Accepted.{Reads}
 use Rattle.file_fixes.specs.Mended.{IsMended, bytes_in}
 use Rattle.file_fixes.specs.declared.mended.Outcome.{Outcome}
@@ -65,10 +65,10 @@ behind x y =
 -- what an output tells, which troubles a listener was told, and what was tried
 pub record Stand : Type 0 where
   pub output : Told
-  pub heard : Option (List Trouble)
-  pub tried : Option (List Attempt)
+  pub heard : Account Trouble
+  pub tried : Account Attempt
 
-abbrev pub stand : Told → Option (List Trouble) → Option (List Attempt) → Stand
+abbrev pub stand : Told → Account Trouble → Account Attempt → Stand
 stand output heard tried = record { output = output; heard = heard; tried = tried }
 
 -- something was done of which this holds
@@ -194,18 +194,18 @@ pub record IsFix (s : Shelved) (inside : InsideBytes) (a : Request) (status : �
 -- ---- why it stops or breaks off
 
 -- the output has failed, or memory was refused; or a file can't be written, the last that was tried
-pub data IsBrokenOff (output : Told) (tried tried' : Option (List Attempt)) : Trouble → Type 0 where
+pub data IsBrokenOff (output : Told) (tried tried' : Account Attempt) : Trouble → Type 0 where
   broken : (t : Trouble) → IsBroken output t → IsBrokenOff output tried tried' t
   unwritten : (before : List Attempt) (path : String Global) (stamp : Stamp) (bytes : List ℕ)
       (e : Error) → Hears tried tried'
       (before ++ attempt (string_bytes path) stamp bytes (Err (obstacle.Failed e)) ∷ []) →
       IsBrokenOff output tried tried' (trouble.Unwritable path e)
 
--- the list isn't had, and nothing was written nor tried; or it breaks off
+-- the list isn't had, and nothing was written, told nor tried; or it breaks off
 pub data IsFixStopped (s : Shelved) (inside : InsideBytes) (a : Request) (old new : Stand) :
     Trouble → Type 0 where
   caused : (cause : FixFault) → IsNoRun s inside a cause →
-      new.output.bytes ≡ old.output.bytes → new.tried ≡ old.tried →
+      new.output.bytes ≡ old.output.bytes → new.heard ≡ old.heard → new.tried ≡ old.tried →
       IsFixStopped s inside a old new (fix_fault_trouble cause)
   broken_off : (t : Trouble) → IsBrokenOff new.output old.tried new.tried t →
       IsFixStopped s inside a old new t

@@ -17,7 +17,7 @@ ghost use Rattle.spdx_commands.specs.Beside.{
 ghost use Rattle.spdx_troubles.specs.declared.trouble.Trouble.TheVariants.{LeftBehind};
 
 use crate::listener::Listener;
-use shelves::{Entries, Entry, Shelf};
+use shelves::{Entries, Entry, Kind, Shelf};
 use source_trees::{below, is_beside};
 use spdx_troubles::Trouble;
 use std::alloc::{AllocError, Global};
@@ -28,6 +28,7 @@ use std::collections::BTreeSet;
 /// # Errors
 ///
 /// Memory was refused.
+#[tactic(auto, using(crate::proofs::Hearing::none_heard, crate::proofs::Hearing::one_more_heard))]
 pub(crate) fn tell_left<T: Listener>(
     alloc: Global,
     left: Vec<String>,
@@ -133,6 +134,16 @@ fn left_in<S: Shelf>(alloc: Global, shelf: &S, folder: &str) -> Result<Vec<Strin
     }
 }
 
+// A file of such a name was left behind; a folder or a link wasn't.
+fn is_left(entry: &Entry) -> bool
+    ensures { result ≡ spec.is_left entry.now.kind (string_bytes entry.now.name) }
+{
+    match entry.kind {
+        Kind::File => is_beside(entry.name.as_str()),
+        Kind::Folder | Kind::Other => false,
+    }
+}
+
 // What was left among these.
 fn left_among(alloc: Global, folder: &str, named: &[Entry]) -> Result<Vec<String>, AllocError>
     ensures { IfOk result (λ left. map string_bytes left.items
@@ -140,7 +151,7 @@ fn left_among(alloc: Global, folder: &str, named: &[Entry]) -> Result<Vec<String
 {
     let mut left = Vec::new(alloc);
     for entry in named {
-        if is_beside(entry.name.as_str()) {
+        if is_left(entry) {
             left.push(below(alloc, folder, entry.name.as_str())?)?;
         }
     }

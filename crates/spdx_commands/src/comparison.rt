@@ -34,7 +34,7 @@ pub fn compare<S: Shelf, O: Sink>(
         (inside_of inside.entry.list.now inside.entry.extras.now) asked.entry text status)) }
     ensures err { IfErr result (IsStopped meaning_trouble (IsNotCompared (S.told shelf.now)
         (inside_of inside.entry.list.now inside.entry.extras.now) asked.entry)
-        (O.told output.old) (O.told output.new)) }
+        (O.told output.old) (O.told output.new) (Unit {0})) }
     ensures same { IfOk result (SaysSame (S.told shelf.now)
         (inside_of inside.entry.list.now inside.entry.extras.now) asked.entry) }
 {

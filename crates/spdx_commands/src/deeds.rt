@@ -239,6 +239,7 @@ fn place<R: Replacing, T: Listener>(
     }
 }
 
+#[tactic(auto, using(crate::proofs::Hearing::none_heard))]
 fn tell_loss<T: Listener>(
     alloc: Global,
     path: String,

@@ -1,7 +1,7 @@
 // Who is told of troubles.
 
-ghost use Rattle.std.specs.Prelude.{Option, List, ◌∷◌, [], OnOk};
-ghost use Rattle.check_files.specs.Told.{Hears};
+ghost use Rattle.std.specs.Prelude.{◌∷◌, [], OnOk};
+ghost use Rattle.check_files.specs.Told.{Account, Hears};
 ghost use Rattle.spdx_troubles.specs.declared.trouble.Trouble as the_trouble;
 
 use spdx_troubles::Trouble;
@@ -9,8 +9,8 @@ use std::alloc::{AllocError, Global};
 
 /// Who is told of troubles when they happen.
 pub trait Listener {
-    // The troubles that it was told so far, where it keeps them.
-    ghost heard: { Self → Option (List the_trouble.Trouble) };
+    // What it keeps of the troubles that it was told.
+    ghost heard: { Self → Account the_trouble.Trouble };
 
     /// Takes a trouble.
     ///

@@ -42,7 +42,8 @@ pub fn show<S: Shelf, O: Sink, T: Listener>(
         status)) }
     ensures err { IfErr result (IsStopped list_trouble (IsNotShown (S.told shelf.now)
         (inside_of inside.entry.list.now inside.entry.extras.now) heirs.now asked.entry)
-        (O.told output.old) (O.told output.new)) }
+        (O.told output.old) (O.told output.new)
+        (T.heard listener.new ≡ T.heard listener.old)) }
     ensures listed { IfOk result (SaysListed (S.told shelf.now)
         (inside_of inside.entry.list.now inside.entry.extras.now) asked.entry) }
 {
@@ -54,6 +55,7 @@ pub fn show<S: Shelf, O: Sink, T: Listener>(
     Ok(status)
 }
 
+#[tactic(auto, using(crate::proofs::Hearing::none_heard, crate::proofs::Hearing::one_more_heard))]
 fn tell_unlisted<T: Listener>(
     alloc: Global,
     unlisted: Vec<Unlisted>,
@@ -87,7 +89,7 @@ pub fn diff<S: Shelf, O: Sink>(
         heirs.now lists.entry)) }
     ensures err { IfErr result (IsStopped list_trouble (IsNoDiff (S.told shelf.now)
         (inside_of inside.entry.list.now inside.entry.extras.now) heirs.now lists.entry)
-        (O.told output.old) (O.told output.new)) }
+        (O.told output.old) (O.told output.new) (Unit {0})) }
 {
     let text = list_told::diff(alloc, shelf, inside, heirs, lists)?;
     write_all(output, &text)?;

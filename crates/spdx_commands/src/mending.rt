@@ -74,6 +74,7 @@ pub fn fix<S: Shelf, R: Replacing, O: Sink, T: Follower>(
 }
 
 // Where files are written, tells what stands beside them that was left behind.
+#[tactic(auto, using(crate::proofs::Hearing::none_told))]
 fn tell_beside<S: Shelf, T: Listener>(
     alloc: Global,
     shelf: &S,

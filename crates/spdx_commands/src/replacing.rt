@@ -1,7 +1,6 @@
 // Who puts bytes in the places of files.
 
-ghost use Rattle.std.specs.Prelude.{Option, List};
-ghost use Rattle.check_files.specs.Told.{Hears};
+ghost use Rattle.check_files.specs.Told.{Account, Hears};
 ghost use Rattle.spdx_commands.specs.Replaced.{Attempt, attempt, noted};
 
 use shelves::Stamp;
@@ -41,8 +40,8 @@ pub enum Loss {
 
 /// Who puts bytes in the places of files.
 pub trait Replacing {
-    // What it tried so far, and what came of that, where it keeps them.
-    ghost tried: { Self → Option (List Attempt) };
+    // What it keeps of what it tried, and of what came of that.
+    ghost tried: { Self → Account Attempt };
 
     /// Puts the bytes in the place of what the file at the path held when it was read, which the stamp tells.
     ///

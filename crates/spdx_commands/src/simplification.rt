@@ -1,6 +1,6 @@
 // The command `simplify`.
 
-ghost use Rattle.std.specs.Prelude.{◌<◌, IfErr, IfOk, OnOk, string_bytes};
+ghost use Rattle.std.specs.Prelude.{◌≡◌, ◌<◌, IfErr, IfOk, OnOk, string_bytes};
 ghost use Rattle.check_files.specs.Told.{Does, Tells};
 ghost use Rattle.list_program.specs.Named.{inside_of};
 ghost use Rattle.meaning_program.specs.Files.{IsAllMeant, IsNoRun};
@@ -44,7 +44,8 @@ pub fn simplify<S: Shelf, O: Sink, T: Listener>(
         status)) }
     ensures err { IfErr result (IsStopped meaning_trouble (IsNoRun (S.told shelf.now)
         (inside_of inside.entry.list.now inside.entry.extras.now) request.entry)
-        (O.told output.old) (O.told output.new)) }
+        (O.told output.old) (O.told output.new)
+        (T.heard listener.new ≡ T.heard listener.old)) }
     ensures passes { IfOk result (λ status. status < 1 → IsAllMeant (S.told shelf.now)
         (inside_of inside.entry.list.now inside.entry.extras.now) request.entry) }
 {

@@ -1,8 +1,8 @@
 -- Each command's end is that of the call that it makes.
-use Rattle.std.proofs.Common.{◌≡◌, refl, sym, subst, ℕ, Bool, true, false, List, Option, Result, Ok, Err}
+use Rattle.std.proofs.Common.{◌≡◌, refl, sym, subst, ℕ, Bool, true, false, Result, Ok, Err}
 use Rattle.std.specs.Prelude.{IfErr, IfOk}
 use Rattle.changes_program.specs.Run as changes
-use Rattle.check_files.specs.Told.{Does, Writes}
+use Rattle.check_files.specs.Told.{Account, Does, Writes}
 use Rattle.check_files.specs.declared.trouble.CheckTrouble.{CheckTrouble}
 use Rattle.check_program.specs.Runs as check
 use Rattle.check_program.specs.declared.run.CheckEnd.{CheckEnd}
@@ -64,14 +64,14 @@ passed_end Is Stops (Err t) status answer was is ok err =
 
 -- ---- each command
 
-stopped_end : (w : World) (a : check_asked.Request) (out out' : Told) (h h' : Option (List CheckTrouble)) (got : Result ℕ CheckEnd)
+stopped_end : (w : World) (a : check_asked.Request) (out out' : Told) (h h' : Account CheckTrouble) (got : Result ℕ CheckEnd)
     → IfOk got (λ status. Does out out' h h' (λ text told. check.IsRun w.shelf (check.inside_of w.inside) a text told status))
     → IfErr got (check.IsNoRun w.shelf (check.inside_of w.inside) a out out' h h')
     → Ends (IsEnd (λ status. Does out out' h h' (λ text told. check.IsRun w.shelf (check.inside_of w.inside) a text told status))) (IsCheckStopped w a out out' h h') (alone (stopped got))
 stopped_end w a out out' h h' (Ok status) ok err = record { is = ok; no_totals = refl }
 stopped_end w a out out' h h' (Err cause) ok err = caused cause err
 
-pub check_done : (w : World) (a : check_asked.Request) (out out' : Told) (h h' : Option (List CheckTrouble)) (got : Result ℕ CheckEnd)
+pub check_done : (w : World) (a : check_asked.Request) (out out' : Told) (h h' : Account CheckTrouble) (got : Result ℕ CheckEnd)
     (status : Result ℕ Trouble) (answer : Result Ended Trouble) → status ≡ stopped got → answer ≡ alone status
     → IfOk got (λ status. Does out out' h h' (λ text told. check.IsRun w.shelf (check.inside_of w.inside) a text told status))
     → IfErr got (check.IsNoRun w.shelf (check.inside_of w.inside) a out out' h h')
@@ -79,12 +79,12 @@ pub check_done : (w : World) (a : check_asked.Request) (out out' : Told) (h h' :
 check_done w a out out' h h' got status answer was is ok err =
     subst (IsCheckEnd w a out out' h h') (sym is) (subst (λ (x : Result ℕ Trouble). IsCheckEnd w a out out' h h' (alone x)) (sym was) (stopped_end w a out out' h h' got ok err))
 
-pub check_quiet : (w : World) (colours : Bool) (r : CheckRequest) (a : check_asked.Request) (out : Told) (h h' : Option (List CheckTrouble)) (answer : Result Ended Trouble)
+pub check_quiet : (w : World) (colours : Bool) (r : CheckRequest) (a : check_asked.Request) (out : Told) (h h' : Account CheckTrouble) (answer : Result Ended Trouble)
     → IsAskedOf r.paths.items (check_of r colours) a → r.quiet ≡ true → IsCheckEnd w a nowhere nowhere h h' answer → DoesCheck w colours r out out h h' answer
 check_quiet w colours r a out h h' answer asked is end =
     (a, asked, subst (λ q. Quietly q out out (λ o o'. IsCheckEnd w a o o' h h' answer)) (sym is) (end, refl))
 
-pub check_told : (w : World) (colours : Bool) (r : CheckRequest) (a : check_asked.Request) (out out' : Told) (h h' : Option (List CheckTrouble)) (answer : Result Ended Trouble)
+pub check_told : (w : World) (colours : Bool) (r : CheckRequest) (a : check_asked.Request) (out out' : Told) (h h' : Account CheckTrouble) (answer : Result Ended Trouble)
     → IsAskedOf r.paths.items (check_of r colours) a → r.quiet ≡ false → IsCheckEnd w a out out' h h' answer → DoesCheck w colours r out out' h h' answer
 check_told w colours r a out out' h h' answer asked is end =
     (a, asked, subst (λ q. Quietly q out out' (λ o o'. IsCheckEnd w a o o' h h' answer)) (sym is) end)
@@ -104,31 +104,31 @@ fix_idle w r x y answer off kept is = subst (λ write. IfWritten write x y (λ x
 
 pub compare_done : (w : World) (r : CompareRequest) (out out' : Told) (got : Result ℕ Trouble) (answer : Result Ended Trouble) → answer ≡ alone got
     → IfOk got (λ status. Writes out out' (λ text. IsCompare w.shelf (list_in w) (compare_of r) text status))
-    → IfErr got (IsStopped meaning_trouble (compare.IsNotCompared w.shelf (list_in w) (compare_of r)) out out') → DoesCompare w r out out' answer
+    → IfErr got (IsStopped meaning_trouble (compare.IsNotCompared w.shelf (list_in w) (compare_of r)) out out' (Unit {0})) → DoesCompare w r out out' answer
 compare_done w r out out' got answer is ok err =
     alone_end (λ status. Writes out out' (λ text. IsCompare w.shelf (list_in w) (compare_of r) text status))
-    (IsStopped meaning_trouble (compare.IsNotCompared w.shelf (list_in w) (compare_of r)) out out') got answer is ok err
+    (IsStopped meaning_trouble (compare.IsNotCompared w.shelf (list_in w) (compare_of r)) out out' (Unit {0})) got answer is ok err
 
-pub simplify_done : (w : World) (r : SimplifyRequest) (a : simplify_asked.Request) (out out' : Told) (h h' : Option (List Trouble)) (got : Result ℕ Trouble) (answer : Result Ended Trouble)
+pub simplify_done : (w : World) (r : SimplifyRequest) (a : simplify_asked.Request) (out out' : Told) (h h' : Account Trouble) (got : Result ℕ Trouble) (answer : Result Ended Trouble)
     → IsAskedOf r.paths.items (simplify_of r) a → answer ≡ alone got
     → IfOk got (λ status. Does out out' h h' (λ text told. IsSimplify w.shelf (list_in w) a text told status))
-    → IfErr got (IsStopped meaning_trouble (simplify.IsNoRun w.shelf (list_in w) a) out out') → DoesSimplify w r out out' h h' answer
+    → IfErr got (IsStopped meaning_trouble (simplify.IsNoRun w.shelf (list_in w) a) out out' (h' ≡ h)) → DoesSimplify w r out out' h h' answer
 simplify_done w r a out out' h h' got answer asked is ok err = (
   a,
   asked,
   alone_end (λ status. Does out out' h h' (λ text told. IsSimplify w.shelf (list_in w) a text told status))
-      (IsStopped meaning_trouble (simplify.IsNoRun w.shelf (list_in w) a) out out') got answer is ok err,
+      (IsStopped meaning_trouble (simplify.IsNoRun w.shelf (list_in w) a) out out' (h' ≡ h)) got answer is ok err,
 )
 
-pub show_done : (w : World) (r : ShowRequest) (a : show_asked.Asked) (out out' : Told) (h h' : Option (List Trouble)) (got : Result ℕ Trouble) (answer : Result Ended Trouble)
+pub show_done : (w : World) (r : ShowRequest) (a : show_asked.Asked) (out out' : Told) (h h' : Account Trouble) (got : Result ℕ Trouble) (answer : Result Ended Trouble)
     → IsShowAsked r a → answer ≡ alone got
     → IfOk got (λ status. Does out out' h h' (λ text told. IsShow w.shelf (list_in w) (heirs_in w) a text told status))
-    → IfErr got (IsStopped list_trouble (show.IsNotShown w.shelf (list_in w) (heirs_in w) a) out out') → DoesShow w r out out' h h' answer
+    → IfErr got (IsStopped list_trouble (show.IsNotShown w.shelf (list_in w) (heirs_in w) a) out out' (h' ≡ h)) → DoesShow w r out out' h h' answer
 show_done w r a out out' h h' got answer asked is ok err = (
   a,
   asked,
   alone_end (λ status. Does out out' h h' (λ text told. IsShow w.shelf (list_in w) (heirs_in w) a text told status))
-      (IsStopped list_trouble (show.IsNotShown w.shelf (list_in w) (heirs_in w) a) out out') got answer is ok err,
+      (IsStopped list_trouble (show.IsNotShown w.shelf (list_in w) (heirs_in w) a) out out' (h' ≡ h)) got answer is ok err,
 )
 
 pub make_done : (s : Shelved) (r : MakeRequest) (out out' : Told) (got : Result (Unit {0}) Trouble) (status : Result ℕ Trouble) (answer : Result Ended Trouble)
@@ -140,40 +140,40 @@ make_done s r out out' got status answer was is ok err =
 pub lists_done : (w : World) (r : DiffRequest) (out out' : Told) (got : Result (Unit {0}) Trouble) (status : Result ℕ Trouble) (answer : Result Ended Trouble)
     → status ≡ passed got → answer ≡ alone status
     → IfOk got (λ _. Writes out out' (lists.IsDiff w.shelf (list_in w) (heirs_in w) (lists_of r)))
-    → IfErr got (IsStopped list_trouble (lists.IsNoDiff w.shelf (list_in w) (heirs_in w) (lists_of r)) out out') → DoesLists w r out out' answer
+    → IfErr got (IsStopped list_trouble (lists.IsNoDiff w.shelf (list_in w) (heirs_in w) (lists_of r)) out out' (Unit {0})) → DoesLists w r out out' answer
 lists_done w r out out' got status answer was is ok err =
     passed_end (Writes out out' (lists.IsDiff w.shelf (list_in w) (heirs_in w) (lists_of r)))
-    (IsStopped list_trouble (lists.IsNoDiff w.shelf (list_in w) (heirs_in w) (lists_of r)) out out') got status answer was is ok err
+    (IsStopped list_trouble (lists.IsNoDiff w.shelf (list_in w) (heirs_in w) (lists_of r)) out out' (Unit {0})) got status answer was is ok err
 
-pub gate_done : (w : World) (a : gate_asked.Asked) (out out' : Told) (h h' : Option (List Trouble)) (got : Result ℕ Trouble) (answer : Result Ended Trouble) → answer ≡ alone got
+pub gate_done : (w : World) (a : gate_asked.Asked) (out out' : Told) (h h' : Account Trouble) (got : Result ℕ Trouble) (answer : Result Ended Trouble) → answer ≡ alone got
     → IfOk got (λ status. Does out out' h h' (λ text told. IsGate w.shelf (list_in w) (heirs_in w) a text told status))
-    → IfErr got (IsStopped gate_trouble (gate.IsNoRun w.shelf (list_in w) (heirs_in w) a.run) out out') → IsGateEnd w a out out' h h' answer
+    → IfErr got (IsStopped gate_trouble (gate.IsNoRun w.shelf (list_in w) (heirs_in w) a.run) out out' (h' ≡ h)) → IsGateEnd w a out out' h h' answer
 gate_done w a out out' h h' got answer is ok err =
     alone_end (λ status. Does out out' h h' (λ text told. IsGate w.shelf (list_in w) (heirs_in w) a text told status))
-    (IsStopped gate_trouble (gate.IsNoRun w.shelf (list_in w) (heirs_in w) a.run) out out') got answer is ok err
+    (IsStopped gate_trouble (gate.IsNoRun w.shelf (list_in w) (heirs_in w) a.run) out out' (h' ≡ h)) got answer is ok err
 
-pub gate_quiet : (w : World) (colours : Bool) (r : GateRequest) (a : gate_asked.Asked) (out : Told) (h h' : Option (List Trouble)) (answer : Result Ended Trouble)
+pub gate_quiet : (w : World) (colours : Bool) (r : GateRequest) (a : gate_asked.Asked) (out : Told) (h h' : Account Trouble) (answer : Result Ended Trouble)
     → IsAskedOf r.paths.items (gate_of r colours w.inside.version) a → r.quiet ≡ true → IsGateEnd w a nowhere nowhere h h' answer → DoesGate w colours r out out h h' answer
 gate_quiet w colours r a out h h' answer asked is end =
     (a, asked, subst (λ q. Quietly q out out (λ o o'. IsGateEnd w a o o' h h' answer)) (sym is) (end, refl))
 
-pub gate_told : (w : World) (colours : Bool) (r : GateRequest) (a : gate_asked.Asked) (out out' : Told) (h h' : Option (List Trouble)) (answer : Result Ended Trouble)
+pub gate_told : (w : World) (colours : Bool) (r : GateRequest) (a : gate_asked.Asked) (out out' : Told) (h h' : Account Trouble) (answer : Result Ended Trouble)
     → IsAskedOf r.paths.items (gate_of r colours w.inside.version) a → r.quiet ≡ false → IsGateEnd w a out out' h h' answer → DoesGate w colours r out out' h h' answer
 gate_told w colours r a out out' h h' answer asked is end =
     (a, asked, subst (λ q. Quietly q out out' (λ o o'. IsGateEnd w a o o' h h' answer)) (sym is) end)
 
-pub changes_done : (w : World) (r : ChangesRequest) (a : AskedDiff) (out out' : Told) (h h' : Option (List Trouble)) (got : Result Changed Trouble) (answer : Result Ended Trouble)
+pub changes_done : (w : World) (r : ChangesRequest) (a : AskedDiff) (out out' : Told) (h h' : Account Trouble) (got : Result Changed Trouble) (answer : Result Ended Trouble)
     → a ≡ changes_of r → answer ≡ changed_end got
     → IfOk got (λ c. Does out out' h h' (λ text told. IsDiff w.shelf (list_in w) (heirs_in w) a text told c))
-    → IfErr got (IsStopped gate_trouble (changes.IsNoRun w.shelf (list_in w) (heirs_in w) a.run) out out') → DoesChanges w r out out' h h' answer
+    → IfErr got (IsStopped gate_trouble (changes.IsNoRun w.shelf (list_in w) (heirs_in w) a.run) out out' (h' ≡ h)) → DoesChanges w r out out' h h' answer
 changes_done w r a out out' h h' (Ok c) answer asked is ok err =
     subst (λ (b : AskedDiff). IsChangesEnd w b out out' h h' answer) asked (subst (IsChangesEnd w a out out' h h') (sym is) ok)
 changes_done w r a out out' h h' (Err t) answer asked is ok err =
     subst (λ (b : AskedDiff). IsChangesEnd w b out out' h h' answer) asked (subst (IsChangesEnd w a out out' h h') (sym is) err)
 
-pub notice_done : (w : World) (r : NoticeRequest) (a : notice_asked.Request) (out out' : Told) (h h' : Option (List Trouble)) (got : Result Noticed Trouble) (answer : Result Ended Trouble)
+pub notice_done : (w : World) (r : NoticeRequest) (a : notice_asked.Request) (out out' : Told) (h h' : Account Trouble) (got : Result Noticed Trouble) (answer : Result Ended Trouble)
     → IsAskedOf r.paths.items (notice_of r) a → answer ≡ noticed_end got
     → IfOk got (λ n. Does out out' h h' (λ text told. IsNotice w.shelf (list_in w) (heirs_in w) a text told n))
-    → IfErr got (IsStopped notice_trouble (notice.IsNoRun w.shelf (list_in w) a) out out') → DoesNotice w r out out' h h' answer
+    → IfErr got (IsStopped notice_trouble (notice.IsNoRun w.shelf (list_in w) a) out out' (h' ≡ h)) → DoesNotice w r out out' h h' answer
 notice_done w r a out out' h h' (Ok n) answer asked is ok err = (a, asked, subst (IsNoticeEnd w a out out' h h') (sym is) ok)
 notice_done w r a out out' h h' (Err t) answer asked is ok err = (a, asked, subst (IsNoticeEnd w a out out' h h') (sym is) err)

@@ -4,7 +4,7 @@ use Rattle.std.specs.Prelude.{IfOk, max, if◌then◌else◌}
 use Rattle.line_engine.specs.Device.{Told}
 use Rattle.shelves.specs.Shelf.{Shelved}
 use Rattle.list_program.specs.Named.{InsideBytes}
-use Rattle.check_files.specs.Told.{Does, Writes}
+use Rattle.check_files.specs.Told.{Account, Does, Writes}
 use Rattle.check_files.specs.declared.trouble.CheckTrouble.{CheckTrouble}
 use Rattle.changes_program.specs.Run as changes
 use Rattle.changes_program.specs.declared.run.Told as changes_told
@@ -67,14 +67,14 @@ none_one false = omega arith
 as_is : (status is : ℕ) → status ≡ is → is < 4 → status < 4
 as_is status is e low = omega (arith, e, low)
 
-check_ends : (s : Shelved) (inside : check.Inside) (a : check_asked.Request) (out out' : Told) (h h' : Option (List CheckTrouble)) (status : ℕ)
+check_ends : (s : Shelved) (inside : check.Inside) (a : check_asked.Request) (out out' : Told) (h h' : Account CheckTrouble) (status : ℕ)
     → Does out out' h h' (λ text told. check.IsRun s inside a text told status) → status < 4
 check_ends s inside a out out' h h' status d = let (by, of, run) = d.is in as_is status _ run.status_is (two_none _ _)
 
 compare_ends : (s : Shelved) (inside : InsideBytes) (a : compare_asked.Asked) (out out' : Told) (status : ℕ) → Writes out out' (λ text. IsCompare s inside a text status) → status < 4
 compare_ends s inside a out out' status w = let (text, appends, is) = w in as_is status _ is.status_is (none_one _)
 
-simplify_ends : (s : Shelved) (inside : InsideBytes) (a : simplify_asked.Request) (out out' : Told) (h h' : Option (List Trouble)) (status : ℕ)
+simplify_ends : (s : Shelved) (inside : InsideBytes) (a : simplify_asked.Request) (out out' : Told) (h h' : Account Trouble) (status : ℕ)
     → Does out out' h h' (λ text told. IsSimplify s inside a text told status) → status < 4
 simplify_ends s inside a out out' h h' status d = as_is status _ d.is.status_is (two_one _ _)
 
@@ -82,7 +82,7 @@ unlisted_low : (unlisted : List Unlisted) → show.status_by unlisted < 4
 unlisted_low [] = omega arith
 unlisted_low (u ∷ us) = omega arith
 
-show_ends : (s : Shelved) (inside : InsideBytes) (heirs : List ℕ) (a : show_asked.Asked) (out out' : Told) (h h' : Option (List Trouble)) (status : ℕ)
+show_ends : (s : Shelved) (inside : InsideBytes) (heirs : List ℕ) (a : show_asked.Asked) (out out' : Told) (h h' : Account Trouble) (status : ℕ)
     → Does out out' h h' (λ text told. IsShow s inside heirs a text told status) → status < 4
 show_ends s inside heirs a out out' h h' status d = as_is status _ d.is.status_is (unlisted_low _)
 
@@ -93,7 +93,7 @@ gate_low [] (end.Told text) = none_one text.is_passed
 gate_low [] (end.NoPackage text) = omega arith
 gate_low (f ∷ fs) e = omega arith
 
-gate_ends : (s : Shelved) (inside : InsideBytes) (heirs : List ℕ) (a : gate_asked.Asked) (out out' : Told) (h h' : Option (List Trouble)) (status : ℕ)
+gate_ends : (s : Shelved) (inside : InsideBytes) (heirs : List ℕ) (a : gate_asked.Asked) (out out' : Told) (h h' : Account Trouble) (status : ℕ)
     → Does out out' h h' (λ text told. IsGate s inside heirs a text told status) → status < 4
 gate_ends s inside heirs a out out' h h' status d = as_is status _ d.is.status_is (gate_low _ _)
 
@@ -150,7 +150,7 @@ changes_low : (told : Option changes_told.Told) → changes.status_by told < 4
 changes_low None = omega arith
 changes_low (Some told) = one_none told.is_refused
 
-diff_ends : (s : Shelved) (inside : InsideBytes) (heirs : List ℕ) (a : AskedDiff) (out out' : Told) (h h' : Option (List Trouble)) (changed : Changed)
+diff_ends : (s : Shelved) (inside : InsideBytes) (heirs : List ℕ) (a : AskedDiff) (out out' : Told) (h h' : Account Trouble) (changed : Changed)
     → Does out out' h h' (λ text told. IsDiff s inside heirs a text told changed) → changed.status < 4
 diff_ends s inside heirs a out out' h h' changed d = as_is changed.status _ d.is.status_is (changes_low _)
 
@@ -174,7 +174,7 @@ notice_low (ends.NoGeneral ts) = omega arith
 notice_low (ends.NotUtf8 n) = omega arith
 notice_low (ends.Told n) = page_low n.page
 
-notice_ends : (s : Shelved) (inside : InsideBytes) (heirs : List ℕ) (a : notice_asked.Request) (out out' : Told) (h h' : Option (List Trouble)) (noticed : Noticed)
+notice_ends : (s : Shelved) (inside : InsideBytes) (heirs : List ℕ) (a : notice_asked.Request) (out out' : Told) (h h' : Account Trouble) (noticed : Noticed)
     → Does out out' h h' (λ text told. IsNotice s inside heirs a text told noticed) → noticed.status < 4
 notice_ends s inside heirs a out out' h h' noticed d = as_is noticed.status _ d.is.status_is (notice_low _)
 
@@ -186,12 +186,12 @@ quietly : (q : Bool) (out out' : Told) (Is : Told → Told → Type 0) → Quiet
 quietly false out out' Is end = (out, out', end)
 quietly true out out' Is end = (nowhere, nowhere, end.0)
 
-check_low : (w : World) (r : CheckRequest) (colours : Bool) (out out' : Told) (h h' : Option (List CheckTrouble)) (e : Ended) → DoesCheck w colours r out out' h h' (Ok e) → e.status < 4
+check_low : (w : World) (r : CheckRequest) (colours : Bool) (out out' : Told) (h h' : Account CheckTrouble) (e : Ended) → DoesCheck w colours r out out' h h' (Ok e) → e.status < 4
 check_low w r colours out out' h h' e does =
     let (o, o', end) = quietly r.quiet out out' (λ o o'. IsCheckEnd w does.0 o o' h h' (Ok e)) does.2 in
     check_ends w.shelf (check.inside_of w.inside) does.0 o o' h h' e.status end.is
 
-gate_low_end : (w : World) (r : GateRequest) (colours : Bool) (out out' : Told) (h h' : Option (List Trouble)) (e : Ended) → DoesGate w colours r out out' h h' (Ok e) → e.status < 4
+gate_low_end : (w : World) (r : GateRequest) (colours : Bool) (out out' : Told) (h h' : Account Trouble) (e : Ended) → DoesGate w colours r out out' h h' (Ok e) → e.status < 4
 gate_low_end w r colours out out' h h' e does =
     let (o, o', end) = quietly r.quiet out out' (λ o o'. IsGateEnd w does.0 o o' h h' (Ok e)) does.2 in
     gate_ends w.shelf (list_in w) (heirs_in w) does.0 o o' h h' e.status end.is

@@ -1,9 +1,9 @@
 -- What comes of each command that is asked for: what is written, told and put in the places of files,
 -- and the status; or with which trouble it stops.
-use Rattle.std.specs.Prelude.{◌≡◌, ℕ, List, Option, None, Result, Ok, Err}
+use Rattle.std.specs.Prelude.{◌≡◌, ℕ, List, None, Result, Ok, Err}
 use Rattle.std.specs.Option.{option_copied}
 use Rattle.changes_program.specs.Run as changes
-use Rattle.check_files.specs.Told.{Does, Writes}
+use Rattle.check_files.specs.Told.{Account, Does, Writes}
 use Rattle.check_files.specs.declared.trouble.CheckTrouble.{CheckTrouble}
 use Rattle.check_program.specs.Runs as check
 use Rattle.check_program.specs.declared.run.CheckEnd.{CheckEnd}
@@ -102,13 +102,13 @@ Ends Is Stops (Err t) = Stops t
 -- ---- what comes of what is asked
 
 pub data IsCheckStopped (w : World) (a : check_asked.Request) (out out' : Told)
-    (noted noted' : Option (List CheckTrouble)) : Trouble → Type 0 where
+    (noted noted' : Account CheckTrouble) : Trouble → Type 0 where
   caused : (cause : CheckEnd) →
       check.IsNoRun w.shelf (check.inside_of w.inside) a out out' noted noted' cause →
       IsCheckStopped w a out out' noted noted' (check_end_trouble cause)
 
-abbrev pub IsCheckEnd : World → check_asked.Request → Told → Told → Option (List CheckTrouble) →
-    Option (List CheckTrouble) → Result Ended Trouble → Type 0
+abbrev pub IsCheckEnd : World → check_asked.Request → Told → Told → Account CheckTrouble →
+    Account CheckTrouble → Result Ended Trouble → Type 0
 IsCheckEnd w a out out' noted noted' answer =
     Ends (IsEnd (λ status. Does out out' noted noted' (λ text told.
     check.IsRun w.shelf (check.inside_of w.inside) a text told status)))
@@ -123,21 +123,24 @@ abbrev pub IsCompareEnd : World → compare_asked.Asked → Told → Told → Re
 IsCompareEnd w a out out' answer =
     Ends (IsEnd (λ status. Writes out out' (λ text.
     IsCompare w.shelf (list_in w) a text status)))
-    (IsStopped meaning_trouble (compare.IsNotCompared w.shelf (list_in w) a) out out') answer
+    (IsStopped meaning_trouble (compare.IsNotCompared w.shelf (list_in w) a) out out' (Unit {0}))
+    answer
 
-abbrev pub IsSimplifyEnd : World → simplify_asked.Request → Told → Told → Option (List Trouble) →
-    Option (List Trouble) → Result Ended Trouble → Type 0
+abbrev pub IsSimplifyEnd : World → simplify_asked.Request → Told → Told → Account Trouble →
+    Account Trouble → Result Ended Trouble → Type 0
 IsSimplifyEnd w a out out' heard heard' answer =
     Ends (IsEnd (λ status. Does out out' heard heard' (λ text told.
     IsSimplify w.shelf (list_in w) a text told status)))
-    (IsStopped meaning_trouble (simplify.IsNoRun w.shelf (list_in w) a) out out') answer
+    (IsStopped meaning_trouble (simplify.IsNoRun w.shelf (list_in w) a) out out'
+    (heard' ≡ heard)) answer
 
-abbrev pub IsShowEnd : World → show_asked.Asked → Told → Told → Option (List Trouble) →
-    Option (List Trouble) → Result Ended Trouble → Type 0
+abbrev pub IsShowEnd : World → show_asked.Asked → Told → Told → Account Trouble →
+    Account Trouble → Result Ended Trouble → Type 0
 IsShowEnd w a out out' heard heard' answer =
     Ends (IsEnd (λ status. Does out out' heard heard' (λ text told.
     IsShow w.shelf (list_in w) (heirs_in w) a text told status)))
-    (IsStopped list_trouble (show.IsNotShown w.shelf (list_in w) (heirs_in w) a) out out') answer
+    (IsStopped list_trouble (show.IsNotShown w.shelf (list_in w) (heirs_in w) a) out out'
+    (heard' ≡ heard)) answer
 
 abbrev pub paths_in : MadeOf → MadePaths
 paths_in a = made_of a.licenses.now a.exceptions.now (option_copied a.extras)
@@ -151,26 +154,29 @@ abbrev pub IsListsEnd : World → Lists → Told → Told → Result Ended Troub
 IsListsEnd w a out out' answer =
     Ends (IsEnd (λ status. (status ≡ 0) × Writes out out'
     (lists.IsDiff w.shelf (list_in w) (heirs_in w) a)))
-    (IsStopped list_trouble (lists.IsNoDiff w.shelf (list_in w) (heirs_in w) a) out out') answer
+    (IsStopped list_trouble (lists.IsNoDiff w.shelf (list_in w) (heirs_in w) a) out out'
+    (Unit {0})) answer
 
-abbrev pub IsGateEnd : World → gate_asked.Asked → Told → Told → Option (List Trouble) →
-    Option (List Trouble) → Result Ended Trouble → Type 0
+abbrev pub IsGateEnd : World → gate_asked.Asked → Told → Told → Account Trouble →
+    Account Trouble → Result Ended Trouble → Type 0
 IsGateEnd w a out out' heard heard' answer =
     Ends (IsEnd (λ status. Does out out' heard heard' (λ text told.
     IsGate w.shelf (list_in w) (heirs_in w) a text told status)))
-    (IsStopped gate_trouble (gate.IsNoRun w.shelf (list_in w) (heirs_in w) a.run) out out') answer
+    (IsStopped gate_trouble (gate.IsNoRun w.shelf (list_in w) (heirs_in w) a.run) out out'
+    (heard' ≡ heard)) answer
 
-abbrev pub IsChangesEnd : World → AskedDiff → Told → Told → Option (List Trouble) →
-    Option (List Trouble) → Result Ended Trouble → Type 0
+abbrev pub IsChangesEnd : World → AskedDiff → Told → Told → Account Trouble →
+    Account Trouble → Result Ended Trouble → Type 0
 IsChangesEnd w a out out' heard heard' answer =
     Ends (λ e. Does out out' heard heard' (λ text told.
     IsDiff w.shelf (list_in w) (heirs_in w) a text told (changed e)))
-    (IsStopped gate_trouble (changes.IsNoRun w.shelf (list_in w) (heirs_in w) a.run) out out')
-    answer
+    (IsStopped gate_trouble (changes.IsNoRun w.shelf (list_in w) (heirs_in w) a.run) out out'
+    (heard' ≡ heard)) answer
 
-abbrev pub IsNoticeEnd : World → notice_asked.Request → Told → Told → Option (List Trouble) →
-    Option (List Trouble) → Result Ended Trouble → Type 0
+abbrev pub IsNoticeEnd : World → notice_asked.Request → Told → Told → Account Trouble →
+    Account Trouble → Result Ended Trouble → Type 0
 IsNoticeEnd w a out out' heard heard' answer =
     Ends (λ e. Does out out' heard heard' (λ text told.
     IsNotice w.shelf (list_in w) (heirs_in w) a text told (noticed e)))
-    (IsStopped notice_trouble (notice.IsNoRun w.shelf (list_in w) a) out out') answer
+    (IsStopped notice_trouble (notice.IsNoRun w.shelf (list_in w) a) out out' (heard' ≡ heard))
+    answer

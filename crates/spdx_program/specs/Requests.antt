@@ -1,5 +1,6 @@
 -- What comes of a request.
-use Rattle.std.specs.Prelude.{◌≡◌, Bool, true, false, List, [], Option, None, Some, Result}
+use Rattle.std.specs.Prelude.{◌≡◌, Bool, true, false, [], None, Result}
+use Rattle.check_files.specs.Told.{Account, each}
 use Rattle.check_files.specs.declared.trouble.CheckTrouble.{CheckTrouble}
 use Rattle.check_program.specs.declared.run.Request as check_asked
 use Rattle.fix_program.specs.declared.run.Request as fix_asked
@@ -32,12 +33,12 @@ use Rattle.spdx_words.specs.declared.request.SimplifyRequest.{SimplifyRequest}
 -- was tried to put in the places of files
 pub record Side : Type 0 where
   pub output : Told
-  pub noted : Option (List CheckTrouble)
-  pub heard : Option (List Trouble)
-  pub tried : Option (List Attempt)
+  pub noted : Account CheckTrouble
+  pub heard : Account Trouble
+  pub tried : Account Attempt
 
-abbrev pub side : Told → Option (List CheckTrouble) → Option (List Trouble) →
-    Option (List Attempt) → Side
+abbrev pub side : Told → Account CheckTrouble → Account Trouble →
+    Account Attempt → Side
 side output noted heard tried =
     record {
       output = output;
@@ -60,8 +61,8 @@ abbrev pub Quietly : Bool → Told → Told → (Told → Told → Type 0) → T
 Quietly false out out' Is = Is out out'
 Quietly true out out' Is = Is nowhere nowhere × (out' ≡ out)
 
-abbrev pub DoesCheck : World → Bool → CheckRequest → Told → Told → Option (List CheckTrouble) →
-    Option (List CheckTrouble) → Result Ended Trouble → Type 0
+abbrev pub DoesCheck : World → Bool → CheckRequest → Told → Told → Account CheckTrouble →
+    Account CheckTrouble → Result Ended Trouble → Type 0
 DoesCheck w colours r out out' noted noted' answer =
     (a : check_asked.Request) × IsAskedOf r.paths.items (check_of r colours) a
     × Quietly r.quiet out out' (λ o o'. IsCheckEnd w a o o' noted noted' answer)
@@ -72,7 +73,7 @@ IsFixed w r x y answer =
 
 -- the same, where nothing was tried to be put in the places of files
 abbrev pub idle : Stand → Stand
-idle x = stand x.output x.heard (Some [])
+idle x = stand x.output x.heard (each [])
 
 -- where files aren't to be written, it is done without the one who could, who stays as he was
 abbrev pub IfWritten : Bool → Stand → Stand → (Stand → Stand → Type 0) → Type 0
@@ -85,14 +86,14 @@ DoesFix w r x y answer = IfWritten r.write x y (λ x y. IsFixed w r x y answer)
 abbrev pub DoesCompare : World → CompareRequest → Told → Told → Result Ended Trouble → Type 0
 DoesCompare w r out out' answer = IsCompareEnd w (compare_of r) out out' answer
 
-abbrev pub DoesSimplify : World → SimplifyRequest → Told → Told → Option (List Trouble) →
-    Option (List Trouble) → Result Ended Trouble → Type 0
+abbrev pub DoesSimplify : World → SimplifyRequest → Told → Told → Account Trouble →
+    Account Trouble → Result Ended Trouble → Type 0
 DoesSimplify w r out out' heard heard' answer =
     (a : simplify_asked.Request) × IsAskedOf r.paths.items (simplify_of r) a
     × IsSimplifyEnd w a out out' heard heard' answer
 
-abbrev pub DoesShow : World → ShowRequest → Told → Told → Option (List Trouble) →
-    Option (List Trouble) → Result Ended Trouble → Type 0
+abbrev pub DoesShow : World → ShowRequest → Told → Told → Account Trouble →
+    Account Trouble → Result Ended Trouble → Type 0
 DoesShow w r out out' heard heard' answer =
     (a : show_asked.Asked) × IsShowAsked r a × IsShowEnd w a out out' heard heard' answer
 
@@ -102,19 +103,19 @@ DoesMake s r out out' answer = IsMakeEnd s (make_of r) out out' answer
 abbrev pub DoesLists : World → DiffRequest → Told → Told → Result Ended Trouble → Type 0
 DoesLists w r out out' answer = IsListsEnd w (lists_of r) out out' answer
 
-abbrev pub DoesGate : World → Bool → GateRequest → Told → Told → Option (List Trouble) →
-    Option (List Trouble) → Result Ended Trouble → Type 0
+abbrev pub DoesGate : World → Bool → GateRequest → Told → Told → Account Trouble →
+    Account Trouble → Result Ended Trouble → Type 0
 DoesGate w colours r out out' heard heard' answer =
     (a : gate_asked.Asked) × IsAskedOf r.paths.items (gate_of r colours w.inside.version) a
     × Quietly r.quiet out out' (λ o o'. IsGateEnd w a o o' heard heard' answer)
 
-abbrev pub DoesChanges : World → ChangesRequest → Told → Told → Option (List Trouble) →
-    Option (List Trouble) → Result Ended Trouble → Type 0
+abbrev pub DoesChanges : World → ChangesRequest → Told → Told → Account Trouble →
+    Account Trouble → Result Ended Trouble → Type 0
 DoesChanges w r out out' heard heard' answer =
     IsChangesEnd w (changes_of r) out out' heard heard' answer
 
-abbrev pub DoesNotice : World → NoticeRequest → Told → Told → Option (List Trouble) →
-    Option (List Trouble) → Result Ended Trouble → Type 0
+abbrev pub DoesNotice : World → NoticeRequest → Told → Told → Account Trouble →
+    Account Trouble → Result Ended Trouble → Type 0
 DoesNotice w r out out' heard heard' answer =
     (a : notice_asked.Request) × IsAskedOf r.paths.items (notice_of r) a
     × IsNoticeEnd w a out out' heard heard' answer
@@ -156,3 +157,8 @@ pub record IsPerformed (w : World) (colours : Bool) (r : Request) (x y : Side)
 abbrev pub writes_files : Request → Bool
 writes_files (request.Fix r) = r.write
 writes_files _ = false
+
+-- files that have other names are replaced, too
+abbrev pub breaks_links : Request → Bool
+breaks_links (request.Fix r) = r.break_links
+breaks_links _ = false

@@ -85,9 +85,10 @@ fn asked<'r>(request: &'r FixRequest<'r>) -> Request<'r>
 struct Nobody {}
 
 impl Replacing for Nobody {
-    ghost use Rattle.std.specs.Prelude.{Some, []};
+    ghost use Rattle.std.specs.Prelude.{[]};
+    ghost use Rattle.check_files.specs.Told.{each};
 
-    ghost tried = { λ _. Some [] };
+    ghost tried = { λ _. each [] };
 
     // Memory is refused, of which nothing is kept.
     fn replace(

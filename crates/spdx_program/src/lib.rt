@@ -2,12 +2,13 @@
 //!
 //! ```rust
 //! // crates/spdx_main/src/main.rt
-//! Ok(ExitCode::from(run(&rt, &request, screen, io::writer(&rt), rt.stderr())))
+//! Ok(run(rt, inside(), &request, &mut output, &mut teller))
 //! ```
 //!
-//! `perform` is the whole of it under contract. Each command is a file, which asks the command's own crate for what the request
-//! asks: `check`, `fix`, `gate`, `notice`, `compare`, `simplify`, `changes` for `spdx diff`, and below `list` `show`, `make` and
-//! `diff`. `run` is the same over the system; what that tells is trusted. It stands on all crates of the program.
+//! `serve` is the whole of it under contract: what `perform` does, and what standard error has of that. Each command is a file,
+//! which asks the command's own crate for what the request asks: `check`, `fix`, `gate`, `notice`, `compare`, `simplify`,
+//! `changes` for `spdx diff`, and below `list` `show`, `make` and `diff`. `run` is `serve` over the system, whose word is
+//! trusted. It stands on all crates of the program.
 #![tactic(auto)]
 
 mod changes;
@@ -23,13 +24,14 @@ mod outputs;
 mod packages;
 mod readings;
 mod requests;
-mod serve;
+mod runs;
 mod simplify;
 mod teller;
 
 pub use crate::ended::Ended;
 pub use crate::files::system::System;
-pub use crate::list::known_version;
+pub use crate::list::{inside, known_version};
 pub use crate::outputs::Screen;
 pub use crate::requests::perform;
-pub use crate::serve::run;
+pub use crate::runs::{run, serve};
+pub use crate::teller::Teller;

@@ -15,12 +15,19 @@ use spdx_troubles::Trouble;
 const VERSION: &str = "0.1.0";
 
 /// The version of the list inside the program.
-pub fn known_version() -> &'static str {
+pub fn known_version() -> &'static str
+    ensures { result.now ≡ LIST_VERSION.now }
+{
     LIST_VERSION
 }
 
 /// What the program has inside.
-pub(crate) fn inside() -> Inside<'static> {
+pub fn inside() -> Inside<'static>
+    ensures list { result.list.list.now ≡ LINES.now }
+    ensures extras { result.list.extras.now ≡ EXTRAS.now }
+    ensures heirs { result.heirs.now ≡ HEIRS.now }
+    ensures version { result.version.now ≡ VERSION.now }
+{
     Inside {
         list: list_program::Inside {
             list: LINES,

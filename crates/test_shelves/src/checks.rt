@@ -24,9 +24,9 @@ struct Listener {
 }
 
 impl Telling for Listener {
-    ghost use Rattle.std.specs.Prelude.{None};
+    ghost use Rattle.check_files.specs.Told.{unkept};
 
-    ghost told = { λ _. None };
+    ghost told = { λ _. unkept };
 
     fn tell(&mut self, alloc: Global, trouble: CheckTrouble) -> Result<(), AllocError> {
         self.told.push_str("; ")?;

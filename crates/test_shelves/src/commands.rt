@@ -1,23 +1,28 @@
-// What comes of the words of a command line, over a shelf of values.
+// What comes of the words of a command line, over a shelf of values: what both outputs have, and the status.
 //
 // The first rows are the shelf's files, as `shelf` reads them. A row `WORD WORD .. => ANSWER`, where a word in single quotes may have
 // blanks, has the status; what is written, in quotes; behind a semicolon each file that takes other bytes, and these; and in
-// brackets each line that is told, that of totals last. `read back` stands in the place of a list that is made, and `no request`
+// brackets each line of standard error, that of totals last. `read back` stands in the place of a list that is made, and `no request`
 // says that the words are refused. In a word `\e` is the byte that begins a terminal's commands.
 
 use crate::desk::Desk;
 use crate::fixes::put_quoted;
 use crate::mends::{Places, put_places};
 use crate::shelf::{HEIRS, inside, shelf_of};
-use crate::told::Told;
 use check_program::Inside;
 use line_engine::stream::Output;
 use shelves::Held;
 use spdx_catalogue::Catalogue;
-use spdx_program::{Ended, perform};
+use spdx_program::{Screen, Teller, serve};
 use spdx_words::{Request, read};
 use std::alloc::{AllocError, Global};
 use test_rows::Tally;
+
+// Neither colours, nor how far a walk is.
+const PLAIN: Screen = Screen {
+    colours: false,
+    progress: false,
+};
 
 /// Appends the rows that don't hold, and how many do; gives whether all do.
 pub(crate) fn try_rows(alloc: Global, shown: &mut String, text: &str) -> Result<bool, AllocError> {
@@ -66,50 +71,40 @@ fn push_words(alloc: Global, words: &mut Vec<String>, part: &str) -> Result<(), 
 
 fn told_of(alloc: Global, shelf: &Held, request: &Request<'_>) -> Result<String, AllocError> {
     let desk = Desk::new(alloc, shelf);
+    let mut places = Places::new(&desk, breaks_links(request));
     let mut written = Output::new(Vec::new(alloc));
-    let mut told = Told::new(alloc);
-    let ended = end_of(alloc, &desk, request, &mut written, &mut told)?;
-    let mut said = format!(in alloc; "{} ", ended.status)?;
-    put_written(alloc, &mut said, request, &written.into_inner())?;
-    put_places(&mut said, desk)?;
-    said.push_str(told.in_brackets(alloc)?.as_str())?;
-    if let Some(totals) = ended.totals {
-        let line = totals.as_str().trim_end();
-        said.push_str(format!(in alloc; " [{line}]")?.as_str())?;
-    }
-    Ok(said)
-}
-
-// How the request ends; the trouble by which it stops is told last.
-fn end_of(
-    alloc: Global,
-    desk: &Desk<'_>,
-    request: &Request<'_>,
-    written: &mut Output<Vec<u8>>,
-    told: &mut Told,
-) -> Result<Ended, AllocError> {
-    let mut places = Places::new(desk, breaks_links(request));
+    let mut teller = Teller {
+        faults: Output::new(Vec::new(alloc)),
+        screen: PLAIN,
+    };
     let inside = Inside {
         list: inside(),
         heirs: HEIRS.as_bytes(),
         version: "0",
     };
-    match perform(
+    let status = serve(
         alloc,
-        desk,
+        &desk,
         inside,
         request,
-        false,
         &mut places,
-        written,
-        told,
-    ) {
-        Ok(ended) => Ok(ended),
-        Err(trouble) => Ok(Ended {
-            status: told.hear_last(alloc, trouble)?,
-            totals: None,
-        }),
+        &mut written,
+        &mut teller,
+    );
+    let mut said = format!(in alloc; "{status} ")?;
+    put_written(alloc, &mut said, request, &written.into_inner())?;
+    put_places(&mut said, desk)?;
+    let Teller { faults, .. } = teller;
+    put_lines(alloc, &mut said, &faults.into_inner())?;
+    Ok(said)
+}
+
+// Each line in brackets behind a blank.
+fn put_lines(alloc: Global, said: &mut String, text: &[u8]) -> Result<(), AllocError> {
+    for line in str::from_utf8(text).unwrap_or("no text").lines() {
+        said.push_str(format!(in alloc; " [{line}]")?.as_str())?;
     }
+    Ok(())
 }
 
 fn breaks_links(request: &Request<'_>) -> bool {

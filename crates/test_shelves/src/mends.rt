@@ -32,9 +32,9 @@ impl<'d> Places<'d> {
 }
 
 impl Replacing for Places<'_> {
-    ghost use Rattle.std.specs.Prelude.{None};
+    ghost use Rattle.check_files.specs.Told.{unkept};
 
-    ghost tried = { λ _. None };
+    ghost tried = { λ _. unkept };
 
     fn replace(
         &mut self,

@@ -1,6 +1,5 @@
 // Who is told of troubles, and keeps the lines.
 
-use check_files::{CheckTrouble, Telling};
 use fix_program::Progress;
 use spdx_commands::{Follower, Listener};
 use spdx_troubles::Trouble;
@@ -37,9 +36,9 @@ impl Told {
 }
 
 impl Listener for Told {
-    ghost use Rattle.std.specs.Prelude.{None};
+    ghost use Rattle.check_files.specs.Told.{unkept};
 
-    ghost heard = { λ _. None };
+    ghost heard = { λ _. unkept };
 
     fn hear(&mut self, alloc: Global, trouble: Trouble) -> Result<(), AllocError> {
         let line = trouble.line(alloc)?;
@@ -47,22 +46,6 @@ impl Listener for Told {
         self.lines.push(text)?;
         Ok(())
     }
-}
-
-impl Telling for Told {
-    ghost use Rattle.std.specs.Prelude.{None};
-
-    ghost told = { λ _. None };
-
-    fn tell(&mut self, alloc: Global, trouble: CheckTrouble) -> Result<(), AllocError> {
-        self.hear(alloc, Trouble::from(trouble))
-    }
-
-    fn seen(&mut self, _alloc: Global, _files: u64) -> Result<(), AllocError> {
-        Ok(())
-    }
-
-    fn ended(&mut self) {}
 }
 
 impl Progress for Told {

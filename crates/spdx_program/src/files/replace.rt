@@ -1,6 +1,6 @@
 // A file whose bytes are replaced at once.
 
-ghost use Rattle.std.specs.Prelude.{None};
+ghost use Rattle.check_files.specs.Told.{unkept};
 
 use crate::files::system::System;
 use shelves::Stamp;
@@ -34,7 +34,7 @@ impl<'r, R: System> Places<'r, R> {
 }
 
 impl<R: System> Replacing for Places<'_, R> {
-    ghost tried = { λ _. None };
+    ghost tried = { λ _. unkept };
 
     fn replace(
         &mut self,

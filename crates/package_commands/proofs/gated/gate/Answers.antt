@@ -12,22 +12,22 @@ use Rattle.package_commands.proofs.gated.gate.Goals as goal
 
 pub returns-in_err-outcome-clause-err : goal.returns-in_err-outcome-clause-err
 returns-in_err-outcome-clause-err g c =
-    stopped gate_trouble (IsNoRun (g.S.Shelf.told c.args.shelf.now) (inside_of c.args.inside.list.now c.args.inside.extras.now) c.args.heirs.now c.args.asked.run) (g.O.Sink.told c.args.output.now)
-    c.in_err-outcome.field-0.0 c.in_err-outcome.ensures.err c.from_residual.result c.from_residual.ensures.1
+    stopped gate_trouble (IsNoRun (g.S.Shelf.told c.args.shelf.now) (inside_of c.args.inside.list.now c.args.inside.extras.now) c.args.heirs.now c.args.asked.run) _ (g.O.Sink.told c.args.output.now)
+    c.in_err-outcome.field-0.0 c.in_err-outcome.ensures.err refl c.from_residual.result c.from_residual.ensures.1
 
 pub returns-in_err-tell_left_out-clause-err : goal.returns-in_err-tell_left_out-clause-err
 returns-in_err-tell_left_out-clause-err g c =
-    memory_refused gate_trouble (IsNoRun (g.S.Shelf.told c.args.shelf.now) (inside_of c.args.inside.list.now c.args.inside.extras.now) c.args.heirs.now c.args.asked.run) (g.O.Sink.told c.args.output.now) (g.O.Sink.told c.args.output.now)
+    memory_refused gate_trouble (IsNoRun (g.S.Shelf.told c.args.shelf.now) (inside_of c.args.inside.list.now c.args.inside.extras.now) c.args.heirs.now c.args.asked.run) _ (g.O.Sink.told c.args.output.now) (g.O.Sink.told c.args.output.now)
     c.from_residual-in_err-tell_left_out.result c.from_residual-in_err-tell_left_out.ensures.1
 
 pub returns-in_err-tell_read-clause-err : goal.returns-in_err-tell_read-clause-err
 returns-in_err-tell_read-clause-err g c =
-    memory_refused gate_trouble (IsNoRun (g.S.Shelf.told c.args.shelf.now) (inside_of c.args.inside.list.now c.args.inside.extras.now) c.args.heirs.now c.args.asked.run) (g.O.Sink.told c.args.output.now) (g.O.Sink.told c.args.output.now)
+    memory_refused gate_trouble (IsNoRun (g.S.Shelf.told c.args.shelf.now) (inside_of c.args.inside.list.now c.args.inside.extras.now) c.args.heirs.now c.args.asked.run) _ (g.O.Sink.told c.args.output.now) (g.O.Sink.told c.args.output.now)
     c.from_residual-in_err-tell_read.result c.from_residual-in_err-tell_read.ensures.1
 
 pub returns-in_err-put_end-clause-err : goal.returns-in_err-put_end-clause-err
 returns-in_err-put_end-clause-err g c =
-    part_broken gate_trouble (IsNoRun (g.S.Shelf.told c.args.shelf.now) (inside_of c.args.inside.list.now c.args.inside.extras.now) c.args.heirs.now c.args.asked.run) (g.O.Sink.told c.args.output.now)
+    part_broken gate_trouble (IsNoRun (g.S.Shelf.told c.args.shelf.now) (inside_of c.args.inside.list.now c.args.inside.extras.now) c.args.heirs.now c.args.asked.run) _ (g.O.Sink.told c.args.output.now)
     (g.O.Sink.told c.put_end.new.output) c.in_err-put_end.field-0.0 c.in_err-put_end.ensures.err c.from_residual-in_err-put_end.result c.from_residual-in_err-put_end.ensures.1
 
 pub returns-clause-ok : goal.returns-clause-ok

@@ -13,22 +13,22 @@ use Rattle.package_commands.proofs.pages.notice.Goals as goal
 
 pub returns-in_err-outcome-clause-err : goal.returns-in_err-outcome-clause-err
 returns-in_err-outcome-clause-err g c =
-    stopped notice_trouble (IsNoRun (g.S.Shelf.told c.args.shelf.now) (inside_of c.args.inside.list.now c.args.inside.extras.now) c.args.request) (g.O.Sink.told c.args.output.now)
-    c.in_err-outcome.field-0.0 c.in_err-outcome.ensures.err c.from_residual.result c.from_residual.ensures.1
+    stopped notice_trouble (IsNoRun (g.S.Shelf.told c.args.shelf.now) (inside_of c.args.inside.list.now c.args.inside.extras.now) c.args.request) _ (g.O.Sink.told c.args.output.now)
+    c.in_err-outcome.field-0.0 c.in_err-outcome.ensures.err refl c.from_residual.result c.from_residual.ensures.1
 
 pub returns-in_err-tell_left_out-clause-err : goal.returns-in_err-tell_left_out-clause-err
 returns-in_err-tell_left_out-clause-err g c =
-    memory_refused notice_trouble (IsNoRun (g.S.Shelf.told c.args.shelf.now) (inside_of c.args.inside.list.now c.args.inside.extras.now) c.args.request) (g.O.Sink.told c.args.output.now) (g.O.Sink.told c.args.output.now)
+    memory_refused notice_trouble (IsNoRun (g.S.Shelf.told c.args.shelf.now) (inside_of c.args.inside.list.now c.args.inside.extras.now) c.args.request) _ (g.O.Sink.told c.args.output.now) (g.O.Sink.told c.args.output.now)
     c.from_residual-in_err-tell_left_out.result c.from_residual-in_err-tell_left_out.ensures.1
 
 pub returns-in_err-tell_both-clause-err : goal.returns-in_err-tell_both-clause-err
 returns-in_err-tell_both-clause-err g c =
-    memory_refused notice_trouble (IsNoRun (g.S.Shelf.told c.args.shelf.now) (inside_of c.args.inside.list.now c.args.inside.extras.now) c.args.request) (g.O.Sink.told c.args.output.now) (g.O.Sink.told c.args.output.now)
+    memory_refused notice_trouble (IsNoRun (g.S.Shelf.told c.args.shelf.now) (inside_of c.args.inside.list.now c.args.inside.extras.now) c.args.request) _ (g.O.Sink.told c.args.output.now) (g.O.Sink.told c.args.output.now)
     c.from_residual-in_err-tell_both.result c.from_residual-in_err-tell_both.ensures.1
 
 pub returns-in_err-totals-clause-err : goal.returns-in_err-totals-clause-err
 returns-in_err-totals-clause-err g c =
-    part_broken notice_trouble (IsNoRun (g.S.Shelf.told c.args.shelf.now) (inside_of c.args.inside.list.now c.args.inside.extras.now) c.args.request) (g.O.Sink.told c.args.output.now)
+    part_broken notice_trouble (IsNoRun (g.S.Shelf.told c.args.shelf.now) (inside_of c.args.inside.list.now c.args.inside.extras.now) c.args.request) _ (g.O.Sink.told c.args.output.now)
     (g.O.Sink.told c.put_end.new.output) c.in_err-totals.field-0.0 c.in_err-totals.ensures.err c.from_residual-in_err-totals.result c.from_residual-in_err-totals.ensures.1
 
 pub returns-clause-ok : goal.returns-clause-ok

@@ -6,10 +6,10 @@ use Rattle.spdx_commands.proofs.lists.diff.Goals as goal
 
 pub returns-in_err-text-clause-err : goal.returns-in_err-text-clause-err
 returns-in_err-text-clause-err g c =
-    stopped list_trouble (IsNoDiff (g.S.Shelf.told c.args.shelf.now) (inside_of c.args.inside.list.now c.args.inside.extras.now) c.args.heirs.now c.args.lists) (g.O.Sink.told c.args.output.now)
-    c.in_err-text.field-0.0 c.in_err-text.ensures.err c.from_residual.result c.from_residual.ensures.1
+    stopped list_trouble (IsNoDiff (g.S.Shelf.told c.args.shelf.now) (inside_of c.args.inside.list.now c.args.inside.extras.now) c.args.heirs.now c.args.lists) _ (g.O.Sink.told c.args.output.now)
+    c.in_err-text.field-0.0 c.in_err-text.ensures.err tt c.from_residual.result c.from_residual.ensures.1
 
 pub returns-in_err-write_all-clause-err : goal.returns-in_err-write_all-clause-err
 returns-in_err-write_all-clause-err g c =
-    output_failed list_trouble (IsNoDiff (g.S.Shelf.told c.args.shelf.now) (inside_of c.args.inside.list.now c.args.inside.extras.now) c.args.heirs.now c.args.lists) (g.O.Sink.told c.args.output.now)
+    output_failed list_trouble (IsNoDiff (g.S.Shelf.told c.args.shelf.now) (inside_of c.args.inside.list.now c.args.inside.extras.now) c.args.heirs.now c.args.lists) _ (g.O.Sink.told c.args.output.now)
     (g.O.Sink.told c.write_all.new.output) c.in_err-write_all.ensures.failed c.from_residual-in_err-write_all.result c.from_residual-in_err-write_all.ensures.1

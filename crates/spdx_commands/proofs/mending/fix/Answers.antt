@@ -9,7 +9,7 @@ pub returns-in_err-run-clause-err : goal.returns-in_err-run-clause-err
 returns-in_err-run-clause-err g c =
     not_begun (g.S.Shelf.told c.args.shelf.now) (inside_of c.args.inside.list.now c.args.inside.extras.now) c.args.request
     (stand (g.O.Sink.told c.args.output.now) (g.T.Listener.heard c.args.listener.now) (g.R.Replacing.tried c.args.replacer.now)) (g.T.Listener.heard c.fix.new.progress)
-    c.in_err-run.field-0.0 c.in_err-run.ensures.err c.from_residual.result c.from_residual.ensures.1
+    c.in_err-run.field-0.0 (g.met.T.Follower.steady c.fix.new.progress c.args.listener.now c.in_err-run.ensures.kept) c.in_err-run.ensures.err c.from_residual.result c.from_residual.ensures.1
 
 pub returns-in_err-told-clause-err : goal.returns-in_err-told-clause-err
 returns-in_err-told-clause-err g c =

@@ -1,4 +1,4 @@
-use Rattle.std.proofs.Common.{ℕ, ◌<◌, subst}
+use Rattle.std.proofs.Common.{ℕ, ◌<◌, subst, refl}
 use Rattle.check_files.proofs.Doing.{known}
 use Rattle.list_program.specs.Named.{inside_of}
 use Rattle.meaning_program.specs.Files.{IsNoRun}
@@ -9,12 +9,12 @@ use Rattle.spdx_commands.proofs.simplification.simplify.Goals as goal
 
 pub returns-in_err-run-clause-err : goal.returns-in_err-run-clause-err
 returns-in_err-run-clause-err g c =
-    stopped meaning_trouble (IsNoRun (g.S.Shelf.told c.args.shelf.now) (inside_of c.args.inside.list.now c.args.inside.extras.now) c.args.request) (g.O.Sink.told c.args.output.now)
-    c.in_err-run.field-0.0 c.in_err-run.ensures.err c.from_residual.result c.from_residual.ensures.1
+    stopped meaning_trouble (IsNoRun (g.S.Shelf.told c.args.shelf.now) (inside_of c.args.inside.list.now c.args.inside.extras.now) c.args.request) _ (g.O.Sink.told c.args.output.now)
+    c.in_err-run.field-0.0 c.in_err-run.ensures.err refl c.from_residual.result c.from_residual.ensures.1
 
 pub returns-in_err-put_files-clause-err : goal.returns-in_err-put_files-clause-err
 returns-in_err-put_files-clause-err g c =
-    part_broken meaning_trouble (IsNoRun (g.S.Shelf.told c.args.shelf.now) (inside_of c.args.inside.list.now c.args.inside.extras.now) c.args.request) (g.O.Sink.told c.args.output.now)
+    part_broken meaning_trouble (IsNoRun (g.S.Shelf.told c.args.shelf.now) (inside_of c.args.inside.list.now c.args.inside.extras.now) c.args.request) _ (g.O.Sink.told c.args.output.now)
     (g.O.Sink.told c.put_files.new.output) c.in_err-put_files.field-0.0 c.in_err-put_files.ensures.err c.from_residual-in_err-put_files.result c.from_residual-in_err-put_files.ensures.1
 
 pub returns-clause-ok : goal.returns-clause-ok
