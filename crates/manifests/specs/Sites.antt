@@ -135,6 +135,16 @@ abbrev pub IsError : List ℕ → ManifestError → Type 0
 IsError bytes (Refused fault) = IsReason bytes fault.reason
 IsError bytes NoMemory = ⊤
 
+-- bytes are refused for their mark, if they are
+abbrev pub IsMarked : List ℕ → ManifestError → Type 0
+IsMarked bytes (Refused fault) = is_utf16 bytes ≡ true
+IsMarked bytes NoMemory = ⊤
+
+-- a file of fields or elements is refused for nothing else; of the other forms their readers decide
+abbrev pub IsRefusedFor : Form → List ℕ → ManifestError → Type 0
+IsRefusedFor (Plain form) bytes error = IsMarked bytes error
+IsRefusedFor form bytes error = ⊤
+
 -- the literal of a text that the document has is replaced by the new text in quotes, every other
 -- byte stays, and what is read is the document with the new text where the old one stood, and every
 -- other value as before

@@ -1,7 +1,7 @@
 // The expressions of a manifest of any form.
 
 ghost use Rattle.std.specs.Prelude.{◌≡◌, IfErr, IfNone, IfOk, IfSome};
-ghost use Rattle.manifests.specs.Sites.{AreSites, IsError, IsLegible, Mends, Stays, reads_slash};
+ghost use Rattle.manifests.specs.Sites.{AreSites, IsError, IsLegible, IsRefusedFor, Mends, Stays, reads_slash};
 
 use crate::form::Form;
 use crate::json_sites::{json_sites, json_with};
@@ -19,17 +19,19 @@ pub fn reads_slash(form: Form) -> bool
 
 /// The expressions that the bytes declare as a manifest of the form, in the order of the document's members, each at its
 /// place: where its literal stands, with its quotes. Words that a form has for what is no expression are left out: npm's
-/// `UNLICENSED` and `SEE LICENSE IN ..`, `proprietary` of Composer and Poetry, and those of `plain_sites`.
+/// `UNLICENSED` and `SEE LICENSE IN ..`, Composer's `proprietary`, Poetry's `Proprietary`, and those of `plain_sites`.
 ///
 /// The bytes are read twice by the form's reader. Linear in them.
 ///
 /// # Errors
 ///
-/// The bytes aren't what the form is written in (a file of fields or elements is no UTF-16), or it isn't known where one of the expressions stands, for the scan of
+/// The bytes aren't what the form is written in, as a file of fields or elements isn't that begins with a mark of UTF-16,
+/// which is refused for nothing else; or it isn't known where one of the expressions stands, for the scan of
 /// literals and the reader disagree; or memory was refused.
 pub fn sites(alloc: Global, form: Form, bytes: &[u8]) -> Result<Vec<Site>, ManifestError>
     ensures ok { IfOk result (λ sites. AreSites form bytes.now sites.items) }
     ensures err { IfErr result (IsError bytes.now) }
+    ensures mark { IfErr result (IsRefusedFor form bytes.now) }
 {
     match form {
         Form::Cargo | Form::Pyproject | Form::Reuse => toml_sites(alloc, form, bytes),
@@ -60,6 +62,7 @@ pub fn with_expression(
         (Stays form bytes.now number new.now)) }
     ensures legible { IfOk result (λ _. IsLegible form bytes.now) }
     ensures err { IfErr result (IsError bytes.now) }
+    ensures mark { IfErr result (IsRefusedFor form bytes.now) }
 {
     match form {
         Form::Cargo | Form::Pyproject | Form::Reuse => {
