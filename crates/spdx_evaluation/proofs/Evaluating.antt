@@ -151,3 +151,17 @@ pub evaluates_one : {F : Type 0} (S : F → LicenseReq → Bool → F → Type 0
 evaluates_one {F} S f g (n ∷ []) d r b one node called = subst (λ (z : ExprNode). Evaluates S f (tree_in (z ∷ [])) b g) (sym node) (b ∷ [], (g, (r.req, refl, called), refl), refl)
 evaluates_one S f g [] d r b one node called = cc
 evaluates_one S f g (n ∷ m ∷ ms) d r b one node called = absurd (omega (arith, one))
+
+-- two requirements and an operator are its tree over their leaves, whose truth is what it makes of both answers
+pub evaluates_two : {F : Type 0} (S : F → LicenseReq → Bool → F → Type 0) (f h g : F) (nodes : List ExprNode) (c d e : ExprNode) (q r : ExpressionReq) (o : Operator) (a b truth : Bool) → length nodes ≡ 3
+    → get_or nodes 0 c ≡ ExprNode.Req q → get_or nodes 1 d ≡ ExprNode.Req r → get_or nodes 2 e ≡ ExprNode.Op o → S f q.req a h → S h r.req b g → truth ≡ joined o a b
+    → Evaluates S f (tree_in nodes) truth g
+evaluates_two {F} S f h g (n ∷ m ∷ k ∷ []) c d e q r o a b truth three first second last one other is =
+    subst (λ (x : ExprNode). Evaluates S f (tree_in (x ∷ m ∷ k ∷ [])) truth g) (sym first)
+    (subst (λ (y : ExprNode). Evaluates S f (tree_in (ExprNode.Req q ∷ y ∷ k ∷ [])) truth g) (sym second)
+    (subst (λ (z : ExprNode). Evaluates S f (tree_in (ExprNode.Req q ∷ ExprNode.Req r ∷ z ∷ [])) truth g) (sym last)
+    (a ∷ b ∷ [], (h, (q.req, refl, one), (g, (r.req, refl, other), refl)), is)))
+evaluates_two S f h g [] c d e q r o a b truth three first second last one other is = cc
+evaluates_two S f h g (n ∷ []) c d e q r o a b truth three first second last one other is = absurd (omega (arith, three))
+evaluates_two S f h g (n ∷ m ∷ []) c d e q r o a b truth three first second last one other is = absurd (omega (arith, three))
+evaluates_two S f h g (n ∷ m ∷ k ∷ j ∷ js) c d e q r o a b truth three first second last one other is = absurd (omega (arith, three))

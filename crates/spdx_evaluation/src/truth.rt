@@ -9,7 +9,7 @@ ghost use Rattle.spdx_evaluation.specs.Calls.{Evaluates};
 ghost use Rattle.spdx_evaluation.specs.ByRequirement.{AnswersBy};
 ghost use Rattle.spdx_evaluation.specs.Truth.{holds};
 
-use crate::word::truth_in_word;
+use crate::word::{joined, truth_in_word};
 use selections::Truths;
 use spdx_catalogue::LicenseReq;
 use spdx_parser::node::{ExprNode, Operator};
@@ -41,6 +41,16 @@ pub fn evaluate<'c, F: FnMut(&LicenseReq<'c>) -> bool>(
         && let ExprNode::Req(requirement) = node
     {
         return Ok(f(&requirement.req));
+    }
+    // Of most others two requirements are joined.
+    if let [first, second, last] = nodes
+        && let ExprNode::Req(left) = first
+        && let ExprNode::Req(right) = second
+        && let ExprNode::Op(operator) = last
+    {
+        let one = f(&left.req);
+        let other = f(&right.req);
+        return Ok(joined(*operator, one, other));
     }
     if nodes.len() <= 64 {
         return Ok(truth_in_word(nodes, f));

@@ -35,7 +35,8 @@ pub(crate) fn truth_in_word<'c, F: FnMut(&LicenseReq<'c>) -> bool>(
     truths.take()
 }
 
-fn joined(operator: Operator, left: bool, right: bool) -> bool
+/// What the operator makes of the truths of its operands.
+pub(crate) fn joined(operator: Operator, left: bool, right: bool) -> bool
     ensures { result ≡ spec.joined operator left right }
 {
     match operator {
