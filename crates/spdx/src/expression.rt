@@ -105,6 +105,15 @@ impl<'c> Expression<'c> {
         self.nodes.as_slice()
     }
 
+    /// Gives back memory that the tree doesn't take. Nothing else changes.
+    ///
+    /// While an expression is read there is room for more nodes than it has.
+    pub fn shrink_to_fit(&mut self)
+        ensures { self.new ≡ self.old }
+    {
+        self.nodes.shrink_to_fit();
+    }
+
     /// A copy that is the same in every part, spans and text included, or the want of memory.
     pub fn try_clone(&self, alloc: Global) -> Result<Expression<'c>, AllocError>
         ensures { IfOk result (λ copy. copy ≡ self.now) }

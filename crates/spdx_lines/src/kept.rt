@@ -34,7 +34,7 @@ impl<'c> Kept<'c> {
     pub(crate) fn keep(
         &mut self,
         alloc: Global,
-        expression: Expression<'c>,
+        mut expression: Expression<'c>,
     ) -> Result<(), AllocError>
         ensures { OnOk result ((c : Rows) (trees : List Tree) →
             AreKept c (trees_in self.old) trees → IsOfRows c expression.entry.tree →
@@ -45,6 +45,7 @@ impl<'c> Kept<'c> {
             return Ok(());
         }
         let place = self.expressions.len();
+        expression.shrink_to_fit();
         self.expressions.push(expression)?;
         self.note(alloc, text, place)
     }
