@@ -1,35 +1,38 @@
 -- What `diff` writes.
-use Rattle.std.proofs.Common.{◌≡◌, ℕ, ◌<◌, Bool, List, [], ◌∷◌, arith, refl, subst, sym}
+use Rattle.std.proofs.Common.{◌≡◌, ◌∙◌, ℕ, ◌<◌, Bool, List, [], ◌∷◌, ◌++◌, ap, append-nil, arith, map, refl, subst}
 use Rattle.std.specs.declared.alloc.Global.{Global}
 use Rattle.std.specs.Prelude.{Option, None, Some, String}
-use Rattle.std.specs.Io.KnownBytes.{Appends}
-use Rattle.std.proofs.KnownBytes.{Appends-nil}
-use Rattle.line_engine.specs.Device as device
 use Rattle.changes_program.proofs.Passing.{both_listed, the_files}
 use Rattle.changes_program.specs.Run.{IsRun, IsToldOfBoth, status_by, status_of}
 use Rattle.changes_program.specs.declared.run.Run.{Run}
 use Rattle.changes_program.specs.declared.run.Told.{Told}
-use Rattle.check_files.specs.Told.{Writes}
+use Rattle.check_files.specs.Told.{Hears, Tells, each}
 use Rattle.list_program.specs.Named.{InsideBytes}
 use Rattle.package_files.specs.All.{AreListed}
 use Rattle.package_files.specs.declared.listed.Listed.{Listed}
 use Rattle.shelves.specs.Shelf.{Shelved}
 use Rattle.changes_program.specs.declared.run.Request.{Request}
-use Rattle.package_commands.specs.Changes.{AreBothRead, IsPut, line_if, line_of}
+use Rattle.package_commands.specs.Changes.{AreBothRead, IsDiffTold, IsToldSaid}
+use Rattle.package_commands.specs.Forms.{AreFormsTold}
+use Rattle.package_commands.proofs.Ends.{before_told, told_all}
+use Rattle.spdx_commands.specs.Said.{text_of, told_of}
+use Rattle.spdx_commands.specs.declared.said.Said.{Said}
+use Rattle.spdx_troubles.specs.Causes.{file_trouble}
+use Rattle.spdx_troubles.specs.declared.trouble.Trouble.{Trouble}
 
 -- ---- what is told of the changes
 
-pub none_put : (out : device.Told) (wanted : Bool) (told : Option Told) → told ≡ None → Writes out out (IsPut wanted told None)
-none_put out wanted told is =
-    subst (λ (o : Option Told). Writes out out (IsPut wanted o None)) (sym is) ([], Appends-nil out.bytes, record { text_is = refl; totals_are = refl })
-
-pub some_put : (out out' : device.Told) (wanted : Bool) (told : Option Told) (t : Told) (totals : Option (String Global)) → told ≡ Some t
-    → Writes out out' (IsPut wanted (Some t) totals) → Writes out out' (IsPut wanted told totals)
-some_put out out' wanted told t totals is h = subst (λ (o : Option Told). Writes out out' (IsPut wanted o totals)) (sym is) h
-
-pub changes_put : (out out' : device.Told) (wanted : Bool) (t : Told) (totals : Option (String Global)) → Appends out.bytes out'.bytes t.text.items
-    → line_of totals ≡ line_if wanted t.totals → Writes out out' (IsPut wanted (Some t) totals)
-changes_put out out' wanted t totals writes is = (t.text.items, writes, record { text_is = refl; totals_are = is })
+pub diff_told : (wanted : Bool) (run : Run) (mid last : List Trouble) (s : Said) (totals : Option (String Global)) → Hears (each []) (each mid) (map file_trouble run.left_out.items)
+    → Tells (each mid) (each last) (AreFormsTold run.files.items) → IsToldSaid last wanted run.told s totals → IsDiffTold wanted run (text_of s) (told_of s) totals
+diff_told wanted run mid last s totals first forms is =
+    let (read, are, same) = before_told (map file_trouble run.left_out.items) mid last (AreFormsTold run.files.items) first forms in
+    record {
+      forms = read;
+      text_is = is.text_is;
+      forms_are = are;
+      told_are = told_all (map file_trouble run.left_out.items) read last [] s same is.before_is is.after_is ∙ ap (λ (l : List Trouble). map file_trouble run.left_out.items ++ l) (append-nil read);
+      totals_are = is.totals_are;
+    }
 
 -- ---- both files
 

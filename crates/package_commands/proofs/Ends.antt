@@ -1,25 +1,27 @@
--- What is written and told at the end of a command.
-use Rattle.std.proofs.Common.{◌≡◌, ◌↔◌, ℕ, Bool, true, false, List, [], ◌∷◌, ◌++◌, ap, map, refl, string_bytes, subst, sym}
+-- What is said of a run.
+use Rattle.std.proofs.Common.{◌≡◌, ◌↔◌, ◌∙◌, ℕ, Bool, true, false, List, [], ◌∷◌, ◌++◌, ap, append_assoc, map, refl, string_bytes, subst, sym}
 use Rattle.std.specs.declared.alloc.Global.{Global}
 use Rattle.std.specs.Prelude.{Contains, Option, String, unwrap_or}
 use Rattle.std.specs.Borrow.{Bor}
 use Rattle.std.specs.List.Sorted.{IsStrictlySortedBy}
-use Rattle.std.specs.Io.KnownBytes.{Appends}
-use Rattle.line_engine.specs.Device.{Told}
-use Rattle.check_files.specs.Told.{Account, Does, Hears, Tells}
-use Rattle.check_files.proofs.Doing.{hears_nil, hears_trans, heard_alone, nothing}
+use Rattle.std.specs.Option.{option_copied}
+use Rattle.check_files.specs.Told.{Account, Hears, Tells, each}
+use Rattle.check_files.proofs.Doing.{hears_nil, hears_trans}
 use Rattle.document_references.specs.Documents.{Shared, text_cmp}
 use Rattle.gate_program.specs.declared.run.End.{End}
 use Rattle.gate_program.specs.declared.run.End.TheVariants as end
+use Rattle.gate_program.specs.declared.run.Run.{Run}
 use Rattle.gate_program.specs.declared.told.GateText.{GateText}
 use Rattle.general_texts.specs.Held.{name_in}
 use Rattle.package_items.specs.Rows.{PackageRow}
-use Rattle.package_files.specs.declared.fault.FileFault.{FileFault}
 use Rattle.package_files.specs.declared.listed.Listed.{Listed}
 use Rattle.package_files.specs.declared.listed.Source.{Source}
 use Rattle.package_commands.specs.Forms.{AreFormsTold}
-use Rattle.package_commands.specs.Gate.{AreBothTold, IsGateEnd, IsReadTold, IsUnexplained}
+use Rattle.package_commands.specs.Gate.{AreBothTold, IsEndSaid, IsGateTold, IsReadTold}
 use Rattle.package_commands.specs.Shared.{AreSharedTold, AreToldAs, documents_in, names_text}
+use Rattle.package_commands.specs.declared.gated.Asked.{Asked}
+use Rattle.spdx_commands.specs.Said.{text_of, told_of}
+use Rattle.spdx_commands.specs.declared.said.Said.{Said}
 use Rattle.spdx_troubles.specs.Causes.{file_trouble}
 use Rattle.spdx_troubles.specs.declared.trouble.Trouble.{Trouble}
 use Rattle.spdx_troubles.specs.declared.trouble.Trouble.TheVariants as trouble
@@ -66,44 +68,39 @@ pub some_named : (names : List (Bor (List ℕ))) (h l : Account Trouble) (text :
 some_named [] h l text some is tells = absurd (some refl)
 some_named (n ∷ names) h l text some is tells = record { told = trouble.Shared text ∷ []; tells = tells; is = (text, is, refl) }
 
--- ---- how `gate` ends
+-- ---- what is said
 
-pub no_file_end : (out : Told) (heard : Account Trouble) (explain : Option (List ℕ)) (e : End) → e ≡ end.NoFile → Does out out heard heard (IsGateEnd explain e)
-no_file_end out heard explain e is =
-    subst (λ (x : End). Does out out heard heard (IsGateEnd explain x)) (sym is) (nothing out heard (IsGateEnd explain end.NoFile) (refl, refl))
+-- where nothing was told before, all that is there was told of this
+pub all_told : (xs : List Trouble) (Is : List Trouble → Type 0) → Tells (each []) (each xs) Is → Is xs
+all_told xs Is p = subst Is (sym p.tells) p.is
 
-pub no_baseline_end : (out : Told) (heard heard' : Account Trouble) (explain : Option (List ℕ)) (e : End) (f : FileFault) (t : Trouble) → e ≡ end.NoBaseline f → t ≡ file_trouble f
-    → Hears heard heard' (t ∷ []) → Does out out heard heard' (IsGateEnd explain e)
-no_baseline_end out heard heard' explain e f t is told tells =
-    subst (λ (x : End). Does out out heard heard' (IsGateEnd explain x)) (sym is)
-    (heard_alone out heard heard' (t ∷ []) (IsGateEnd explain (end.NoBaseline f)) tells (refl, ap (λ (x : Trouble). x ∷ []) told))
+-- what is told before the text: of files that are left out, and then of this
+pub before_told : (faults : List Trouble) (mid last : List Trouble) (Is : List Trouble → Type 0) → Hears (each []) (each mid) faults → Tells (each mid) (each last) Is
+    → (read : List Trouble) × Is read × (last ≡ faults ++ read)
+before_told faults mid last Is first p = (p.told, p.is, p.tells ∙ ap (λ (l : List Trouble). l ++ p.told) first)
 
-pub told_end : (out out' : Told) (heard : Account Trouble) (explain : Option (List ℕ)) (e : End) (x : GateText) → e ≡ end.Told x → Appends out.bytes out'.bytes x.bytes.items
-    → Does out out' heard heard (IsGateEnd explain e)
-told_end out out' heard explain e x is writes =
-    subst (λ (y : End). Does out out' heard heard (IsGateEnd explain y)) (sym is)
-    (record { text = x.bytes.items; told = []; writes = writes; tells = hears_nil heard; is = (refl, refl) })
+-- and behind it how it ends
+pub told_all : (faults read before ended : List Trouble) (s : Said) → before ≡ faults ++ read → s.before.items ≡ before → s.after.items ≡ ended → told_of s ≡ faults ++ (read ++ ended)
+told_all faults read before ended s is was ends =
+    ap (λ (l : List Trouble). l ++ s.after.items) (was ∙ is) ∙ ap (λ (l : List Trouble). (faults ++ read) ++ l) ends ∙ append_assoc faults read ended
 
-pub no_package_end : (out out' : Told) (heard heard' : Account Trouble) (explain : Option (List ℕ)) (e : End) (x : GateText) → e ≡ end.NoPackage x
-    → Does out out' heard heard' (IsUnexplained explain x) → Does out out' heard heard' (IsGateEnd explain e)
-no_package_end out out' heard heard' explain e x is h = subst (λ (y : End). Does out out' heard heard' (IsGateEnd explain y)) (sym is) h
+-- ---- `gate`
 
-pub unexplained : (out out' : Told) (heard heard' : Account Trouble) (explain : Option (List ℕ)) (x : GateText) (name : String Global) → Appends out.bytes out'.bytes x.bytes.items
-    → string_bytes name ≡ unwrap_or explain [] → Hears heard heard' (trouble.NoPackage name ∷ []) → Does out out' heard heard' (IsUnexplained explain x)
-unexplained out out' heard heard' explain x name writes is tells =
-    record { text = x.bytes.items; told = trouble.NoPackage name ∷ []; writes = writes; tells = tells; is = (refl, (name, is, refl)) }
+pub gate_told : (a : Asked) (run : Run) (mid last : List Trouble) (s : Said) → Hears (each []) (each mid) (map file_trouble run.left_out.items)
+    → Tells (each mid) (each last) (IsReadTold a.is_quiet a.run.wanted.source run.files.items) → IsEndSaid last (option_copied a.run.look.explain) run.end s
+    → IsGateTold a run (text_of s) (told_of s)
+gate_told a run mid last s first reads ends =
+    let (read, are, is) = before_told (map file_trouble run.left_out.items) mid last (IsReadTold a.is_quiet a.run.wanted.source run.files.items) first reads in
+    record {
+      read = read;
+      ended = s.after.items;
+      read_are = are;
+      ends = ends.ends;
+      told_are = told_all (map file_trouble run.left_out.items) read last s.after.items s is ends.before_is refl;
+    }
 
--- ---- a command as a whole
-
--- it is told why files are left out, then how others were read, and then how it ends
-pub ended : (out out' : Told) (h k l m : Account Trouble) (faults : List Trouble) (IsRead : List Trouble → Type 0) (IsEnd Is : List ℕ → List Trouble → Type 0)
-    → Hears h k faults → Tells k l IsRead → Does out out' l m IsEnd
-    → ((text : List ℕ) (read ended : List Trouble) → IsRead read → IsEnd text ended → Is text (faults ++ (read ++ ended)))
-    → Does out out' h m Is
-ended out out' h k l m faults IsRead IsEnd Is p q r so = record {
-  text = r.text;
-  told = faults ++ (q.told ++ r.told);
-  writes = r.writes;
-  tells = hears_trans h k m faults (q.told ++ r.told) p (hears_trans k l m q.told r.told q.tells r.tells);
-  is = so r.text q.told r.told q.is r.is;
-}
+-- all is written, and it is told behind it that no package has the name
+pub no_package_said : (before : List Trouble) (explain : Option (List ℕ)) (e : End) (x : GateText) (name : String Global) (s : Said) → e ≡ end.NoPackage x → s.before.items ≡ before
+    → text_of s ≡ x.bytes.items → string_bytes name ≡ unwrap_or explain [] → s.after.items ≡ trouble.NoPackage name ∷ [] → IsEndSaid before explain e s
+no_package_said before explain e x name s is was text named told =
+    subst (λ (y : End). IsEndSaid before explain y s) (sym is) (record { before_is = was; ends = (text, (name, named, told)) })

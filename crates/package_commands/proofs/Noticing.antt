@@ -2,16 +2,12 @@
 use Rattle.std.proofs.Common.{◌≡◌, ◌∙◌, ℕ, ◌<◌, ◌==◌, Bool, true, false, List, [], ◌++◌, ap, arith, map, refl, subst, sym}
 use Rattle.std.specs.declared.alloc.Global.{Global}
 use Rattle.std.specs.Global.{Vec}
-use Rattle.std.specs.Prelude.{Option, None, Some, String, codes, is_some}
-use Rattle.std.specs.Io.KnownBytes.{Appends}
-use Rattle.std.proofs.KnownBytes.{Appends-nil}
-use Rattle.line_engine.specs.Device.{Told}
-use Rattle.check_files.specs.Told.{Account, Does, Hears, Tells, Writes}
-use Rattle.check_files.proofs.Doing.{heard_alone, nothing}
+use Rattle.std.specs.Prelude.{Option, None, Some, String, codes, is_some, option_map, unwrap_or}
+use Rattle.check_files.specs.Told.{Hears, Tells, each}
 use Rattle.choice_program.specs.declared.choosing.ChoiceTrouble.{ChoiceTrouble}
 use Rattle.list_program.specs.Named.{InsideBytes}
 use Rattle.notice_program.specs.Ends.{end_status}
-use Rattle.notice_program.specs.Law.{AreAllNoticed, IsWrittenExactly, page_of}
+use Rattle.notice_program.specs.Law.{AreAllNoticed, IsWrittenExactly, page_bytes, page_of}
 use Rattle.notice_program.specs.Run as run
 use Rattle.notice_program.specs.Run.{IsEnd, IsRun, status_of}
 use Rattle.notice_program.specs.declared.end.End.{End}
@@ -27,61 +23,73 @@ use Rattle.spdx_troubles.specs.Causes.{file_trouble}
 use Rattle.spdx_troubles.specs.declared.trouble.Trouble.{Trouble}
 use Rattle.text_files.specs.declared.trouble.TextTrouble.{TextTrouble}
 use Rattle.package_commands.specs.Gate.{AreBothTold}
-use Rattle.package_commands.specs.Notice.{IsEndTold, IsNoticeEnd, IsPage, bytes_in, bytes_of, missing_trouble, totals_of}
+use Rattle.package_commands.specs.Notice.{IsEndSaid, IsEndTold, IsNoPage, IsNoticeEnd, IsNoticeTold, IsPage, bytes_in, missing_trouble, totals_of}
 use Rattle.package_commands.specs.Texts.{AreTextsTold, IsFolderTold, IsNotUtf8}
 use Rattle.package_commands.specs.Unchosen.{AreUnchosenTold, IsOnly}
+use Rattle.package_commands.proofs.Ends.{all_told, before_told, told_all}
+use Rattle.spdx_commands.specs.Said.{text_of, told_of}
+use Rattle.spdx_commands.specs.declared.said.Said.{Said}
 
 -- ---- the page
 
-pub page_bytes_put : (out out' : Told) (page : Option (Vec ℕ)) (v : Vec ℕ) → page ≡ Some v → Appends out.bytes out'.bytes v.items → Writes out out' (λ text. text ≡ bytes_of page)
-page_bytes_put out out' page v is writes = (v.items, writes, sym (ap bytes_of is))
+pub page_text : (page : Option (Vec ℕ)) (v : Vec ℕ) → v.items ≡ [] → (unwrap_or page v).items ≡ bytes_in (option_map page_bytes page)
+page_text None v is = is
+page_text (Some bytes) v is = refl
 
-pub no_bytes_put : (out : Told) (page : Option (Vec ℕ)) → page ≡ None → Writes out out (λ text. text ≡ bytes_of page)
-no_bytes_put out page is = ([], Appends-nil out.bytes, sym (ap bytes_of is))
-
-pub page_put : (out out' : Told) (h k : Account Trouble) (n : ToldPage) → Hears h k (map missing_trouble n.missing.items) → Writes out out' (λ text. text ≡ bytes_of n.page)
-    → Does out out' h k (IsNoticeEnd (end.Told n) n.totals)
-page_put out out' h k n tells put = record {
-  text = put.0;
-  told = map missing_trouble n.missing.items;
-  writes = put.1;
-  tells = tells;
-  is = record { text_is = put.2; told_are = refl; totals_are = refl };
-}
+pub page_told : (n : ToldPage) (before : List Trouble) (s : Said) (v : Vec ℕ) → s.before.items ≡ before → text_of s ≡ (unwrap_or n.page v).items → v.items ≡ []
+    → Hears (each []) (each s.after.items) (map missing_trouble n.missing.items) → IsEndSaid before (end.Told n) s n.totals
+page_told n before s v was text none tells =
+    record { before_is = was; ends = record { text_is = text ∙ page_text n.page v none; told_are = tells; totals_are = refl } }
 
 -- ---- why there is none
 
-unwritten : (out : Told) (h k : Account Trouble) (e : End) → page_of e ≡ None → totals_of e ≡ None → Tells h k (IsEndTold e) → Does out out h k (IsNoticeEnd e None)
-unwritten out h k e none no_totals p =
-    heard_alone out h k p.told (IsNoticeEnd e None) p.tells (record { text_is = sym (ap bytes_in none); told_are = p.is; totals_are = sym no_totals })
+module _ (before : List Trouble) (e : End) (after : List Trouble) (s : Said) (totals : Option (String Global)) where
+  unwritten : IsNoPage before after s totals → page_of e ≡ None → totals_of e ≡ None → IsEndTold e after → IsEndSaid before e s totals
+  unwritten is none no_totals told = record {
+    before_is = is.before_is;
+    ends = record {
+      text_is = is.text_is ∙ sym (ap bytes_in none);
+      told_are = subst (IsEndTold e) (sym is.after_is) told;
+      totals_are = is.no_totals ∙ sym no_totals;
+    };
+  }
 
-ended_as : (out out' : Told) (h k : Account Trouble) (e x : End) (totals : Option (String Global)) → e ≡ x → Does out out' h k (IsNoticeEnd x totals) → Does out out' h k (IsNoticeEnd e totals)
-ended_as out out' h k e x totals is d = subst (λ (y : End). Does out out' h k (IsNoticeEnd y totals)) (sym is) d
+  pub left_out_end : e ≡ end.LeftOut → after ≡ [] → IsNoPage before after s totals → IsEndSaid before e s totals
+  left_out_end is empty blank = unwritten blank (ap page_of is) (ap totals_of is) (subst (λ (x : End). IsEndTold x after) (sym is) empty)
 
-pub left_out_end : (out : Told) (h : Account Trouble) (e : End) → e ≡ end.LeftOut → Does out out h h (IsNoticeEnd e None)
-left_out_end out h e is = ended_as out out h h e end.LeftOut None is (nothing out h (IsNoticeEnd end.LeftOut None) (record { text_is = refl; told_are = refl; totals_are = refl }))
+  pub no_choice_end : (t : ChoiceTrouble) → e ≡ end.NoChoice t → Tells (each []) (each after) (AreUnchosenTold t) → IsNoPage before after s totals → IsEndSaid before e s totals
+  no_choice_end t is p blank = unwritten blank (ap page_of is) (ap totals_of is) (subst (λ (x : End). IsEndTold x after) (sym is) (all_told after (AreUnchosenTold t) p))
 
-pub no_choice_end : (out : Told) (h k : Account Trouble) (e : End) (t : ChoiceTrouble) → e ≡ end.NoChoice t → Tells h k (AreUnchosenTold t) → Does out out h k (IsNoticeEnd e None)
-no_choice_end out h k e t is p = ended_as out out h k e (end.NoChoice t) None is (unwritten out h k (end.NoChoice t) refl refl p)
+  pub no_folder_end : (t : TextTrouble) → e ≡ end.NoFolder t → Tells (each []) (each after) (IsOnly (IsFolderTold t.path t.why)) → IsNoPage before after s totals → IsEndSaid before e s totals
+  no_folder_end t is p blank = unwritten blank (ap page_of is) (ap totals_of is) (subst (λ (x : End). IsEndTold x after) (sym is) (all_told after (IsOnly (IsFolderTold t.path t.why)) p))
 
-pub no_folder_end : (out : Told) (h k : Account Trouble) (e : End) (t : TextTrouble) → e ≡ end.NoFolder t → Tells h k (IsOnly (IsFolderTold t.path t.why))
-    → Does out out h k (IsNoticeEnd e None)
-no_folder_end out h k e t is p = ended_as out out h k e (end.NoFolder t) None is (unwritten out h k (end.NoFolder t) refl refl p)
+  pub no_own_end : (ts : Vec TextTrouble) → e ≡ end.NoOwn ts → Tells (each []) (each after) (AreTextsTold (codes "a link out of the folder") ts.items) → IsNoPage before after s totals
+      → IsEndSaid before e s totals
+  no_own_end ts is p blank =
+      unwritten blank (ap page_of is) (ap totals_of is) (subst (λ (x : End). IsEndTold x after) (sym is) (all_told after (AreTextsTold (codes "a link out of the folder") ts.items) p))
 
-pub no_own_end : (out : Told) (h k : Account Trouble) (e : End) (ts : Vec TextTrouble) → e ≡ end.NoOwn ts → Tells h k (AreTextsTold (codes "a link out of the folder") ts.items)
-    → Does out out h k (IsNoticeEnd e None)
-no_own_end out h k e ts is p = ended_as out out h k e (end.NoOwn ts) None is (unwritten out h k (end.NoOwn ts) refl refl p)
+  pub no_general_end : (ts : Vec TextTrouble) → e ≡ end.NoGeneral ts → Tells (each []) (each after) (AreTextsTold (codes "a link out of the folder; --follow reads it") ts.items)
+      → IsNoPage before after s totals → IsEndSaid before e s totals
+  no_general_end ts is p blank =
+      unwritten blank (ap page_of is) (ap totals_of is)
+      (subst (λ (x : End). IsEndTold x after) (sym is) (all_told after (AreTextsTold (codes "a link out of the folder; --follow reads it") ts.items) p))
 
-pub no_general_end : (out : Told) (h k : Account Trouble) (e : End) (ts : Vec TextTrouble) → e ≡ end.NoGeneral ts
-    → Tells h k (AreTextsTold (codes "a link out of the folder; --follow reads it") ts.items) → Does out out h k (IsNoticeEnd e None)
-no_general_end out h k e ts is p = ended_as out out h k e (end.NoGeneral ts) None is (unwritten out h k (end.NoGeneral ts) refl refl p)
+  pub not_utf8_end : (name : String Global) → e ≡ end.NotUtf8 name → Tells (each []) (each after) (IsOnly (IsNotUtf8 name)) → IsNoPage before after s totals → IsEndSaid before e s totals
+  not_utf8_end name is p blank = unwritten blank (ap page_of is) (ap totals_of is) (subst (λ (x : End). IsEndTold x after) (sym is) (all_told after (IsOnly (IsNotUtf8 name)) p))
 
-pub not_utf8_end : (out : Told) (h k : Account Trouble) (e : End) (name : String Global) → e ≡ end.NotUtf8 name → Tells h k (IsOnly (IsNotUtf8 name)) → Does out out h k (IsNoticeEnd e None)
-not_utf8_end out h k e name is p = ended_as out out h k e (end.NotUtf8 name) None is (unwritten out h k (end.NotUtf8 name) refl refl p)
+-- ---- what is said of a run
 
-pub told_end : (out out' : Told) (h k : Account Trouble) (e : End) (n : ToldPage) (totals : Option (String Global)) → e ≡ end.Told n
-    → Does out out' h k (IsNoticeEnd (end.Told n) totals) → Does out out' h k (IsNoticeEnd e totals)
-told_end out out' h k e n totals is d = ended_as out out' h k e (end.Told n) totals is d
+pub notice_told : (a : Request) (r : Run) (mid last : List Trouble) (s : Said) (totals : Option (String Global)) → Hears (each []) (each mid) (map file_trouble r.left_out.items)
+    → Tells (each mid) (each last) (AreBothTold a.wanted.source r.files.items) → IsEndSaid last r.end s totals → IsNoticeTold a r (text_of s) (told_of s) totals
+notice_told a r mid last s totals first reads ends =
+    let (read, are, is) = before_told (map file_trouble r.left_out.items) mid last (AreBothTold a.wanted.source r.files.items) first reads in
+    record {
+      read = read;
+      ended = s.after.items;
+      read_are = are;
+      ends = ends.ends;
+      told_are = told_all (map file_trouble r.left_out.items) read last s.after.items s is ends.before_is refl;
+    }
 
 -- ---- with status 0
 

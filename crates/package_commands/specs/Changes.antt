@@ -14,6 +14,8 @@ use Rattle.shelves.specs.Shelf.{Shelved}
 use Rattle.package_commands.specs.Forms.{AreFormsTold}
 use Rattle.package_commands.specs.declared.differences.AskedDiff.{AskedDiff}
 use Rattle.package_commands.specs.declared.differences.Changed.{Changed}
+use Rattle.spdx_commands.specs.Said as said
+use Rattle.spdx_commands.specs.declared.said.Said.{Said}
 use Rattle.spdx_troubles.specs.Causes.{file_trouble}
 use Rattle.spdx_troubles.specs.declared.trouble.Trouble.{Trouble}
 
@@ -61,17 +63,27 @@ abbrev pub text_of : Option Told → List ℕ
 text_of None = []
 text_of (Some told) = told.text.items
 
--- what comes of a run is written and told: first why files are left out, then how others were read
-pub record IsDiff (s : Shelved) (inside : InsideBytes) (heirs : List ℕ) (a : AskedDiff)
-    (text : List ℕ) (told : List Trouble) (c : Changed) : Type 0 where
-  pub run : Run
+-- what is written and told of a run: first why files are left out, then how others were read; and
+-- the line of totals
+pub record IsDiffTold (wanted : Bool) (run : Run) (text : List ℕ) (told : List Trouble)
+    (totals : Option (String Global)) : Type 0 where
   pub forms : List Trouble
-  pub is_run : IsRun s inside heirs a.run run
   pub text_is : text ≡ text_of run.told
   pub forms_are : AreFormsTold run.files.items forms
   pub told_are : told ≡ map file_trouble run.left_out.items ++ forms
-  pub totals_are : line_of c.totals ≡ totals_if a.tells_totals run.told
+  pub totals_are : line_of totals ≡ totals_if wanted run.told
+
+-- what comes of a run is written and told
+pub record IsDiff (s : Shelved) (inside : InsideBytes) (heirs : List ℕ) (a : AskedDiff)
+    (text : List ℕ) (told : List Trouble) (c : Changed) : Type 0 where
+  pub run : Run
+  pub is_run : IsRun s inside heirs a.run run
+  pub told_are : IsDiffTold a.tells_totals run text told c.totals
   pub status_is : c.status ≡ status_of run
+
+-- so it is with such an end
+abbrev pub SaysDiff : Shelved → InsideBytes → List ℕ → AskedDiff → List ℕ → List Trouble → Type 0
+SaysDiff s inside heirs a text told = (c : Changed) × IsDiff s inside heirs a text told c
 
 -- both files list packages
 pub record AreBothRead (s : Shelved) (a : Request) : Type 0 where
@@ -82,7 +94,10 @@ pub record AreBothRead (s : Shelved) (a : Request) : Type 0 where
 
 -- ---- the parts of it, which only private clauses cite
 
-pub record IsPut (wanted : Bool) (told : Option Told) (totals : Option (String Global))
-    (text : List ℕ) : Type 0 where
-  pub text_is : text ≡ text_of told
+-- this is said of the changes, behind what is told before
+pub record IsToldSaid (before : List Trouble) (wanted : Bool) (told : Option Told) (s : Said)
+    (totals : Option (String Global)) : Type 0 where
+  pub before_is : s.before.items ≡ before
+  pub after_is : s.after.items ≡ []
+  pub text_is : said.text_of s ≡ text_of told
   pub totals_are : line_of totals ≡ totals_if wanted told

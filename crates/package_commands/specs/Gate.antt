@@ -14,6 +14,8 @@ use Rattle.shelves.specs.Shelf.{Shelved}
 use Rattle.package_commands.specs.Forms.{AreFormsTold}
 use Rattle.package_commands.specs.Shared.{AreSharedTold}
 use Rattle.package_commands.specs.declared.gated.Asked.{Asked}
+use Rattle.spdx_commands.specs.Said.{text_of}
+use Rattle.spdx_commands.specs.declared.said.Said.{Said}
 use Rattle.spdx_troubles.specs.Causes.{file_trouble}
 use Rattle.spdx_troubles.specs.declared.trouble.Trouble.{Trouble}
 use Rattle.spdx_troubles.specs.declared.trouble.Trouble.TheVariants as trouble
@@ -51,14 +53,30 @@ IsGateEnd explain (end.NoPackage x) text told = IsUnexplained explain x text tol
 
 -- ---- the command
 
--- what comes of a run is written and told: first why files are left out, then how others were read
-pub record IsGate (s : Shelved) (inside : InsideBytes) (heirs : List ℕ) (a : Asked)
-    (text : List ℕ) (told : List Trouble) (status : ℕ) : Type 0 where
-  pub run : Run
+-- what is written and told of a run: first why files are left out, then how others were read
+pub record IsGateTold (a : Asked) (run : Run) (text : List ℕ) (told : List Trouble) : Type 0 where
   pub read : List Trouble
   pub ended : List Trouble
-  pub is_run : IsRun s inside heirs a.run run
   pub read_are : IsReadTold a.is_quiet a.run.wanted.source run.files.items read
   pub ends : IsGateEnd (option_copied a.run.look.explain) run.end text ended
   pub told_are : told ≡ map file_trouble run.left_out.items ++ (read ++ ended)
+
+-- what comes of a run is written and told
+pub record IsGate (s : Shelved) (inside : InsideBytes) (heirs : List ℕ) (a : Asked)
+    (text : List ℕ) (told : List Trouble) (status : ℕ) : Type 0 where
+  pub run : Run
+  pub is_run : IsRun s inside heirs a.run run
+  pub told_are : IsGateTold a run text told
   pub status_is : status ≡ status_of run
+
+-- so it is with such a status
+abbrev pub SaysGate : Shelved → InsideBytes → List ℕ → Asked → List ℕ → List Trouble → Type 0
+SaysGate s inside heirs a text told = (status : ℕ) × IsGate s inside heirs a text told status
+
+-- ---- the parts of it, which only private clauses cite
+
+-- this is said of the end, behind what is told before
+pub record IsEndSaid (before : List Trouble) (explain : Option (List ℕ)) (e : End) (s : Said) :
+    Type 0 where
+  pub before_is : s.before.items ≡ before
+  pub ends : IsGateEnd explain e (text_of s) s.after.items

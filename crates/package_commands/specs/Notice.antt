@@ -1,9 +1,8 @@
 -- What `notice` writes and tells, and with which status it ends.
-use Rattle.std.specs.Prelude.{◌≡◌, ℕ, List, [], ◌++◌, Option, None, Some, String, codes, map, option_map, unwrap_or}
-use Rattle.std.specs.Global.{Vec}
+use Rattle.std.specs.Prelude.{◌≡◌, ℕ, List, [], ◌++◌, Option, None, Some, String, codes, map, unwrap_or}
 use Rattle.std.specs.declared.alloc.Global.{Global}
 use Rattle.list_program.specs.Named.{InsideBytes}
-use Rattle.notice_program.specs.Law.{AreAllNoticed, page_bytes, page_of}
+use Rattle.notice_program.specs.Law.{AreAllNoticed, page_of}
 use Rattle.notice_program.specs.Run.{IsRun, status_of}
 use Rattle.notice_program.specs.declared.end.End.{End}
 use Rattle.notice_program.specs.declared.end.End.TheVariants as end
@@ -15,6 +14,8 @@ use Rattle.package_commands.specs.Gate.{AreBothTold}
 use Rattle.package_commands.specs.Texts.{AreTextsTold, IsFolderTold, IsNotUtf8}
 use Rattle.package_commands.specs.Unchosen.{AreUnchosenTold, IsOnly}
 use Rattle.package_commands.specs.declared.pages.Noticed.{Noticed}
+use Rattle.spdx_commands.specs.Said.{text_of}
+use Rattle.spdx_commands.specs.declared.said.Said.{Said}
 use Rattle.spdx_troubles.specs.Causes.{file_trouble}
 use Rattle.spdx_troubles.specs.declared.trouble.Trouble.{Trouble}
 use Rattle.spdx_troubles.specs.declared.trouble.Trouble.TheVariants as trouble
@@ -52,17 +53,27 @@ pub record IsNoticeEnd (e : End) (totals : Option (String Global)) (text : List 
 
 -- ---- the command
 
--- what comes of a run is written and told: first why files are left out, then how others were read
+-- what is written and told of a run: first why files are left out, then how others were read; and
+-- the line of totals
+pub record IsNoticeTold (a : Request) (run : Run) (text : List ℕ) (told : List Trouble)
+    (totals : Option (String Global)) : Type 0 where
+  pub read : List Trouble
+  pub ended : List Trouble
+  pub read_are : AreBothTold a.wanted.source run.files.items read
+  pub ends : IsNoticeEnd run.end totals text ended
+  pub told_are : told ≡ map file_trouble run.left_out.items ++ (read ++ ended)
+
+-- what comes of a run is written and told
 pub record IsNotice (s : Shelved) (inside : InsideBytes) (heirs : List ℕ) (a : Request)
     (text : List ℕ) (told : List Trouble) (n : Noticed) : Type 0 where
   pub run : Run
-  pub read : List Trouble
-  pub ended : List Trouble
   pub is_run : IsRun s inside heirs a run
-  pub read_are : AreBothTold a.wanted.source run.files.items read
-  pub ends : IsNoticeEnd run.end n.totals text ended
-  pub told_are : told ≡ map file_trouble run.left_out.items ++ (read ++ ended)
+  pub told_are : IsNoticeTold a run text told n.totals
   pub status_is : n.status ≡ status_of run
+
+-- so it is with such an end
+abbrev pub SaysNotice : Shelved → InsideBytes → List ℕ → Request → List ℕ → List Trouble → Type 0
+SaysNotice s inside heirs a text told = (n : Noticed) × IsNotice s inside heirs a text told n
 
 -- the page that is written has all that is wanted, and nothing is told besides but how files were
 -- read and what is missing on it
@@ -77,5 +88,16 @@ pub record IsPage (s : Shelved) (inside : InsideBytes) (heirs : List ℕ) (a : R
 
 -- ---- the parts of it, which only private clauses cite
 
-abbrev pub bytes_of : Option (Vec ℕ) → List ℕ
-bytes_of page = bytes_in (option_map page_bytes page)
+-- this is said of the end, behind what is told before
+pub record IsEndSaid (before : List Trouble) (e : End) (s : Said) (totals : Option (String Global)) :
+    Type 0 where
+  pub before_is : s.before.items ≡ before
+  pub ends : IsNoticeEnd e totals (text_of s) s.after.items
+
+-- nothing is written
+pub record IsNoPage (before after : List Trouble) (s : Said) (totals : Option (String Global)) :
+    Type 0 where
+  pub before_is : s.before.items ≡ before
+  pub after_is : s.after.items ≡ after
+  pub text_is : text_of s ≡ []
+  pub no_totals : totals ≡ None

@@ -3,21 +3,21 @@
 ghost use Rattle.std.specs.Prelude.{◌≡◌, ◌<◌, ℕ, List, Some, IfErr, IfOk, OnOk, string_bytes, ◌++◌};
 ghost use Rattle.std.specs.Option.{option_copied};
 ghost use Rattle.changes_program.specs.Run.{IsNoRun, NewOnesPass};
-ghost use Rattle.check_files.specs.Told.{Does, Writes};
+ghost use Rattle.check_files.specs.Told.{Does};
 ghost use Rattle.list_program.specs.Named.{inside_of};
 ghost use Rattle.package_commands.specs.Changes as spec;
-ghost use Rattle.package_commands.specs.Changes.{AreBothRead, IsDiff, IsPut, totals_line};
-ghost use Rattle.spdx_commands.specs.Stops.{IsBroken, IsStopped};
+ghost use Rattle.package_commands.specs.Changes.{AreBothRead, IsDiff, IsDiffTold, SaysDiff, totals_line};
+ghost use Rattle.spdx_commands.specs.Said.{text_of, told_of};
+ghost use Rattle.spdx_commands.specs.Stops.{IsStopped};
 ghost use Rattle.spdx_troubles.specs.Causes.{gate_trouble};
 
 use crate::forms::tell_forms;
 use crate::gated::tell_left_out;
 use changes_program::{Request, Run, Told, Totals, changes};
 use line_engine::device::Sink;
-use line_engine::lines::write_all;
 use list_program::Inside;
 use shelves::Shelf;
-use spdx_commands::Listener;
+use spdx_commands::{Listener, Said, say};
 use spdx_troubles::Trouble;
 use std::alloc::{AllocError, Global};
 
@@ -44,7 +44,8 @@ pub struct Changed {
 ///
 /// # Errors
 ///
-/// The list or the policy isn't had: nothing is written. Or the output fails; or memory was refused.
+/// The list or the policy isn't had: nothing is written. Or the output fails, or memory was refused: what was written and told is
+/// a beginning.
 pub fn diff<S: Shelf, O: Sink, T: Listener>(
     alloc: Global,
     shelf: &S,
@@ -60,8 +61,9 @@ pub fn diff<S: Shelf, O: Sink, T: Listener>(
         changed)) }
     ensures err { IfErr result (IsStopped gate_trouble (IsNoRun (S.told shelf.now)
         (inside_of inside.entry.list.now inside.entry.extras.now) heirs.now asked.entry.run)
-        (O.told output.old) (O.told output.new)
-        (T.heard listener.new ≡ T.heard listener.old)) }
+        (SaysDiff (S.told shelf.now) (inside_of inside.entry.list.now inside.entry.extras.now)
+        heirs.now asked.entry) (O.told output.old) (O.told output.new) (T.heard listener.old)
+        (T.heard listener.new)) }
     ensures read { IfOk result (λ changed. changed.status < 2 →
         AreBothRead (S.told shelf.now) asked.entry.run) }
     ensures passes { IfOk result (λ changed. changed.status < 1 → (path : List ℕ) →
@@ -71,49 +73,66 @@ pub fn diff<S: Shelf, O: Sink, T: Listener>(
 {
     let outcome = changes(alloc, shelf, inside, heirs, asked.run)?;
     let status = outcome.status();
+    let both = changes_said(alloc, asked.tells_totals, outcome)?;
+    let (said, totals) = both;
+    say(alloc, said, output, listener)?;
+    Ok(Changed { status, totals })
+}
+
+// What is said of a run, and the line of totals, where it is wanted and both files are read.
+fn changes_said(
+    alloc: Global,
+    tells_totals: bool,
+    outcome: Run,
+) -> Result<(Said, Option<String>), AllocError>
+    ensures { IfOk result (λ it. IsDiffTold tells_totals outcome (text_of it.0) (told_of it.0)
+        it.1) }
+{
     let Run {
         files,
         left_out,
         told,
     } = outcome;
-    tell_left_out(alloc, left_out, listener)?;
-    tell_forms(alloc, &files, listener)?;
-    let totals = put_told(alloc, asked.tells_totals, told, output)?;
-    Ok(Changed { status, totals })
+    let mut before = Vec::new(alloc);
+    tell_left_out(alloc, left_out, &mut before)?;
+    tell_forms(alloc, &files, &mut before)?;
+    told_said(alloc, tells_totals, told, before)
 }
 
-// Writes what is told of the changes, if anything is; answers the line of totals, where it is wanted.
-#[tactic(auto, using(crate::proofs::Diffs::none_put, crate::proofs::Diffs::some_put))]
-fn put_told<O: Sink>(
+fn told_said(
     alloc: Global,
     tells_totals: bool,
     told: Option<Told>,
-    output: &mut O,
-) -> Result<Option<String>, Trouble>
-    ensures ok { IfOk result (λ totals. Writes (O.told output.old) (O.told output.new)
-        (IsPut tells_totals told totals)) }
-    ensures err { IfErr result (IsBroken (O.told output.new)) }
+    before: Vec<Trouble>,
+) -> Result<(Said, Option<String>), AllocError>
+    ensures { IfOk result (λ it. spec.IsToldSaid before.items tells_totals told it.0 it.1) }
 {
+    let after = Vec::new(alloc);
     match told {
-        Some(told) => put_changes(alloc, tells_totals, told, output),
-        None => Ok(None),
+        Some(told) => {
+            let Told { text, totals, .. } = told;
+            let totals = totals_if(alloc, tells_totals, totals)?;
+            Ok((
+                Said {
+                    before,
+                    text,
+                    after,
+                },
+                totals,
+            ))
+        }
+        None => {
+            let text = Vec::new(alloc);
+            Ok((
+                Said {
+                    before,
+                    text,
+                    after,
+                },
+                None,
+            ))
+        }
     }
-}
-
-#[tactic(auto, using(crate::proofs::Diffs::changes_put))]
-fn put_changes<O: Sink>(
-    alloc: Global,
-    tells_totals: bool,
-    told: Told,
-    output: &mut O,
-) -> Result<Option<String>, Trouble>
-    ensures ok { IfOk result (λ totals. Writes (O.told output.old) (O.told output.new)
-        (IsPut tells_totals (Some told) totals)) }
-    ensures err { IfErr result (IsBroken (O.told output.new)) }
-{
-    write_all(output, &told.text)?;
-    let totals = totals_if(alloc, tells_totals, told.totals)?;
-    Ok(totals)
 }
 
 fn totals_if(

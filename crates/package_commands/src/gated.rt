@@ -6,19 +6,19 @@ ghost use Rattle.check_files.specs.Told.{Does, Hears, Tells};
 ghost use Rattle.gate_program.specs.Run.{AreAllAllowed, IsNoRun};
 ghost use Rattle.list_program.specs.Named.{inside_of};
 ghost use Rattle.package_commands.specs.Gate as spec;
-ghost use Rattle.package_commands.specs.Gate.{AreBothTold, IsGate, IsGateEnd, IsReadTold};
-ghost use Rattle.spdx_commands.specs.Stops.{IsBroken, IsStopped};
+ghost use Rattle.package_commands.specs.Gate.{AreBothTold, IsGate, IsGateTold, IsReadTold, SaysGate};
+ghost use Rattle.spdx_commands.specs.Said.{text_of, told_of};
+ghost use Rattle.spdx_commands.specs.Stops.{IsStopped};
 ghost use Rattle.spdx_troubles.specs.Causes.{file_trouble, gate_trouble};
 
 use crate::forms::tell_forms;
 use crate::shared::tell_shared;
-use gate_program::{End, GateText, Request, Run};
+use gate_program::{End, Request, Run};
 use line_engine::device::Sink;
-use line_engine::lines::write_all;
 use list_program::Inside;
 use package_files::{FileFault, Listed, Source};
 use shelves::Shelf;
-use spdx_commands::Listener;
+use spdx_commands::{Listener, Said, say};
 use spdx_troubles::Trouble;
 use std::alloc::{AllocError, Global};
 
@@ -37,7 +37,8 @@ pub struct Asked<'a> {
 ///
 /// # Errors
 ///
-/// The list or the policy isn't had: nothing is written. Or the output fails; or memory was refused.
+/// The list or the policy isn't had: nothing is written. Or the output fails, or memory was refused: what was written and told is
+/// a beginning.
 pub fn gate<S: Shelf, O: Sink, T: Listener>(
     alloc: Global,
     shelf: &S,
@@ -53,8 +54,9 @@ pub fn gate<S: Shelf, O: Sink, T: Listener>(
         status)) }
     ensures err { IfErr result (IsStopped gate_trouble (IsNoRun (S.told shelf.now)
         (inside_of inside.entry.list.now inside.entry.extras.now) heirs.now asked.entry.run)
-        (O.told output.old) (O.told output.new)
-        (T.heard listener.new ≡ T.heard listener.old)) }
+        (SaysGate (S.told shelf.now) (inside_of inside.entry.list.now inside.entry.extras.now)
+        heirs.now asked.entry) (O.told output.old) (O.told output.new) (T.heard listener.old)
+        (T.heard listener.new)) }
     ensures passes { IfOk result (λ status. status < 1 →
         option_copied asked.entry.run.baseline ≡ None →
         AreAllAllowed (S.told shelf.now) (inside_of inside.entry.list.now inside.entry.extras.now)
@@ -62,15 +64,24 @@ pub fn gate<S: Shelf, O: Sink, T: Listener>(
 {
     let outcome = gate_program::gate(alloc, shelf, inside, heirs, asked.run)?;
     let status = outcome.status();
+    let said = gate_said(alloc, asked, outcome)?;
+    say(alloc, said, output, listener)?;
+    Ok(status)
+}
+
+// What is said of a run.
+fn gate_said(alloc: Global, asked: Asked<'_>, outcome: Run) -> Result<Said, AllocError>
+    ensures { IfOk result (λ said. IsGateTold asked.entry outcome (text_of said) (told_of said)) }
+{
     let Run {
         files,
         left_out,
         end,
     } = outcome;
-    tell_left_out(alloc, left_out, listener)?;
-    tell_read(alloc, asked, &files, listener)?;
-    put_end(alloc, asked.run.look.explain, end, output, listener)?;
-    Ok(status)
+    let mut before = Vec::new(alloc);
+    tell_left_out(alloc, left_out, &mut before)?;
+    tell_read(alloc, asked, &files, &mut before)?;
+    end_said(alloc, asked.run.look.explain, end, before)
 }
 
 /// Tells of each file that is left out why it is.
@@ -131,52 +142,43 @@ pub(crate) fn tell_both<T: Listener>(
     Ok(())
 }
 
-// Writes what is told of the packages, if anything is; and tells why it is not what was asked for.
-#[tactic(auto, using(crate::proofs::Ends::no_file_end, crate::proofs::Ends::no_baseline_end, crate::proofs::Ends::told_end, crate::proofs::Ends::no_package_end))]
-fn put_end<O: Sink, T: Listener>(
+// What is said of the end, behind what is told before.
+fn end_said(
     alloc: Global,
     explain: Option<&str>,
     end: End,
-    output: &mut O,
-    listener: &mut T,
-) -> Result<(), Trouble>
-    ensures ok { OnOk result (Does (O.told output.old) (O.told output.new)
-        (T.heard listener.old) (T.heard listener.new)
-        (IsGateEnd (option_copied explain.entry) end)) }
-    ensures err { IfErr result (IsBroken (O.told output.new)) }
+    before: Vec<Trouble>,
+) -> Result<Said, AllocError>
+    ensures { IfOk result (spec.IsEndSaid before.items (option_copied explain.entry) end) }
 {
+    let mut after = Vec::new(alloc);
     match end {
-        End::NoFile => Ok(()),
+        End::NoFile => Ok(Said {
+            before,
+            text: Vec::new(alloc),
+            after,
+        }),
         End::NoBaseline(fault) => {
-            listener.hear(alloc, Trouble::from(fault))?;
-            Ok(())
+            after.push(Trouble::from(fault))?;
+            Ok(Said {
+                before,
+                text: Vec::new(alloc),
+                after,
+            })
         }
-        End::Told(text) => {
-            write_all(output, &text.bytes)?;
-            Ok(())
-        }
+        End::Told(text) => Ok(Said {
+            before,
+            text: text.bytes,
+            after,
+        }),
         End::NoPackage(text) => {
-            put_unexplained(alloc, explain, text, output, listener)?;
-            Ok(())
+            let name = String::from_str(alloc, explain.unwrap_or(""))?;
+            after.push(Trouble::NoPackage(name))?;
+            Ok(Said {
+                before,
+                text: text.bytes,
+                after,
+            })
         }
     }
-}
-
-#[tactic(auto, using(crate::proofs::Ends::unexplained))]
-fn put_unexplained<O: Sink, T: Listener>(
-    alloc: Global,
-    explain: Option<&str>,
-    text: GateText,
-    output: &mut O,
-    listener: &mut T,
-) -> Result<(), Trouble>
-    ensures ok { OnOk result (Does (O.told output.old) (O.told output.new)
-        (T.heard listener.old) (T.heard listener.new)
-        (spec.IsUnexplained (option_copied explain.entry) text)) }
-    ensures err { IfErr result (IsBroken (O.told output.new)) }
-{
-    write_all(output, &text.bytes)?;
-    let name = String::from_str(alloc, explain.unwrap_or(""))?;
-    listener.hear(alloc, Trouble::NoPackage(name))?;
-    Ok(())
 }

@@ -1,24 +1,24 @@
 // The command `notice`.
 
-ghost use Rattle.std.specs.Prelude.{◌≡◌, ◌<◌, [], Some, IfErr, IfOk, OnOk, map};
+ghost use Rattle.std.specs.Prelude.{◌≡◌, ◌<◌, [], IfErr, IfOk, OnOk, map};
 ghost use Rattle.check_files.specs.Told.{Does, Hears, Writes};
 ghost use Rattle.list_program.specs.Named.{inside_of};
 ghost use Rattle.notice_program.specs.Run.{IsNoRun};
 ghost use Rattle.notice_program.specs.declared.end.End.TheVariants as the_end;
 ghost use Rattle.package_commands.specs.Notice as spec;
-ghost use Rattle.package_commands.specs.Notice.{IsNotice, IsNoticeEnd, IsPage, missing_trouble};
-ghost use Rattle.spdx_commands.specs.Stops.{IsBroken, IsStopped};
+ghost use Rattle.package_commands.specs.Notice.{IsNotice, IsNoticeTold, IsPage, SaysNotice, missing_trouble};
+ghost use Rattle.spdx_commands.specs.Said.{text_of, told_of};
+ghost use Rattle.spdx_commands.specs.Stops.{IsStopped};
 ghost use Rattle.spdx_troubles.specs.Causes.{notice_trouble};
 
 use crate::gated::{tell_both, tell_left_out};
 use crate::texts::{tell_no_folder, tell_not_utf8, tell_texts};
 use crate::unchosen::tell_unchosen;
 use line_engine::device::Sink;
-use line_engine::lines::write_all;
 use list_program::Inside;
 use notice_program::{End, Missing, Request, Run, ToldPage};
 use shelves::Shelf;
-use spdx_commands::Listener;
+use spdx_commands::{Listener, Said, say};
 use spdx_troubles::Trouble;
 use std::alloc::{AllocError, Global};
 
@@ -41,7 +41,7 @@ pub struct Noticed {
 ///
 /// # Errors
 ///
-/// The list isn't had: nothing is written. Or the output fails; or memory was refused.
+/// The list isn't had: nothing is written. Or the output fails, or memory was refused: what was written and told is a beginning.
 pub fn notice<S: Shelf, O: Sink, T: Listener>(
     alloc: Global,
     shelf: &S,
@@ -57,8 +57,9 @@ pub fn notice<S: Shelf, O: Sink, T: Listener>(
         told noticed)) }
     ensures err { IfErr result (IsStopped notice_trouble (IsNoRun (S.told shelf.now)
         (inside_of inside.entry.list.now inside.entry.extras.now) request.entry)
-        (O.told output.old) (O.told output.new)
-        (T.heard listener.new ≡ T.heard listener.old)) }
+        (SaysNotice (S.told shelf.now) (inside_of inside.entry.list.now inside.entry.extras.now)
+        heirs.now request.entry) (O.told output.old) (O.told output.new) (T.heard listener.old)
+        (T.heard listener.new)) }
     ensures passes { IfOk result (λ noticed. noticed.status < 1 → Does (O.told output.old)
         (O.told output.new) (T.heard listener.old) (T.heard listener.new)
         (IsPage (S.told shelf.now) (inside_of inside.entry.list.now inside.entry.extras.now)
@@ -68,76 +69,106 @@ pub fn notice<S: Shelf, O: Sink, T: Listener>(
 {
     let outcome = notice_program::notice(alloc, shelf, inside, heirs, request)?;
     let status = outcome.status();
+    let both = notice_said(alloc, request, outcome)?;
+    let (said, totals) = both;
+    say(alloc, said, output, listener)?;
+    Ok(Noticed { status, totals })
+}
+
+// What is said of a run, and the line of totals, if there is one.
+fn notice_said(
+    alloc: Global,
+    request: Request<'_>,
+    outcome: Run,
+) -> Result<(Said, Option<String>), AllocError>
+    ensures { IfOk result (λ it. IsNoticeTold request.entry outcome (text_of it.0) (told_of it.0)
+        it.1) }
+{
     let Run {
         files,
         left_out,
         end,
     } = outcome;
-    tell_left_out(alloc, left_out, listener)?;
-    tell_both(alloc, request.wanted.source, &files, listener)?;
-    let totals = put_end(alloc, end, output, listener)?;
-    Ok(Noticed { status, totals })
+    let mut before = Vec::new(alloc);
+    tell_left_out(alloc, left_out, &mut before)?;
+    tell_both(alloc, request.wanted.source, &files, &mut before)?;
+    end_said(alloc, end, before)
 }
 
-// Writes the page, or tells why there is none; answers the line of totals, if there is one.
+// What is said of the end, behind what is told before: the page, and which texts are missing on it, or why there is none.
 #[tactic(auto, using(crate::proofs::Noticing::left_out_end, crate::proofs::Noticing::no_choice_end, crate::proofs::Noticing::no_folder_end, crate::proofs::Noticing::not_utf8_end))]
-fn put_end<O: Sink, T: Listener>(
+fn end_said(
     alloc: Global,
     end: End,
-    output: &mut O,
-    listener: &mut T,
-) -> Result<Option<String>, Trouble>
-    ensures ok { IfOk result (λ totals. Does (O.told output.old) (O.told output.new)
-        (T.heard listener.old) (T.heard listener.new) (IsNoticeEnd end totals)) }
-    ensures err { IfErr result (IsBroken (O.told output.new)) }
+    before: Vec<Trouble>,
+) -> Result<(Said, Option<String>), AllocError>
+    ensures { IfOk result (λ it. spec.IsEndSaid before.items end it.0 it.1) }
 {
+    let mut after = Vec::new(alloc);
     match end {
-        End::LeftOut => Ok(None),
+        End::LeftOut => Ok(no_page(alloc, before, after)),
         End::NoChoice(trouble) => {
-            tell_unchosen(alloc, trouble, listener)?;
-            Ok(None)
+            tell_unchosen(alloc, trouble, &mut after)?;
+            Ok(no_page(alloc, before, after))
         }
         End::NoFolder(trouble) => {
-            tell_no_folder(alloc, trouble, listener)?;
-            Ok(None)
+            tell_no_folder(alloc, trouble, &mut after)?;
+            Ok(no_page(alloc, before, after))
         }
         End::NoOwn(troubles) => {
-            tell_texts(alloc, OWN_LINK, troubles, listener)?;
-            Ok(None)
+            tell_texts(alloc, OWN_LINK, troubles, &mut after)?;
+            Ok(no_page(alloc, before, after))
         }
         End::NoGeneral(troubles) => {
-            tell_texts(alloc, GENERAL_LINK, troubles, listener)?;
-            Ok(None)
+            tell_texts(alloc, GENERAL_LINK, troubles, &mut after)?;
+            Ok(no_page(alloc, before, after))
         }
         End::NotUtf8(name) => {
-            tell_not_utf8(alloc, name, listener)?;
-            Ok(None)
+            tell_not_utf8(alloc, name, &mut after)?;
+            Ok(no_page(alloc, before, after))
         }
-        End::Told(page) => put_page(alloc, page, output, listener),
+        End::Told(page) => page_said(alloc, page, before),
     }
 }
 
-// Tells which texts are missing, and writes the page, unless it is held back.
-#[tactic(auto, using(crate::proofs::Noticing::page_put))]
-fn put_page<O: Sink, T: Listener>(
+fn no_page(alloc: Global, before: Vec<Trouble>, after: Vec<Trouble>) -> (Said, Option<String>)
+    ensures { spec.IsNoPage before.items after.items result.0 result.1 }
+{
+    let text = Vec::new(alloc);
+    (
+        Said {
+            before,
+            text,
+            after,
+        },
+        None,
+    )
+}
+
+// The page, unless it is held back, and which texts are missing on it.
+fn page_said(
     alloc: Global,
     told: ToldPage,
-    output: &mut O,
-    listener: &mut T,
-) -> Result<Option<String>, Trouble>
-    ensures ok { IfOk result (λ totals. Does (O.told output.old) (O.told output.new)
-        (T.heard listener.old) (T.heard listener.new)
-        (IsNoticeEnd (the_end.Told told) totals)) }
-    ensures err { IfErr result (IsBroken (O.told output.new)) }
+    before: Vec<Trouble>,
+) -> Result<(Said, Option<String>), AllocError>
+    ensures { IfOk result (λ it. spec.IsEndSaid before.items (the_end.Told told) it.0 it.1) }
 {
     let ToldPage {
         page,
         missing,
         totals,
     } = told;
-    tell_missing(alloc, missing, listener)?;
-    put_bytes(page, output)?;
-    Ok(totals)
+    let mut after = Vec::new(alloc);
+    tell_missing(alloc, missing, &mut after)?;
+    let text = page.unwrap_or(Vec::new(alloc));
+    Ok((
+        Said {
+            before,
+            text,
+            after,
+        },
+        totals,
+    ))
 }
 
 #[tactic(auto, using(crate::proofs::Hearing::none_heard, crate::proofs::Hearing::one_more_heard))]
@@ -154,19 +185,4 @@ fn tell_missing<T: Listener>(
         listener.hear(alloc, Trouble::NoText(package, text))?;
     }
     Ok(())
-}
-
-#[tactic(auto, using(crate::proofs::Noticing::page_bytes_put, crate::proofs::Noticing::no_bytes_put))]
-fn put_bytes<O: Sink>(page: Option<Vec<u8>>, output: &mut O) -> Result<(), Trouble>
-    ensures ok { OnOk result (Writes (O.told output.old) (O.told output.new)
-        (λ text. text ≡ spec.bytes_of page)) }
-    ensures err { IfErr result (IsBroken (O.told output.new)) }
-{
-    match page {
-        Some(bytes) => {
-            write_all(output, &bytes)?;
-            Ok(())
-        }
-        None => Ok(()),
-    }
 }

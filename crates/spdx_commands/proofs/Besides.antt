@@ -11,11 +11,11 @@ use Rattle.std.proofs.lemmas.List.{map_more}
 use Rattle.std.proofs.lemmas.List.Folds.{list_any-append}
 use Rattle.std.proofs.lemmas.List.Sorted.{IsPermutation-map}
 use Rattle.std.proofs.lemmas.Map.Text.{is_eq-slice_cmp}
-use Rattle.check_files.specs.Told.{Account, Hears, Tells}
+use Rattle.check_files.specs.Told.{Account, Hears, Tells, each}
 use Rattle.check_files.proofs.Doing.{hears_nil, hears_trans}
 use Rattle.fix_program.specs.Runs.{path_in}
 use Rattle.shelves.specs.Shelf.{Named, Shelved}
-use Rattle.spdx_commands.specs.Beside.{AreBeside, AreKnown, AreLeftIn, IsBesideOf, IsBesideTold, IsNoFile, TellsBeside, again, first, folder_of, has_folder, left_at, listed, no_file, none, one_more, text_cmp}
+use Rattle.spdx_commands.specs.Beside.{AreBeside, AreBesideTold, AreKnown, AreLeftIn, IsBesideOf, IsBesideTold, IsNoFile, TellsBeside, again, first, folder_of, has_folder, left_at, listed, no_file, none, one_more, text_cmp}
 use Rattle.spdx_commands.specs.Mend.{worst}
 use Rattle.spdx_commands.proofs.Doings.{worst_append}
 use Rattle.spdx_troubles.specs.declared.trouble.Trouble.{Trouble}
@@ -153,3 +153,11 @@ all_zero s paths folders told (one_more ps fs more path ts own are is) =
 pub beside_zero : (w : Bool) (s : Shelved) (paths : List (List ℕ)) (told : List Trouble) → IsBesideTold w s paths told → worst told ≡ 0
 beside_zero true s paths told h = all_zero s paths h.0 told h.1
 beside_zero false s paths told h = ap worst h
+
+-- ---- what is told of all of them
+
+pub none_beside : (w : Bool) (s : Shelved) (paths : List (List ℕ)) (told : List Trouble) → w ≡ false → told ≡ [] → IsBesideTold w s paths told
+none_beside w s paths told off empty = subst (λ (b : Bool). IsBesideTold b s paths told) (sym off) empty
+
+pub all_beside : (w : Bool) (s : Shelved) (paths : List (List ℕ)) (told : List Trouble) → w ≡ true → Tells (each []) (each told) (AreBesideTold s paths) → IsBesideTold w s paths told
+all_beside w s paths told on p = subst (λ (b : Bool). IsBesideTold b s paths told) (sym on) (subst (AreBesideTold s paths) (sym p.tells) p.is)

@@ -13,7 +13,7 @@ use Rattle.fix_program.specs.declared.run.Request.{Request}
 use Rattle.fix_program.specs.declared.run.Run.{Run}
 use Rattle.list_program.specs.Named.{InsideBytes}
 use Rattle.spdx_commands.specs.Beside.{IsBesideTold}
-use Rattle.spdx_commands.specs.Mend.{AreNeeded, ArePathsDone, Did, IsBrokenOff, IsFix, IsFixStopped, IsMere, Stand, behind, broken, broken_off, caused, stand, telling, worst}
+use Rattle.spdx_commands.specs.Mend.{AreNeeded, ArePathsDone, Did, DidBefore, IsBrokenOff, IsFix, IsFixBegun, IsFixStopped, IsMere, Stand, behind, broken, broken_off, caused, stand, telling, worst}
 use Rattle.spdx_commands.specs.Replaced.{Attempt}
 use Rattle.spdx_commands.specs.Steps.{IsWorst}
 use Rattle.spdx_commands.proofs.Besides.{beside_zero}
@@ -31,36 +31,37 @@ module _ (s : Shelved) (inside : InsideBytes) (a : Request) where
   not_begun x l cause same is (Ok y) h = tt
   not_begun x l cause same is (Err t) h = subst (IsFixStopped s inside a x (stand x.output l x.tried)) (sym h) (caused cause is refl same refl)
 
-  pub part_broken : (x y : Stand) (part : Trouble) → IsBrokenOff y.output x.tried y.tried part → (r : Result ℕ Trouble) → IsErrAnd r (λ t. t ≡ part) → IfErr r (IsFixStopped s inside a x y)
-  part_broken x y part is (Ok z) h = tt
-  part_broken x y part is (Err t) h = subst (IsFixStopped s inside a x y) (sym h) (broken_off part is)
+  pub part_broken : (x y : Stand) (part : Trouble) → IsBrokenOff y.output x.tried y.tried part → DidBefore x y (IsFixBegun s inside a) → (r : Result ℕ Trouble) → IsErrAnd r (λ t. t ≡ part)
+      → IfErr r (IsFixStopped s inside a x y)
+  part_broken x y part is begun (Ok z) h = tt
+  part_broken x y part is begun (Err t) h = subst (IsFixStopped s inside a x y) (sym h) (broken_off part is begun)
 
-  pub memory_broken : (x y : Stand) (r : Result ℕ Trouble) → IsErrAnd r (λ t. t ≡ trouble.Memory) → IfErr r (IsFixStopped s inside a x y)
-  memory_broken x y r h = part_broken x y trouble.Memory (broken trouble.Memory tt) r h
+  pub memory_broken : (x y : Stand) → DidBefore x y (IsFixBegun s inside a) → (r : Result ℕ Trouble) → IsErrAnd r (λ t. t ≡ trouble.Memory) → IfErr r (IsFixStopped s inside a x y)
+  memory_broken x y begun r h = part_broken x y trouble.Memory (broken trouble.Memory tt) begun r h
 
   -- ---- what it does
 
   greatest : (run told status : ℕ) (xs ys : List Trouble) → told ≡ worst xs → worst ys ≡ 0 → status ≡ max run told → status ≡ max run (worst (xs ++ ys))
   greatest run told status xs ys e f g = let all = worst_append xs ys in omega (arith, e, f, g, all)
 
-  pub fix_done : (x : Stand) (out : Told) (begun h l : Account Trouble) (m : Account Attempt) (run : Run) (told status : ℕ) → begun ≡ x.heard → IsRun s inside a run
+  pub fix_done : (x : Stand) (out : Told) (begun h l : Account Trouble) (m : Account Attempt) (run : Run) (told status : ℕ) (beside : List Trouble) → begun ≡ x.heard → IsRun s inside a run
       → Did (stand x.output begun x.tried) (stand out h m) (IsWorst told (ArePathsDone s run.catalogue run.paths.items))
-      → Tells h l (IsBesideTold a.is_written s (map path_in a.paths.now)) → status ≡ max (plan.status_of run) told
+      → IsBesideTold a.is_written s (map path_in a.paths.now) beside → Hears h l beside → status ≡ max (plan.status_of run) told
       → Did x (stand out l m) (IsFix s inside a status)
-  fix_done x out begun h l m run told status same is_run q p is = record {
-    done = behind q.done (telling p.told);
+  fix_done x out begun h l m run told status beside same is_run q is_beside tells is = record {
+    done = behind q.done (telling beside);
     writes = Appends-trans x.output.bytes out.bytes out.bytes q.done.text [] q.writes (Appends-nil out.bytes);
-    tells = hears_trans x.heard h l q.done.told p.told (subst (λ (b : Account Trouble). Hears b h q.done.told) same q.tells) p.tells;
+    tells = hears_trans x.heard h l q.done.told beside (subst (λ (b : Account Trouble). Hears b h q.done.told) same q.tells) tells;
     tries = hears_trans x.tried m m q.done.tried [] q.tries (hears_nil m);
     is = record {
       run = run;
       is_run = is_run;
       paths = q.done;
       are_done = q.is.is;
-      beside = p.told;
-      is_beside = p.is;
+      beside = beside;
+      is_beside = is_beside;
       done_is = refl;
-      status_is = greatest (plan.status_of run) told status q.done.told p.told q.is.status_is (beside_zero a.is_written s (map path_in a.paths.now) p.told p.is) is;
+      status_is = greatest (plan.status_of run) told status q.done.told beside q.is.status_is (beside_zero a.is_written s (map path_in a.paths.now) beside is_beside) is;
     };
   }
 

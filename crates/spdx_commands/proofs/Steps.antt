@@ -1,30 +1,28 @@
--- What is written and told, one thing behind the other.
-use Rattle.std.proofs.Common.{◌≡◌, ◌∙◌, ℕ, Bool, true, false, List, [], ◌∷◌, ◌++◌, String, ap, arith, refl, string_bytes, subst, sym}
-use Rattle.std.specs.Prelude.{Result, Ok, Err, IfErr, IsErrAnd}
-use Rattle.std.specs.declared.io.Error.{Error}
+-- What is said of files and lines, and with which status commands end.
+use Rattle.std.proofs.Common.{◌≡◌, ◌∙◌, ℕ, Bool, true, false, List, [], ◌∷◌, ◌++◌, String, ap, append-nil, arith, flat_map, refl, string_bytes, subst, sym}
 use Rattle.std.specs.declared.alloc.Global.{Global}
 use Rattle.std.specs.List.{AllZip}
-use Rattle.std.specs.Io.KnownBytes.{Appends}
-use Rattle.line_engine.specs.Device.{Told}
-use Rattle.check_files.specs.Told.{Account, Does, Hears, Tells}
-use Rattle.check_files.proofs.Doing.{both, hears_nil, hears_trans, heard_alone, nothing}
+use Rattle.std.proofs.lemmas.Grind.{flat_map-append}
+use Rattle.check_files.specs.Told.{Account, Hears, Tells}
+use Rattle.check_files.proofs.Doing.{hears_nil, hears_trans}
 use Rattle.list_program.specs.Named.{InsideBytes}
 use Rattle.list_told.specs.declared.shown.Asked as the_list
 use Rattle.list_told.specs.declared.shown.Shown.{Shown}
 use Rattle.list_told.specs.Shown.{TellsListed, status_of as shown_status}
 use Rattle.meaning_program.specs.Compared.{TellsSame}
+use Rattle.meaning_program.specs.Files.{IsRun, status_of as run_status}
 use Rattle.meaning_program.specs.declared.compared.Asked.{Asked}
 use Rattle.meaning_program.specs.declared.compared.Compared.{Compared}
 use Rattle.meaning_program.specs.declared.files.FileEnd.{FileEnd}
-use Rattle.meaning_program.specs.declared.files.FileEnd.TheVariants as end
+use Rattle.meaning_program.specs.declared.files.Request as simplify
+use Rattle.meaning_program.specs.declared.files.Run.{Run}
 use Rattle.shelves.specs.Shelf.{Shelved}
-use Rattle.meaning_program.specs.declared.simplified.Simplified.{Simplified}
 use Rattle.meaning_program.specs.declared.simplified.UnmeantLine.{UnmeantLine}
-use Rattle.spdx_commands.specs.Simplify.{AreToldOf, AreUnmeant, IsReadTold, IsToldOf, IsUnmeant, none, one_more, place_of, is_unmeant}
 use Rattle.spdx_commands.specs.Compare.{SaysSame, status_of}
 use Rattle.spdx_commands.specs.Lists.{SaysListed}
-use Rattle.spdx_commands.specs.Stops.{IsBroken, IsStopped, broken, caused}
-use Rattle.spdx_troubles.specs.Causes.{of_path}
+use Rattle.spdx_commands.specs.Said.{AreSaid, text_of, told_of}
+use Rattle.spdx_commands.specs.Simplify.{AreSaidOf, AreToldOf, AreUnmeant, IsSimplify, IsToldOf, IsUnmeant, is_unmeant, none, one_more, place_of}
+use Rattle.spdx_commands.specs.declared.said.Said.{Said}
 use Rattle.spdx_troubles.specs.declared.trouble.Trouble.{Trouble}
 use Rattle.spdx_troubles.specs.declared.trouble.Trouble.TheVariants as trouble
 
@@ -35,13 +33,33 @@ zip_push R [] (b ∷ ys) x y h r = absurd h
 zip_push R (a ∷ xs) [] x y h r = absurd h
 zip_push R (a ∷ xs) (b ∷ ys) x y h r = (h.0, zip_push R xs ys x y h.1 r)
 
-pub no_file : (out : Told) (heard : Account Trouble) → Does out out heard heard (AreToldOf [])
-no_file out heard = nothing out heard (AreToldOf []) none
+-- ---- what is said of files
 
-pub file_told : (a b c : Told) (h k l : Account Trouble) (files : List FileEnd) (file : FileEnd)
-    → Does a b h k (AreToldOf files) → Does b c k l (IsToldOf file) → Does a c h l (AreToldOf (files ++ file ∷ []))
-file_told a b c h k l files file p q =
-    both a b c h k l (AreToldOf files) (IsToldOf file) (AreToldOf (files ++ file ∷ [])) p q (λ x xs y ys first then. one_more files file x y xs ys first then)
+pub no_file : AreSaidOf [] []
+no_file = none
+
+behind_all : {A : Type 0} (f : Said → List A) (all : List Said) (s : Said) → flat_map f all ++ f s ≡ flat_map f (all ++ s ∷ [])
+behind_all f all s = sym (flat_map-append f all (s ∷ []) ∙ ap (λ (l : List _). flat_map f all ++ l) (append-nil (f s)))
+
+-- and of one more
+pub file_said : (files : List FileEnd) (file : FileEnd) (all all' : List Said) (s : Said) → AreSaidOf files all → IsToldOf file (text_of s) (told_of s) → all' ≡ all ++ s ∷ []
+    → AreSaidOf (files ++ file ∷ []) all'
+file_said files file all all' s first then is =
+    let more = one_more files file (flat_map text_of all) (text_of s) (flat_map told_of all) (told_of s) first then in
+    subst (AreSaidOf (files ++ file ∷ [])) (sym is)
+    (subst (λ (text : List ℕ). AreToldOf (files ++ file ∷ []) text (flat_map told_of (all ++ s ∷ []))) (behind_all text_of all s)
+    (subst (AreToldOf (files ++ file ∷ []) (flat_map text_of all ++ text_of s)) (behind_all told_of all s) more))
+
+-- what is said of a run's files is said of the run
+module _ (s : Shelved) (inside : InsideBytes) (a : simplify.Request) (run : Run) (all : List Said) (status : ℕ) where
+  pub meant : IsRun s inside a run → AreSaidOf run.files.items all → status ≡ run_status run → IsSimplify s inside a (flat_map text_of all) (flat_map told_of all) status
+  meant is said ends = record { run = run; is_run = is; told_are = said; status_is = ends }
+
+  pub meant_as : (text : List ℕ) (told : List Trouble) → IsRun s inside a run → AreSaidOf run.files.items all → status ≡ run_status run → AreSaid all text told
+      → IsSimplify s inside a text told status
+  meant_as text told is said ends same =
+      subst (λ (x : List ℕ). IsSimplify s inside a x told status) (sym same.0)
+      (subst (λ (ts : List Trouble). IsSimplify s inside a (flat_map text_of all) ts status) (sym same.1) (meant is said ends))
 
 pub no_line : (path : List ℕ) (heard : Account Trouble) → Tells heard heard (AreUnmeant path [])
 no_line path heard = record { told = []; tells = hears_nil heard; is = tt }
@@ -54,38 +72,6 @@ line_told path h k l lines line place p is tells = record {
   tells = hears_trans h k l p.told (trouble.Unmeant place line.why ∷ []) p.tells tells;
   is = zip_push (IsUnmeant path) lines p.told line (trouble.Unmeant place line.why) p.is (is_unmeant is);
 }
-
-pub read_told : (out out' : Told) (heard heard' : Account Trouble) (path : List ℕ) (x : Simplified)
-    → Tells heard heard' (AreUnmeant path x.unmeant.items) → Appends out.bytes out'.bytes x.text.items
-    → Does out out' heard heard' (IsReadTold path x)
-read_told out out' heard heard' path x h writes =
-    record { text = x.text.items; told = h.told; writes = writes; tells = h.tells; is = record { text_is = refl; each = h.is } }
-
-pub unread_told : (out : Told) (heard heard' : Account Trouble) (n : String Global) (e : Error) → Hears heard heard' (of_path n e ∷ []) → Does out out heard heard' (IsToldOf (end.Unread n e))
-unread_told out heard heard' n e tells = heard_alone out heard heard' (of_path n e ∷ []) (IsToldOf (end.Unread n e)) tells (refl, refl)
-
--- ---- why a command stops
-
-module _ {T Cause : Type 0} (trouble_of : Cause → Trouble) (Is : Cause → Type 0) (Stays : Type 0) where
-  -- by a cause, before anything is written
-  pub stopped : (out : Told) (cause : Cause) → Is cause → Stays → (r : Result T Trouble) → IsErrAnd r (λ t. t ≡ trouble_of cause) → IfErr r (IsStopped trouble_of Is out out Stays)
-  stopped out cause is stays (Ok x) h = tt
-  stopped out cause is stays (Err t) h = subst (IsStopped trouble_of Is out out Stays) (sym h) (caused cause is refl stays)
-
-  -- by an output that has failed
-  pub output_failed : (out out' : Told) → out'.has_failed ≡ true → (r : Result T Trouble) → IsErrAnd r (λ t. t ≡ trouble.Output) → IfErr r (IsStopped trouble_of Is out out' Stays)
-  output_failed out out' failed (Ok x) h = tt
-  output_failed out out' failed (Err t) h = subst (IsStopped trouble_of Is out out' Stays) (sym h) (broken trouble.Output failed)
-
-  -- by a want of memory
-  pub memory_refused : (out out' : Told) → (r : Result T Trouble) → IsErrAnd r (λ t. t ≡ trouble.Memory) → IfErr r (IsStopped trouble_of Is out out' Stays)
-  memory_refused out out' (Ok x) h = tt
-  memory_refused out out' (Err t) h = subst (IsStopped trouble_of Is out out' Stays) (sym h) (broken trouble.Memory tt)
-
-  -- as a part of it broke off
-  pub part_broken : (out out' : Told) (part : Trouble) → IsBroken out' part → (r : Result T Trouble) → IsErrAnd r (λ t. t ≡ part) → IfErr r (IsStopped trouble_of Is out out' Stays)
-  part_broken out out' part is (Ok x) h = tt
-  part_broken out out' part is (Err t) h = subst (IsStopped trouble_of Is out out' Stays) (sym h) (broken part is)
 
 -- ---- the status of `compare` and `show`
 

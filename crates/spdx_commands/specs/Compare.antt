@@ -1,5 +1,5 @@
 -- What `compare` writes, and with which status it ends.
-use Rattle.std.specs.Prelude.{◌≡◌, ◌↔◌, ℕ, Bool, List, if◌then◌else◌}
+use Rattle.std.specs.Prelude.{◌≡◌, ◌↔◌, ℕ, Bool, List, [], if◌then◌else◌}
 use Rattle.std.specs.Option.{option_copied}
 use Rattle.shelves.specs.Shelf.{Shelved}
 use Rattle.spdx_requirement.specs.Rows.{Rows}
@@ -11,6 +11,7 @@ use Rattle.meaning_program.specs.declared.compared.Asked.{Asked}
 use Rattle.meaning_program.specs.declared.compared.Compared.{Compared}
 use Rattle.meaning_program.specs.Compared.{IsCompared}
 use Rattle.meaning_program.specs.Reading.{mode_by, read_as}
+use Rattle.spdx_troubles.specs.declared.trouble.Trouble.{Trouble}
 
 abbrev pub status_of : Bool → ℕ
 status_of is_same = if is_same then 0 else 1
@@ -22,6 +23,10 @@ pub record IsCompare (s : Shelved) (inside : InsideBytes) (a : Asked) (text : Li
   pub is_compared : IsCompared s inside a told
   pub text_is : text ≡ told.text.items
   pub status_is : status ≡ status_of told.is_same
+
+-- so it is with such a status, and nothing is told
+abbrev pub SaysCompared : Shelved → InsideBytes → Asked → List ℕ → List Trouble → Type 0
+SaysCompared s inside a text told = (told ≡ []) × ((status : ℕ) × IsCompare s inside a text status)
 
 -- by the list that is named each text says one tree, and the status is 0 exactly if they mean the
 -- same: whatever is accepted, both hold or none does

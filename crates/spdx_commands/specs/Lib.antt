@@ -1,3 +1,4 @@
+pub mod Said
 pub mod Stops
 pub mod Compare
 pub mod Lists

@@ -30,7 +30,7 @@ use Rattle.fix_program.specs.declared.run.Run.{Run}
 use Rattle.fix_program.specs.declared.trouble.FixTrouble.{FixTrouble}
 use Rattle.spdx_commands.specs.Beside.{IsBesideTold}
 use Rattle.spdx_commands.specs.Replaced.{Attempt, attempt, is_replaced}
-use Rattle.spdx_commands.specs.Stops.{IsBroken}
+use Rattle.spdx_commands.specs.Said.{IsBroken}
 use Rattle.spdx_commands.specs.declared.replacing.Loss.{Loss}
 use Rattle.spdx_commands.specs.declared.replacing.Loss.TheVariants as loss
 use Rattle.spdx_commands.specs.declared.replacing.Obstacle.{Obstacle}
@@ -201,14 +201,75 @@ pub data IsBrokenOff (output : Told) (tried tried' : Account Attempt) : Trouble 
       (before ++ attempt (string_bytes path) stamp bytes (Err (obstacle.Failed e)) ∷ []) →
       IsBrokenOff output tried tried' (trouble.Unwritable path e)
 
--- the list isn't had, and nothing was written, told nor tried; or it breaks off
+-- at one thing it breaks off, of which nothing is told: a part of its text was written, or its bytes
+-- were tried to put in the place of a file
+pub record BreaksAt (old new : Stand) : Type 0 where
+  pub part : List ℕ
+  pub last : List Attempt
+  pub writes : Appends old.output.bytes new.output.bytes part
+  pub tells_none : new.heard ≡ old.heard
+  pub tries : Hears old.tried new.tried last
+
+-- something was done of which this holds, and at one thing more it broke off
+pub record DidBefore (old new : Stand) (Is : Done → Type 0) : Type 0 where
+  pub done : Done
+  pub part : List ℕ
+  pub last : List Attempt
+  pub writes : Appends old.output.bytes new.output.bytes (done.text ++ part)
+  pub tells : Hears old.heard new.heard done.told
+  pub tries : Hears old.tried new.tried (done.tried ++ last)
+  pub is : Is done
+
+-- what comes of the first files was done
+pub record AreEndsBegun (s : Shelved) (c : Rows) (before : List Attempt) (ends : List FileEnd)
+    (done : Done) : Type 0 where
+  pub first : List FileEnd
+  pub others : List FileEnd
+  pub whole : ends ≡ first ++ others
+  pub are_done : AreEndsDone s c before first done
+
+-- of a path: of its first files; or of all, and the first were told that were left behind below it
+pub data IsPathBegun (s : Shelved) (c : Rows) (before : List Attempt) (p : PathEnd) :
+    Done → Type 0 where
+  in_files : (done : Done) → AreEndsBegun s c before p.ends.items done →
+      IsPathBegun s c before p done
+  in_left : (files : Done) (first others : List Trouble) →
+      AreEndsDone s c before p.ends.items files →
+      map trouble.LeftBehind (flat_map left_behind p.ends.items) ≡ first ++ others →
+      IsPathBegun s c before p (behind files (telling first))
+
+-- the first paths were done, and of the next one a beginning
+pub record ArePathsBegun (s : Shelved) (c : Rows) (paths : List PathEnd) (done : Done) :
+    Type 0 where
+  pub first : List PathEnd
+  pub next : PathEnd
+  pub others : List PathEnd
+  pub whole : paths ≡ first ++ next ∷ others
+  pub before : Done
+  pub own : Done
+  pub are_done : ArePathsDone s c first before
+  pub is_begun : IsPathBegun s c before.tried next own
+  pub done_is : done ≡ behind before own
+
+-- of a run: of its paths; or of all, and the first were told that stand beside them
+pub data IsFixBegun (s : Shelved) (inside : InsideBytes) (a : Request) : Done → Type 0 where
+  in_paths : (run : Run) (done : Done) → IsRun s inside a run →
+      ArePathsBegun s run.catalogue run.paths.items done → IsFixBegun s inside a done
+  behind_paths : (run : Run) (done : Done) → IsRun s inside a run →
+      ArePathsDone s run.catalogue run.paths.items done → IsFixBegun s inside a done
+  in_beside : (run : Run) (paths : Done) (first others : List Trouble) → IsRun s inside a run →
+      ArePathsDone s run.catalogue run.paths.items paths →
+      IsBesideTold a.is_written s (map path_in a.paths.now) (first ++ others) →
+      IsFixBegun s inside a (behind paths (telling first))
+
+-- the list isn't had, and nothing was written, told nor tried; or it breaks off behind a beginning
 pub data IsFixStopped (s : Shelved) (inside : InsideBytes) (a : Request) (old new : Stand) :
     Trouble → Type 0 where
   caused : (cause : FixFault) → IsNoRun s inside a cause →
       new.output.bytes ≡ old.output.bytes → new.heard ≡ old.heard → new.tried ≡ old.tried →
       IsFixStopped s inside a old new (fix_fault_trouble cause)
   broken_off : (t : Trouble) → IsBrokenOff new.output old.tried new.tried t →
-      IsFixStopped s inside a old new t
+      DidBefore old new (IsFixBegun s inside a) → IsFixStopped s inside a old new t
 
 -- ---- laws
 

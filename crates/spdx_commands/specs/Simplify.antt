@@ -1,5 +1,5 @@
 -- What `simplify` writes and tells, and with which status it ends.
-use Rattle.std.specs.Prelude.{◌≡◌, ℕ, List, [], ◌∷◌, ◌++◌, String, codes, string_bytes}
+use Rattle.std.specs.Prelude.{◌≡◌, ℕ, List, [], ◌∷◌, ◌++◌, String, codes, flat_map, string_bytes}
 use Rattle.std.specs.declared.alloc.Global.{Global}
 use Rattle.std.specs.Fmt.{decimal}
 use Rattle.std.specs.List.{AllZip}
@@ -12,6 +12,8 @@ use Rattle.meaning_program.specs.declared.files.Request.{Request}
 use Rattle.meaning_program.specs.declared.files.Run.{Run}
 use Rattle.meaning_program.specs.declared.simplified.Simplified.{Simplified}
 use Rattle.meaning_program.specs.declared.simplified.UnmeantLine.{UnmeantLine}
+use Rattle.spdx_commands.specs.Said.{text_of, told_of}
+use Rattle.spdx_commands.specs.declared.said.Said.{Said}
 use Rattle.spdx_troubles.specs.Causes.{of_path}
 use Rattle.spdx_troubles.specs.declared.trouble.Trouble.{Trouble}
 use Rattle.spdx_troubles.specs.declared.trouble.Trouble.TheVariants as trouble
@@ -54,3 +56,13 @@ pub record IsSimplify (s : Shelved) (inside : InsideBytes) (a : Request) (text :
   pub is_run : IsRun s inside a run
   pub told_are : AreToldOf run.files.items text told
   pub status_is : status ≡ status_of run
+
+-- so it is with such a status
+abbrev pub SaysMeant : Shelved → InsideBytes → Request → List ℕ → List Trouble → Type 0
+SaysMeant s inside a text told = (status : ℕ) × IsSimplify s inside a text told status
+
+-- ---- the parts of it, which only private clauses cite
+
+-- this is what is said of the files
+abbrev pub AreSaidOf : List FileEnd → List Said → Type 0
+AreSaidOf files all = AreToldOf files (flat_map text_of all) (flat_map told_of all)

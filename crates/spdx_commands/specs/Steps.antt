@@ -38,6 +38,14 @@ abbrev pub ComesOfPath :
 ComesOfPath old new status Is done =
     old.left.items ≡ [] → Comes old.replaced new.replaced status Is done
 
+-- a beginning was done, behind whatever the run had tried, which knew these files
+abbrev pub Began : Nodes → (List Attempt → Done → Type 0) → Done → Type 0
+Began old Is done = (before : List Attempt) → AreReplaced old before → Is before done
+
+-- so it is of a path, where nothing is yet to be told of another one
+abbrev pub BeganPath : SoFar → (List Attempt → Done → Type 0) → Done → Type 0
+BeganPath old Is done = old.left.items ≡ [] → Began old.replaced Is done
+
 -- nothing is done yet
 pub record IsFresh (so_far : SoFar) : Type 0 where
   pub replaced : AreReplaced so_far.replaced []

@@ -1,6 +1,6 @@
 // What runs that were killed while they replaced a file left beside it.
 
-ghost use Rattle.std.specs.Prelude.{◌≡◌, IfOk, List, OnOk, flat_map, map, option_map, string_bytes, ℕ};
+ghost use Rattle.std.specs.Prelude.{◌≡◌, IfOk, List, OnErr, OnOk, flat_map, map, option_map, string_bytes, ℕ};
 ghost use Rattle.std.specs.Path.{rsplit_once};
 ghost use Rattle.check_files.specs.Told.{Hears, Tells};
 ghost use Rattle.fix_program.specs.Runs.{path_in};
@@ -14,6 +14,7 @@ ghost use Rattle.spdx_commands.specs.Beside.{
   TellsBeside,
   left_at,
 };
+ghost use Rattle.spdx_commands.specs.Said.{HearsBeginning};
 ghost use Rattle.spdx_troubles.specs.declared.trouble.Trouble.TheVariants.{LeftBehind};
 
 use crate::listener::Listener;
@@ -34,7 +35,9 @@ pub(crate) fn tell_left<T: Listener>(
     left: Vec<String>,
     listener: &mut T,
 ) -> Result<(), AllocError>
-    ensures { OnOk result (Hears (T.heard listener.old) (T.heard listener.new)
+    ensures all { OnOk result (Hears (T.heard listener.old) (T.heard listener.new)
+        (map LeftBehind left.items)) }
+    ensures begun { OnErr result (HearsBeginning (T.heard listener.old) (T.heard listener.new)
         (map LeftBehind left.items)) }
 {
     for path in left {

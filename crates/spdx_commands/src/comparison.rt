@@ -1,11 +1,11 @@
 // The command `compare`.
 
 ghost use Rattle.std.specs.Prelude.{◌≡◌, IfErr, IfOk, if◌then◌else◌};
-ghost use Rattle.check_files.specs.Told.{Writes};
+ghost use Rattle.check_files.specs.Told.{Writes, unkept};
 ghost use Rattle.list_program.specs.Named.{inside_of};
 ghost use Rattle.meaning_program.specs.Compared.{IsNotCompared};
 ghost use Rattle.spdx_commands.specs.Compare as spec;
-ghost use Rattle.spdx_commands.specs.Compare.{IsCompare, SaysSame};
+ghost use Rattle.spdx_commands.specs.Compare.{IsCompare, SaysCompared, SaysSame};
 ghost use Rattle.spdx_commands.specs.Stops.{IsStopped};
 ghost use Rattle.spdx_troubles.specs.Causes.{meaning_trouble};
 
@@ -21,7 +21,8 @@ use std::alloc::Global;
 ///
 /// # Errors
 ///
-/// The list isn't had, or a text has no meaning: nothing is written. Or the output fails; or memory was refused.
+/// The list isn't had, or a text has no meaning: nothing is written. Or the output fails, and what was
+/// written is a beginning; or memory was refused.
 pub fn compare<S: Shelf, O: Sink>(
     alloc: Global,
     shelf: &S,
@@ -34,7 +35,8 @@ pub fn compare<S: Shelf, O: Sink>(
         (inside_of inside.entry.list.now inside.entry.extras.now) asked.entry text status)) }
     ensures err { IfErr result (IsStopped meaning_trouble (IsNotCompared (S.told shelf.now)
         (inside_of inside.entry.list.now inside.entry.extras.now) asked.entry)
-        (O.told output.old) (O.told output.new) (Unit {0})) }
+        (SaysCompared (S.told shelf.now) (inside_of inside.entry.list.now inside.entry.extras.now)
+        asked.entry) (O.told output.old) (O.told output.new) unkept unkept) }
     ensures same { IfOk result (SaysSame (S.told shelf.now)
         (inside_of inside.entry.list.now inside.entry.extras.now) asked.entry) }
 {

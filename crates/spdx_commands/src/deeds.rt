@@ -1,10 +1,11 @@
 // What is done of what comes of a file.
 
-ghost use Rattle.std.specs.Prelude.{◌≡◌, ◌++◌, ◌∷◌, [], Err, IfErr, IfOk, Ok, OnOk, false};
+ghost use Rattle.std.specs.Prelude.{◌≡◌, ◌++◌, ◌∷◌, [], Err, IfErr, IfOk, Ok, OnErr, OnOk, false};
 ghost use Rattle.check_files.specs.Told.{Hears, Tells};
 ghost use Rattle.line_engine.specs.Device.{Told};
 ghost use Rattle.spdx_commands.specs.Mend as spec;
 ghost use Rattle.spdx_commands.specs.Mend.{
+  BreaksAt,
   Did,
   IsBrokenOff,
   IsDeedDone,
@@ -78,6 +79,9 @@ pub(crate) fn do_end<S: Shelf, R: Replacing, O: Sink, T: Listener>(
         ≡ so_far.old.left.items ++ left_behind end) }
     ensures err { IfErr result (IsBrokenOff (O.told output.new) (R.tried replacer.old)
         (R.tried replacer.new)) }
+    ensures begun { IfErr result (λ _. BreaksAt
+        (stand (O.told output.old) (T.heard listener.old) (R.tried replacer.old))
+        (stand (O.told output.new) (T.heard listener.new) (R.tried replacer.new))) }
 {
     match end {
         FileEnd::Fixed(fixed) => {
@@ -115,6 +119,9 @@ fn do_deed<S: Shelf, R: Replacing, O: Sink, T: Listener>(
         IsDeedDone (S.told shelf.now) catalogue.now before deed))) }
     ensures err { IfErr result (IsBrokenOff (O.told output.new) (R.tried replacer.old)
         (R.tried replacer.new)) }
+    ensures begun { IfErr result (λ _. BreaksAt
+        (stand (O.told output.old) (T.heard listener.old) (R.tried replacer.old))
+        (stand (O.told output.new) (T.heard listener.new) (R.tried replacer.new))) }
 {
     match deed {
         Deed::Nothing => Ok(0),
@@ -145,6 +152,9 @@ fn do_replacement<S: Shelf, R: Replacing, T: Listener>(
         IsPlacedBy (is_replaced before new.stamp) (S.told shelf.now) catalogue.now new))) }
     ensures err { IfErr result (λ trouble. (output : Told) → IsBrokenOff output
         (R.tried replacer.old) (R.tried replacer.new) trouble) }
+    ensures begun { IfErr result (λ _. (output : Told) → BreaksAt
+        (stand output (T.heard listener.old) (R.tried replacer.old))
+        (stand output (T.heard listener.new) (R.tried replacer.new))) }
 {
     if replaced.has(new.stamp) {
         place_again(alloc, shelf, catalogue, new, replaced, replacer, listener)
@@ -170,6 +180,9 @@ fn place_again<S: Shelf, R: Replacing, T: Listener>(
         IsPlacedAgain (S.told shelf.now) catalogue.now old))) }
     ensures err { IfErr result (λ trouble. (output : Told) → IsBrokenOff output
         (R.tried replacer.old) (R.tried replacer.new) trouble) }
+    ensures begun { IfErr result (λ _. (output : Told) → BreaksAt
+        (stand output (T.heard listener.old) (R.tried replacer.old))
+        (stand output (T.heard listener.new) (R.tried replacer.new))) }
 {
     let manner = Manner {
         catalogue,
@@ -200,6 +213,9 @@ fn place_if<R: Replacing, T: Listener>(
         (Comes replaced.old replaced.new status (λ _. IsPlacedIf deed))) }
     ensures err { IfErr result (λ trouble. (output : Told) → IsBrokenOff output
         (R.tried replacer.old) (R.tried replacer.new) trouble) }
+    ensures begun { IfErr result (λ _. (output : Told) → BreaksAt
+        (stand output (T.heard listener.old) (R.tried replacer.old))
+        (stand output (T.heard listener.new) (R.tried replacer.new))) }
 {
     match deed {
         Deed::Replace(new) => place(alloc, new, replaced, replacer, listener),
@@ -222,6 +238,9 @@ fn place<R: Replacing, T: Listener>(
         (Comes replaced.old replaced.new status (λ _. IsPlaced new))) }
     ensures err { IfErr result (λ trouble. (output : Told) → IsBrokenOff output
         (R.tried replacer.old) (R.tried replacer.new) trouble) }
+    ensures begun { IfErr result (λ _. (output : Told) → BreaksAt
+        (stand output (T.heard listener.old) (R.tried replacer.old))
+        (stand output (T.heard listener.new) (R.tried replacer.new))) }
 {
     let Replacement {
         path,
@@ -246,8 +265,9 @@ fn tell_loss<T: Listener>(
     loss: Loss,
     listener: &mut T,
 ) -> Result<(), AllocError>
-    ensures { OnOk result (Hears (T.heard listener.old) (T.heard listener.new)
+    ensures ok { OnOk result (Hears (T.heard listener.old) (T.heard listener.new)
         (spec.told_of path (Ok loss))) }
+    ensures memory { OnErr result (T.heard listener.new ≡ T.heard listener.old) }
 {
     match loss {
         Loss::Nothing => Ok(()),
@@ -267,6 +287,7 @@ fn tell_hindrance<T: Listener>(
         (spec.hindrance path obstacle ∷ [])) }
     ensures goes_on { OnOk result (spec.is_end (Err obstacle) ≡ false) }
     ensures err { IfErr result (IsUnwritten path obstacle) }
+    ensures none { OnErr result (T.heard listener.new ≡ T.heard listener.old) }
 {
     let trouble = hindrance(path, obstacle);
     if trouble.is_passed_over() {
@@ -301,8 +322,9 @@ fn tell_left_out<T: Listener>(
     trouble: FixTrouble,
     listener: &mut T,
 ) -> Result<u8, AllocError>
-    ensures { IfOk result (λ status. Tells (T.heard listener.old) (T.heard listener.new)
+    ensures ok { IfOk result (λ status. Tells (T.heard listener.old) (T.heard listener.new)
         (IsLeftOutTold trouble status)) }
+    ensures memory { OnErr result (T.heard listener.new ≡ T.heard listener.old) }
 {
     if trouble.is_of_memory() {
         return Err(AllocError);
@@ -315,6 +337,7 @@ fn tell<T: Listener>(alloc: Global, trouble: Trouble, listener: &mut T) -> Resul
     ensures status { IfOk result (λ status. status ≡ status_of trouble) }
     ensures told { OnOk result (Hears (T.heard listener.old) (T.heard listener.new)
         (trouble ∷ [])) }
+    ensures memory { OnErr result (T.heard listener.new ≡ T.heard listener.old) }
 {
     let status = trouble.status();
     listener.hear(alloc, trouble)?;

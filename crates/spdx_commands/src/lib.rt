@@ -20,6 +20,7 @@ mod mended_paths;
 mod mending;
 mod nodes;
 mod replacing;
+mod said;
 mod simplification;
 
 pub use crate::comparison::compare;
@@ -28,4 +29,5 @@ pub use crate::listener::Listener;
 pub use crate::lists::{diff, make, show};
 pub use crate::mending::fix;
 pub use crate::replacing::{Loss, Obstacle, Replacing};
+pub use crate::said::{Said, say};
 pub use crate::simplification::simplify;

@@ -1,6 +1,6 @@
 // Who is told of troubles.
 
-ghost use Rattle.std.specs.Prelude.{◌∷◌, [], OnOk};
+ghost use Rattle.std.specs.Prelude.{◌≡◌, ◌∷◌, [], OnErr, OnOk};
 ghost use Rattle.check_files.specs.Told.{Account, Hears};
 ghost use Rattle.spdx_troubles.specs.declared.trouble.Trouble as the_trouble;
 
@@ -16,7 +16,20 @@ pub trait Listener {
     ///
     /// # Errors
     ///
-    /// Memory was refused.
+    /// Memory was refused, and it is told nothing.
     fn hear(&mut self, alloc: Global, trouble: Trouble) -> Result<(), AllocError>
-        ensures { OnOk result (Hears (heard self.old) (heard self.new) (trouble ∷ [])) };
+        ensures told { OnOk result (Hears (heard self.old) (heard self.new) (trouble ∷ [])) }
+        ensures memory { OnErr result (heard self.new ≡ heard self.old) };
+}
+
+// A list takes them at its end.
+impl Listener for Vec<Trouble> {
+    ghost use Rattle.check_files.specs.Told.{each};
+
+    ghost heard = { λ troubles. each troubles.items };
+
+    fn hear(&mut self, _alloc: Global, trouble: Trouble) -> Result<(), AllocError> {
+        self.push(trouble)?;
+        Ok(())
+    }
 }

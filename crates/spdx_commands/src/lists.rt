@@ -2,17 +2,18 @@
 
 ghost use Rattle.std.specs.Prelude.{◌≡◌, IfErr, IfOk, OnOk, map};
 ghost use Rattle.std.specs.Option.{option_copied};
-ghost use Rattle.check_files.specs.Told.{Does, Hears, Writes};
+ghost use Rattle.check_files.specs.Told.{Does, Hears, Writes, unkept};
 ghost use Rattle.list_program.specs.Named.{inside_of};
 ghost use Rattle.list_program.specs.Written.{IsMadeText, IsNoText, made_of};
 ghost use Rattle.list_told.specs.Diffs.{IsDiff, IsNoDiff};
 ghost use Rattle.list_told.specs.Shown.{IsNotShown};
 ghost use Rattle.spdx_commands.specs.Lists as spec;
-ghost use Rattle.spdx_commands.specs.Lists.{IsShow, SaysListed, unlisted_trouble};
+ghost use Rattle.spdx_commands.specs.Lists.{IsShow, SaysDiffer, SaysListed, SaysShown, unlisted_trouble};
 ghost use Rattle.spdx_commands.specs.Stops.{IsStopped};
 ghost use Rattle.spdx_troubles.specs.Causes.{list_trouble};
 
 use crate::listener::Listener;
+use crate::said::{Said, say};
 use line_engine::device::Sink;
 use line_engine::lines::write_all;
 use list_program::{Inside, MadeOf, put_made_list};
@@ -26,7 +27,8 @@ use std::alloc::{AllocError, Global};
 ///
 /// # Errors
 ///
-/// The list or the heirs aren't had: nothing is written. Or the output fails; or memory was refused.
+/// The list or the heirs aren't had: nothing is written. Or the output fails, or memory was refused: what was written and told
+/// is a beginning.
 pub fn show<S: Shelf, O: Sink, T: Listener>(
     alloc: Global,
     shelf: &S,
@@ -42,17 +44,31 @@ pub fn show<S: Shelf, O: Sink, T: Listener>(
         status)) }
     ensures err { IfErr result (IsStopped list_trouble (IsNotShown (S.told shelf.now)
         (inside_of inside.entry.list.now inside.entry.extras.now) heirs.now asked.entry)
-        (O.told output.old) (O.told output.new)
-        (T.heard listener.new ≡ T.heard listener.old)) }
+        (SaysShown (S.told shelf.now) (inside_of inside.entry.list.now inside.entry.extras.now)
+        heirs.now asked.entry) (O.told output.old) (O.told output.new) (T.heard listener.old)
+        (T.heard listener.new)) }
     ensures listed { IfOk result (SaysListed (S.told shelf.now)
         (inside_of inside.entry.list.now inside.entry.extras.now) asked.entry) }
 {
     let shown = list_told::show(alloc, shelf, inside, heirs, asked)?;
     let status = shown.status();
-    let Shown { text, unlisted } = shown;
-    write_all(output, &text)?;
-    tell_unlisted(alloc, unlisted, listener)?;
+    let said = shown_said(alloc, shown)?;
+    say(alloc, said, output, listener)?;
     Ok(status)
+}
+
+// What the list says of the names, and behind that the names that it hasn't.
+fn shown_said(alloc: Global, shown: Shown) -> Result<Said, AllocError>
+    ensures { IfOk result (spec.IsShownSaid shown) }
+{
+    let Shown { text, unlisted } = shown;
+    let mut after = Vec::new(alloc);
+    tell_unlisted(alloc, unlisted, &mut after)?;
+    Ok(Said {
+        before: Vec::new(alloc),
+        text,
+        after,
+    })
 }
 
 #[tactic(auto, using(crate::proofs::Hearing::none_heard, crate::proofs::Hearing::one_more_heard))]
@@ -75,7 +91,8 @@ fn tell_unlisted<T: Listener>(
 ///
 /// # Errors
 ///
-/// A list or the heirs aren't had: nothing is written. Or the output fails; or memory was refused.
+/// A list or the heirs aren't had: nothing is written. Or the output fails, and what was written is a beginning; or memory was
+/// refused.
 pub fn diff<S: Shelf, O: Sink>(
     alloc: Global,
     shelf: &S,
@@ -89,7 +106,8 @@ pub fn diff<S: Shelf, O: Sink>(
         heirs.now lists.entry)) }
     ensures err { IfErr result (IsStopped list_trouble (IsNoDiff (S.told shelf.now)
         (inside_of inside.entry.list.now inside.entry.extras.now) heirs.now lists.entry)
-        (O.told output.old) (O.told output.new) (Unit {0})) }
+        (SaysDiffer (S.told shelf.now) (inside_of inside.entry.list.now inside.entry.extras.now)
+        heirs.now lists.entry) (O.told output.old) (O.told output.new) unkept unkept) }
 {
     let text = list_told::diff(alloc, shelf, inside, heirs, lists)?;
     write_all(output, &text)?;

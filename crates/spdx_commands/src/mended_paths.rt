@@ -2,15 +2,19 @@
 
 ghost use Rattle.std.specs.Prelude.{◌≡◌, ◌++◌, [], IfErr, IfOk, OnOk, flat_map, max};
 ghost use Rattle.spdx_commands.specs.Mend.{
+  AreEndsBegun,
   AreEndsDone,
+  ArePathsBegun,
   ArePathsDone,
   Did,
+  DidBefore,
   IsBrokenOff,
+  IsPathBegun,
   IsPathDone,
   left_behind,
   stand,
 };
-ghost use Rattle.spdx_commands.specs.Steps.{Comes, ComesOfPath, IsWorst};
+ghost use Rattle.spdx_commands.specs.Steps.{Began, BeganPath, Comes, ComesOfPath, IsWorst};
 
 use crate::beside::tell_left;
 use crate::deeds::{SoFar, do_end};
@@ -44,6 +48,10 @@ pub(crate) fn do_paths<S: Shelf, R: Replacing, O: Sink, T: Listener>(
         (IsWorst status (ArePathsDone (S.told shelf.now) catalogue.now paths.items))) }
     ensures err { IfErr result (IsBrokenOff (O.told output.new) (R.tried replacer.old)
         (R.tried replacer.new)) }
+    ensures begun { IfErr result (λ _. DidBefore
+        (stand (O.told output.old) (T.heard listener.old) (R.tried replacer.old))
+        (stand (O.told output.new) (T.heard listener.new) (R.tried replacer.new))
+        (ArePathsBegun (S.told shelf.now) catalogue.now paths.items)) }
 {
     let mut so_far = SoFar::new(alloc);
     let mut worst = 0;
@@ -82,6 +90,11 @@ fn do_path<S: Shelf, R: Replacing, O: Sink, T: Listener>(
     ensures left { OnOk result (so_far.new.left.items ≡ []) }
     ensures err { IfErr result (IsBrokenOff (O.told output.new) (R.tried replacer.old)
         (R.tried replacer.new)) }
+    ensures begun { IfErr result (λ _. DidBefore
+        (stand (O.told output.old) (T.heard listener.old) (R.tried replacer.old))
+        (stand (O.told output.new) (T.heard listener.new) (R.tried replacer.new))
+        (BeganPath so_far.old (λ before.
+        IsPathBegun (S.told shelf.now) catalogue.now before path))) }
 {
     let PathEnd { ends } = path;
     let status = do_ends(
@@ -112,6 +125,11 @@ fn do_ends<S: Shelf, R: Replacing, O: Sink, T: Listener>(
         ≡ so_far.old.left.items ++ flat_map left_behind ends.items) }
     ensures err { IfErr result (IsBrokenOff (O.told output.new) (R.tried replacer.old)
         (R.tried replacer.new)) }
+    ensures begun { IfErr result (λ _. DidBefore
+        (stand (O.told output.old) (T.heard listener.old) (R.tried replacer.old))
+        (stand (O.told output.new) (T.heard listener.new) (R.tried replacer.new))
+        (Began so_far.old.replaced (λ before.
+        AreEndsBegun (S.told shelf.now) catalogue.now before ends.items))) }
 {
     let mut worst = 0;
     for end in ends {

@@ -17,9 +17,9 @@ ghost use Rattle.spdx_commands.specs.Mend.{
 
 use crate::beside::tell_left_beside;
 use crate::follower::Follower;
-use crate::listener::Listener;
 use crate::mended_paths::{do_paths, greater};
 use crate::replacing::Replacing;
+use crate::said::tell_each;
 use fix_program::{Request, Run};
 use line_engine::device::Sink;
 use list_program::Inside;
@@ -69,24 +69,25 @@ pub fn fix<S: Shelf, R: Replacing, O: Sink, T: Follower>(
     let planned = run.status();
     let Run { catalogue, paths } = run;
     let told = do_paths(alloc, shelf, &catalogue, paths, replacer, output, listener)?;
-    tell_beside(alloc, shelf, request, listener)?;
+    let beside = beside(alloc, shelf, request)?;
+    tell_each(alloc, beside, listener)?;
     Ok(greater(planned, told))
 }
 
-// Where files are written, tells what stands beside them that was left behind.
-#[tactic(auto, using(crate::proofs::Hearing::none_told))]
-fn tell_beside<S: Shelf, T: Listener>(
+// Where files are written, what stands beside them that was left behind.
+#[tactic(auto, using(crate::proofs::Besides::none_beside, crate::proofs::Besides::all_beside))]
+fn beside<S: Shelf>(
     alloc: Global,
     shelf: &S,
     request: Request<'_>,
-    listener: &mut T,
-) -> Result<(), AllocError>
-    ensures { OnOk result (Tells (T.heard listener.old) (T.heard listener.new)
-        (IsBesideTold request.entry.is_written (S.told shelf.now)
-        (map path_in request.entry.paths.now))) }
+) -> Result<Vec<Trouble>, AllocError>
+    ensures { IfOk result (λ beside. IsBesideTold request.entry.is_written (S.told shelf.now)
+        (map path_in request.entry.paths.now) beside.items) }
 {
-    if request.is_written {
-        tell_left_beside(alloc, shelf, request.paths, listener)?;
+    if !request.is_written {
+        return Ok(Vec::new(alloc));
     }
-    Ok(())
+    let mut beside = Vec::new(alloc);
+    tell_left_beside(alloc, shelf, request.paths, &mut beside)?;
+    Ok(beside)
 }

@@ -1,22 +1,23 @@
 // The command `simplify`.
 
-ghost use Rattle.std.specs.Prelude.{◌≡◌, ◌<◌, IfErr, IfOk, OnOk, string_bytes};
+ghost use Rattle.std.specs.Prelude.{◌<◌, IfErr, IfOk, OnOk};
 ghost use Rattle.check_files.specs.Told.{Does, Tells};
 ghost use Rattle.list_program.specs.Named.{inside_of};
 ghost use Rattle.meaning_program.specs.Files.{IsAllMeant, IsNoRun};
+ghost use Rattle.spdx_commands.specs.Said.{text_of, told_of};
 ghost use Rattle.spdx_commands.specs.Simplify.{
-  AreToldOf,
+  AreSaidOf,
   AreUnmeant,
-  IsReadTold,
   IsSimplify,
   IsToldOf,
+  SaysMeant,
 };
-ghost use Rattle.spdx_commands.specs.Stops.{IsBroken, IsStopped};
+ghost use Rattle.spdx_commands.specs.Stops.{IsStopped};
 ghost use Rattle.spdx_troubles.specs.Causes.{meaning_trouble};
 
 use crate::listener::Listener;
+use crate::said::{Said, say_each};
 use line_engine::device::Sink;
-use line_engine::lines::write_all;
 use list_program::Inside;
 use meaning_program::{FileEnd, Request, Run, Simplified, UnmeantLine};
 use shelves::Shelf;
@@ -29,7 +30,7 @@ use std::alloc::{AllocError, Global};
 ///
 /// # Errors
 ///
-/// The list isn't had: nothing is written. Or the output fails; or memory was refused.
+/// The list isn't had: nothing is written. Or the output fails, or memory was refused: what was written and told is a beginning.
 pub fn simplify<S: Shelf, O: Sink, T: Listener>(
     alloc: Global,
     shelf: &S,
@@ -44,72 +45,57 @@ pub fn simplify<S: Shelf, O: Sink, T: Listener>(
         status)) }
     ensures err { IfErr result (IsStopped meaning_trouble (IsNoRun (S.told shelf.now)
         (inside_of inside.entry.list.now inside.entry.extras.now) request.entry)
-        (O.told output.old) (O.told output.new)
-        (T.heard listener.new ≡ T.heard listener.old)) }
+        (SaysMeant (S.told shelf.now) (inside_of inside.entry.list.now inside.entry.extras.now)
+        request.entry) (O.told output.old) (O.told output.new) (T.heard listener.old)
+        (T.heard listener.new)) }
     ensures passes { IfOk result (λ status. status < 1 → IsAllMeant (S.told shelf.now)
         (inside_of inside.entry.list.now inside.entry.extras.now) request.entry) }
 {
     let run = meaning_program::simplify(alloc, shelf, inside, request)?;
     let status = run.status();
     let Run { files } = run;
-    put_files(alloc, files, output, listener)?;
+    let all = all_said(alloc, files)?;
+    say_each(alloc, all, output, listener)?;
     Ok(status)
 }
 
-#[tactic(auto, using(crate::proofs::Steps::no_file, crate::proofs::Steps::file_told))]
-fn put_files<O: Sink, T: Listener>(
-    alloc: Global,
-    files: Vec<FileEnd>,
-    output: &mut O,
-    listener: &mut T,
-) -> Result<(), Trouble>
-    ensures ok { OnOk result (Does (O.told output.old) (O.told output.new)
-        (T.heard listener.old) (T.heard listener.new) (AreToldOf files.items)) }
-    ensures err { IfErr result (IsBroken (O.told output.new)) }
+// What is said of each file.
+#[tactic(auto, using(crate::proofs::Steps::no_file, crate::proofs::Steps::file_said))]
+fn all_said(alloc: Global, files: Vec<FileEnd>) -> Result<Vec<Said>, AllocError>
+    ensures { IfOk result (λ all. AreSaidOf files.items all.items) }
 {
+    let mut all = Vec::new(alloc);
     for file in files {
-        put_file(alloc, file, output, listener)?;
+        let said = file_said(alloc, file)?;
+        all.push(said)?;
     }
-    Ok(())
+    Ok(all)
 }
 
-// Writes the lines of a file, behind what is told of it.
-fn put_file<O: Sink, T: Listener>(
-    alloc: Global,
-    file: FileEnd,
-    output: &mut O,
-    listener: &mut T,
-) -> Result<(), Trouble>
-    ensures ok { OnOk result (Does (O.told output.old) (O.told output.new)
-        (T.heard listener.old) (T.heard listener.new) (IsToldOf file)) }
-    ensures err { IfErr result (IsBroken (O.told output.new)) }
+// The lines of a file, behind what is told of it.
+fn file_said(alloc: Global, file: FileEnd) -> Result<Said, AllocError>
+    ensures { IfOk result (λ said. IsToldOf file (text_of said) (told_of said)) }
 {
+    let mut before = Vec::new(alloc);
     match file {
-        FileEnd::Read(path, simplified) => put_read(alloc, path, simplified, output, listener),
+        FileEnd::Read(path, simplified) => {
+            let Simplified { text, unmeant } = simplified;
+            tell_unmeant(alloc, path.as_str(), unmeant, &mut before)?;
+            Ok(Said {
+                before,
+                text,
+                after: Vec::new(alloc),
+            })
+        }
         FileEnd::Unread(path, error) => {
-            listener.hear(alloc, Trouble::of_path(path, error))?;
-            Ok(())
+            before.push(Trouble::of_path(path, error))?;
+            Ok(Said {
+                before,
+                text: Vec::new(alloc),
+                after: Vec::new(alloc),
+            })
         }
     }
-}
-
-#[tactic(auto, using(crate::proofs::Steps::read_told))]
-fn put_read<O: Sink, T: Listener>(
-    alloc: Global,
-    path: String,
-    simplified: Simplified,
-    output: &mut O,
-    listener: &mut T,
-) -> Result<(), Trouble>
-    ensures ok { OnOk result (Does (O.told output.old) (O.told output.new)
-        (T.heard listener.old) (T.heard listener.new)
-        (IsReadTold (string_bytes path) simplified)) }
-    ensures err { IfErr result (IsBroken (O.told output.new)) }
-{
-    let Simplified { text, unmeant } = simplified;
-    tell_unmeant(alloc, path.as_str(), unmeant, listener)?;
-    write_all(output, &text)?;
-    Ok(())
 }
 
 // Tells which lines have no meaning text, and why.

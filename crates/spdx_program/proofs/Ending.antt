@@ -1,22 +1,16 @@
 -- Each command's end is that of the call that it makes.
 use Rattle.std.proofs.Common.{◌≡◌, refl, sym, subst, ℕ, Bool, true, false, Result, Ok, Err}
 use Rattle.std.specs.Prelude.{IfErr, IfOk}
-use Rattle.changes_program.specs.Run as changes
 use Rattle.check_files.specs.Told.{Account, Does, Writes}
 use Rattle.check_files.specs.declared.trouble.CheckTrouble.{CheckTrouble}
 use Rattle.check_program.specs.Runs as check
 use Rattle.check_program.specs.declared.run.CheckEnd.{CheckEnd}
 use Rattle.check_program.specs.declared.run.Request as check_asked
 use Rattle.fix_program.specs.declared.run.Request as fix_asked
-use Rattle.gate_program.specs.Run as gate
 use Rattle.line_engine.specs.Device.{Told}
 use Rattle.list_told.specs.Diffs as lists
-use Rattle.list_told.specs.Shown as show
 use Rattle.list_told.specs.declared.shown.Asked as show_asked
-use Rattle.meaning_program.specs.Compared as compare
-use Rattle.meaning_program.specs.Files as simplify
 use Rattle.meaning_program.specs.declared.files.Request as simplify_asked
-use Rattle.notice_program.specs.Run as notice
 use Rattle.notice_program.specs.declared.end.Request as notice_asked
 use Rattle.package_commands.specs.Changes.{IsDiff}
 use Rattle.package_commands.specs.Gate.{IsGate}
@@ -30,8 +24,6 @@ use Rattle.spdx_commands.specs.Compare.{IsCompare}
 use Rattle.spdx_commands.specs.Lists.{IsShow, IsUnmade, WritesMade}
 use Rattle.spdx_commands.specs.Mend.{Did, IsFix, IsFixStopped, Stand}
 use Rattle.spdx_commands.specs.Simplify.{IsSimplify}
-use Rattle.spdx_commands.specs.Stops.{IsStopped}
-use Rattle.spdx_troubles.specs.Causes.{gate_trouble, list_trouble, meaning_trouble, notice_trouble}
 use Rattle.spdx_troubles.specs.declared.trouble.Trouble.{Trouble}
 use Rattle.spdx_words.specs.declared.packages_request.ChangesRequest.{ChangesRequest}
 use Rattle.spdx_words.specs.declared.packages_request.GateRequest.{GateRequest}
@@ -44,7 +36,7 @@ use Rattle.spdx_words.specs.declared.request.MakeRequest.{MakeRequest}
 use Rattle.spdx_words.specs.declared.request.ShowRequest.{ShowRequest}
 use Rattle.spdx_words.specs.declared.request.SimplifyRequest.{SimplifyRequest}
 use Rattle.spdx_program.specs.Asked.{IsAskedOf, IsShowAsked, changes_of, check_of, compare_of, fix_of, gate_of, lists_of, make_of, notice_of, simplify_of}
-use Rattle.spdx_program.specs.Ends.{Ends, IsChangesEnd, IsCheckEnd, IsCheckStopped, IsEnd, IsGateEnd, IsNoticeEnd, World, alone, caused, changed_end, heirs_in, list_in, noticed_end, passed, paths_in, stopped}
+use Rattle.spdx_program.specs.Ends.{Ends, IsChangesEnd, IsChangesStopped, IsCheckEnd, IsCheckStopped, IsCompareStopped, IsEnd, IsGateEnd, IsGateStopped, IsListsStopped, IsNoticeEnd, IsNoticeStopped, IsShowStopped, IsSimplifyStopped, World, alone, caused, changed_end, heirs_in, list_in, noticed_end, passed, paths_in, stopped}
 use Rattle.spdx_program.specs.Requests.{DoesChanges, DoesCheck, DoesCompare, DoesFix, DoesGate, DoesLists, DoesMake, DoesNotice, DoesShow, DoesSimplify, IfWritten, IsFixed, Quietly, idle, nowhere}
 use Rattle.spdx_program.specs.declared.ended.Ended.{Ended}
 
@@ -104,31 +96,31 @@ fix_idle w r x y answer off kept is = subst (λ write. IfWritten write x y (λ x
 
 pub compare_done : (w : World) (r : CompareRequest) (out out' : Told) (got : Result ℕ Trouble) (answer : Result Ended Trouble) → answer ≡ alone got
     → IfOk got (λ status. Writes out out' (λ text. IsCompare w.shelf (list_in w) (compare_of r) text status))
-    → IfErr got (IsStopped meaning_trouble (compare.IsNotCompared w.shelf (list_in w) (compare_of r)) out out' (Unit {0})) → DoesCompare w r out out' answer
+    → IfErr got (IsCompareStopped w (compare_of r) out out') → DoesCompare w r out out' answer
 compare_done w r out out' got answer is ok err =
     alone_end (λ status. Writes out out' (λ text. IsCompare w.shelf (list_in w) (compare_of r) text status))
-    (IsStopped meaning_trouble (compare.IsNotCompared w.shelf (list_in w) (compare_of r)) out out' (Unit {0})) got answer is ok err
+    (IsCompareStopped w (compare_of r) out out') got answer is ok err
 
 pub simplify_done : (w : World) (r : SimplifyRequest) (a : simplify_asked.Request) (out out' : Told) (h h' : Account Trouble) (got : Result ℕ Trouble) (answer : Result Ended Trouble)
     → IsAskedOf r.paths.items (simplify_of r) a → answer ≡ alone got
     → IfOk got (λ status. Does out out' h h' (λ text told. IsSimplify w.shelf (list_in w) a text told status))
-    → IfErr got (IsStopped meaning_trouble (simplify.IsNoRun w.shelf (list_in w) a) out out' (h' ≡ h)) → DoesSimplify w r out out' h h' answer
+    → IfErr got (IsSimplifyStopped w a out out' h h') → DoesSimplify w r out out' h h' answer
 simplify_done w r a out out' h h' got answer asked is ok err = (
   a,
   asked,
   alone_end (λ status. Does out out' h h' (λ text told. IsSimplify w.shelf (list_in w) a text told status))
-      (IsStopped meaning_trouble (simplify.IsNoRun w.shelf (list_in w) a) out out' (h' ≡ h)) got answer is ok err,
+      (IsSimplifyStopped w a out out' h h') got answer is ok err,
 )
 
 pub show_done : (w : World) (r : ShowRequest) (a : show_asked.Asked) (out out' : Told) (h h' : Account Trouble) (got : Result ℕ Trouble) (answer : Result Ended Trouble)
     → IsShowAsked r a → answer ≡ alone got
     → IfOk got (λ status. Does out out' h h' (λ text told. IsShow w.shelf (list_in w) (heirs_in w) a text told status))
-    → IfErr got (IsStopped list_trouble (show.IsNotShown w.shelf (list_in w) (heirs_in w) a) out out' (h' ≡ h)) → DoesShow w r out out' h h' answer
+    → IfErr got (IsShowStopped w a out out' h h') → DoesShow w r out out' h h' answer
 show_done w r a out out' h h' got answer asked is ok err = (
   a,
   asked,
   alone_end (λ status. Does out out' h h' (λ text told. IsShow w.shelf (list_in w) (heirs_in w) a text told status))
-      (IsStopped list_trouble (show.IsNotShown w.shelf (list_in w) (heirs_in w) a) out out' (h' ≡ h)) got answer is ok err,
+      (IsShowStopped w a out out' h h') got answer is ok err,
 )
 
 pub make_done : (s : Shelved) (r : MakeRequest) (out out' : Told) (got : Result (Unit {0}) Trouble) (status : Result ℕ Trouble) (answer : Result Ended Trouble)
@@ -140,17 +132,17 @@ make_done s r out out' got status answer was is ok err =
 pub lists_done : (w : World) (r : DiffRequest) (out out' : Told) (got : Result (Unit {0}) Trouble) (status : Result ℕ Trouble) (answer : Result Ended Trouble)
     → status ≡ passed got → answer ≡ alone status
     → IfOk got (λ _. Writes out out' (lists.IsDiff w.shelf (list_in w) (heirs_in w) (lists_of r)))
-    → IfErr got (IsStopped list_trouble (lists.IsNoDiff w.shelf (list_in w) (heirs_in w) (lists_of r)) out out' (Unit {0})) → DoesLists w r out out' answer
+    → IfErr got (IsListsStopped w (lists_of r) out out') → DoesLists w r out out' answer
 lists_done w r out out' got status answer was is ok err =
     passed_end (Writes out out' (lists.IsDiff w.shelf (list_in w) (heirs_in w) (lists_of r)))
-    (IsStopped list_trouble (lists.IsNoDiff w.shelf (list_in w) (heirs_in w) (lists_of r)) out out' (Unit {0})) got status answer was is ok err
+    (IsListsStopped w (lists_of r) out out') got status answer was is ok err
 
 pub gate_done : (w : World) (a : gate_asked.Asked) (out out' : Told) (h h' : Account Trouble) (got : Result ℕ Trouble) (answer : Result Ended Trouble) → answer ≡ alone got
     → IfOk got (λ status. Does out out' h h' (λ text told. IsGate w.shelf (list_in w) (heirs_in w) a text told status))
-    → IfErr got (IsStopped gate_trouble (gate.IsNoRun w.shelf (list_in w) (heirs_in w) a.run) out out' (h' ≡ h)) → IsGateEnd w a out out' h h' answer
+    → IfErr got (IsGateStopped w a out out' h h') → IsGateEnd w a out out' h h' answer
 gate_done w a out out' h h' got answer is ok err =
     alone_end (λ status. Does out out' h h' (λ text told. IsGate w.shelf (list_in w) (heirs_in w) a text told status))
-    (IsStopped gate_trouble (gate.IsNoRun w.shelf (list_in w) (heirs_in w) a.run) out out' (h' ≡ h)) got answer is ok err
+    (IsGateStopped w a out out' h h') got answer is ok err
 
 pub gate_quiet : (w : World) (colours : Bool) (r : GateRequest) (a : gate_asked.Asked) (out : Told) (h h' : Account Trouble) (answer : Result Ended Trouble)
     → IsAskedOf r.paths.items (gate_of r colours w.inside.version) a → r.quiet ≡ true → IsGateEnd w a nowhere nowhere h h' answer → DoesGate w colours r out out h h' answer
@@ -165,7 +157,7 @@ gate_told w colours r a out out' h h' answer asked is end =
 pub changes_done : (w : World) (r : ChangesRequest) (a : AskedDiff) (out out' : Told) (h h' : Account Trouble) (got : Result Changed Trouble) (answer : Result Ended Trouble)
     → a ≡ changes_of r → answer ≡ changed_end got
     → IfOk got (λ c. Does out out' h h' (λ text told. IsDiff w.shelf (list_in w) (heirs_in w) a text told c))
-    → IfErr got (IsStopped gate_trouble (changes.IsNoRun w.shelf (list_in w) (heirs_in w) a.run) out out' (h' ≡ h)) → DoesChanges w r out out' h h' answer
+    → IfErr got (IsChangesStopped w a out out' h h') → DoesChanges w r out out' h h' answer
 changes_done w r a out out' h h' (Ok c) answer asked is ok err =
     subst (λ (b : AskedDiff). IsChangesEnd w b out out' h h' answer) asked (subst (IsChangesEnd w a out out' h h') (sym is) ok)
 changes_done w r a out out' h h' (Err t) answer asked is ok err =
@@ -174,6 +166,6 @@ changes_done w r a out out' h h' (Err t) answer asked is ok err =
 pub notice_done : (w : World) (r : NoticeRequest) (a : notice_asked.Request) (out out' : Told) (h h' : Account Trouble) (got : Result Noticed Trouble) (answer : Result Ended Trouble)
     → IsAskedOf r.paths.items (notice_of r) a → answer ≡ noticed_end got
     → IfOk got (λ n. Does out out' h h' (λ text told. IsNotice w.shelf (list_in w) (heirs_in w) a text told n))
-    → IfErr got (IsStopped notice_trouble (notice.IsNoRun w.shelf (list_in w) a) out out' (h' ≡ h)) → DoesNotice w r out out' h h' answer
+    → IfErr got (IsNoticeStopped w a out out' h h') → DoesNotice w r out out' h h' answer
 notice_done w r a out out' h h' (Ok n) answer asked is ok err = (a, asked, subst (IsNoticeEnd w a out out' h h') (sym is) ok)
 notice_done w r a out out' h h' (Err t) answer asked is ok err = (a, asked, subst (IsNoticeEnd w a out out' h h') (sym is) err)

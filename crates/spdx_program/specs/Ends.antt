@@ -3,7 +3,7 @@
 use Rattle.std.specs.Prelude.{◌≡◌, ℕ, List, None, Result, Ok, Err}
 use Rattle.std.specs.Option.{option_copied}
 use Rattle.changes_program.specs.Run as changes
-use Rattle.check_files.specs.Told.{Account, Does, Writes}
+use Rattle.check_files.specs.Told.{Account, Does, Writes, unkept}
 use Rattle.check_files.specs.declared.trouble.CheckTrouble.{CheckTrouble}
 use Rattle.check_program.specs.Runs as check
 use Rattle.check_program.specs.declared.run.CheckEnd.{CheckEnd}
@@ -25,18 +25,18 @@ use Rattle.meaning_program.specs.declared.compared.Asked as compare_asked
 use Rattle.meaning_program.specs.declared.files.Request as simplify_asked
 use Rattle.notice_program.specs.Run as notice
 use Rattle.notice_program.specs.declared.end.Request as notice_asked
-use Rattle.package_commands.specs.Changes.{IsDiff}
-use Rattle.package_commands.specs.Gate.{IsGate}
-use Rattle.package_commands.specs.Notice.{IsNotice}
+use Rattle.package_commands.specs.Changes.{IsDiff, SaysDiff}
+use Rattle.package_commands.specs.Gate.{IsGate, SaysGate}
+use Rattle.package_commands.specs.Notice.{IsNotice, SaysNotice}
 use Rattle.package_commands.specs.declared.differences.AskedDiff.{AskedDiff}
 use Rattle.package_commands.specs.declared.differences.Changed.{Changed}
 use Rattle.package_commands.specs.declared.gated.Asked as gate_asked
 use Rattle.package_commands.specs.declared.pages.Noticed.{Noticed}
 use Rattle.shelves.specs.Shelf.{Shelved}
-use Rattle.spdx_commands.specs.Compare.{IsCompare}
-use Rattle.spdx_commands.specs.Lists.{IsShow, IsUnmade, WritesMade}
+use Rattle.spdx_commands.specs.Compare.{IsCompare, SaysCompared}
+use Rattle.spdx_commands.specs.Lists.{IsShow, IsUnmade, SaysDiffer, SaysShown, WritesMade}
 use Rattle.spdx_commands.specs.Mend.{Did, IsFix, IsFixStopped, Stand}
-use Rattle.spdx_commands.specs.Simplify.{IsSimplify}
+use Rattle.spdx_commands.specs.Simplify.{IsSimplify, SaysMeant}
 use Rattle.spdx_commands.specs.Stops.{IsStopped}
 use Rattle.spdx_program.specs.declared.ended.Ended.{Ended}
 use Rattle.spdx_troubles.specs.Causes.{check_end_trouble, gate_trouble, list_trouble, meaning_trouble, notice_trouble}
@@ -119,28 +119,42 @@ IsFixEnd w a x y answer =
     Ends (IsEnd (λ status. Did x y (IsFix w.shelf (list_in w) a status)))
     (IsFixStopped w.shelf (list_in w) a x y) answer
 
+abbrev pub IsCompareStopped : World → compare_asked.Asked → Told → Told → Trouble → Type 0
+IsCompareStopped w a out out' t =
+    IsStopped meaning_trouble (compare.IsNotCompared w.shelf (list_in w) a)
+    (SaysCompared w.shelf (list_in w) a) out out' unkept unkept t
+
 abbrev pub IsCompareEnd : World → compare_asked.Asked → Told → Told → Result Ended Trouble → Type 0
 IsCompareEnd w a out out' answer =
     Ends (IsEnd (λ status. Writes out out' (λ text.
     IsCompare w.shelf (list_in w) a text status)))
-    (IsStopped meaning_trouble (compare.IsNotCompared w.shelf (list_in w) a) out out' (Unit {0}))
-    answer
+    (IsCompareStopped w a out out') answer
+
+abbrev pub IsSimplifyStopped : World → simplify_asked.Request → Told → Told → Account Trouble →
+    Account Trouble → Trouble → Type 0
+IsSimplifyStopped w a out out' heard heard' t =
+    IsStopped meaning_trouble (simplify.IsNoRun w.shelf (list_in w) a)
+    (SaysMeant w.shelf (list_in w) a) out out' heard heard' t
 
 abbrev pub IsSimplifyEnd : World → simplify_asked.Request → Told → Told → Account Trouble →
     Account Trouble → Result Ended Trouble → Type 0
 IsSimplifyEnd w a out out' heard heard' answer =
     Ends (IsEnd (λ status. Does out out' heard heard' (λ text told.
     IsSimplify w.shelf (list_in w) a text told status)))
-    (IsStopped meaning_trouble (simplify.IsNoRun w.shelf (list_in w) a) out out'
-    (heard' ≡ heard)) answer
+    (IsSimplifyStopped w a out out' heard heard') answer
+
+abbrev pub IsShowStopped : World → show_asked.Asked → Told → Told → Account Trouble →
+    Account Trouble → Trouble → Type 0
+IsShowStopped w a out out' heard heard' t =
+    IsStopped list_trouble (show.IsNotShown w.shelf (list_in w) (heirs_in w) a)
+    (SaysShown w.shelf (list_in w) (heirs_in w) a) out out' heard heard' t
 
 abbrev pub IsShowEnd : World → show_asked.Asked → Told → Told → Account Trouble →
     Account Trouble → Result Ended Trouble → Type 0
 IsShowEnd w a out out' heard heard' answer =
     Ends (IsEnd (λ status. Does out out' heard heard' (λ text told.
     IsShow w.shelf (list_in w) (heirs_in w) a text told status)))
-    (IsStopped list_trouble (show.IsNotShown w.shelf (list_in w) (heirs_in w) a) out out'
-    (heard' ≡ heard)) answer
+    (IsShowStopped w a out out' heard heard') answer
 
 abbrev pub paths_in : MadeOf → MadePaths
 paths_in a = made_of a.licenses.now a.exceptions.now (option_copied a.extras)
@@ -150,33 +164,52 @@ IsMakeEnd s a out out' answer =
     Ends (IsEnd (λ status. (status ≡ 0) × WritesMade s (paths_in a) out out'))
     (IsUnmade s (paths_in a) out out') answer
 
+abbrev pub IsListsStopped : World → Lists → Told → Told → Trouble → Type 0
+IsListsStopped w a out out' t =
+    IsStopped list_trouble (lists.IsNoDiff w.shelf (list_in w) (heirs_in w) a)
+    (SaysDiffer w.shelf (list_in w) (heirs_in w) a) out out' unkept unkept t
+
 abbrev pub IsListsEnd : World → Lists → Told → Told → Result Ended Trouble → Type 0
 IsListsEnd w a out out' answer =
     Ends (IsEnd (λ status. (status ≡ 0) × Writes out out'
     (lists.IsDiff w.shelf (list_in w) (heirs_in w) a)))
-    (IsStopped list_trouble (lists.IsNoDiff w.shelf (list_in w) (heirs_in w) a) out out'
-    (Unit {0})) answer
+    (IsListsStopped w a out out') answer
+
+abbrev pub IsGateStopped : World → gate_asked.Asked → Told → Told → Account Trouble →
+    Account Trouble → Trouble → Type 0
+IsGateStopped w a out out' heard heard' t =
+    IsStopped gate_trouble (gate.IsNoRun w.shelf (list_in w) (heirs_in w) a.run)
+    (SaysGate w.shelf (list_in w) (heirs_in w) a) out out' heard heard' t
 
 abbrev pub IsGateEnd : World → gate_asked.Asked → Told → Told → Account Trouble →
     Account Trouble → Result Ended Trouble → Type 0
 IsGateEnd w a out out' heard heard' answer =
     Ends (IsEnd (λ status. Does out out' heard heard' (λ text told.
     IsGate w.shelf (list_in w) (heirs_in w) a text told status)))
-    (IsStopped gate_trouble (gate.IsNoRun w.shelf (list_in w) (heirs_in w) a.run) out out'
-    (heard' ≡ heard)) answer
+    (IsGateStopped w a out out' heard heard') answer
+
+abbrev pub IsChangesStopped : World → AskedDiff → Told → Told → Account Trouble →
+    Account Trouble → Trouble → Type 0
+IsChangesStopped w a out out' heard heard' t =
+    IsStopped gate_trouble (changes.IsNoRun w.shelf (list_in w) (heirs_in w) a.run)
+    (SaysDiff w.shelf (list_in w) (heirs_in w) a) out out' heard heard' t
 
 abbrev pub IsChangesEnd : World → AskedDiff → Told → Told → Account Trouble →
     Account Trouble → Result Ended Trouble → Type 0
 IsChangesEnd w a out out' heard heard' answer =
     Ends (λ e. Does out out' heard heard' (λ text told.
     IsDiff w.shelf (list_in w) (heirs_in w) a text told (changed e)))
-    (IsStopped gate_trouble (changes.IsNoRun w.shelf (list_in w) (heirs_in w) a.run) out out'
-    (heard' ≡ heard)) answer
+    (IsChangesStopped w a out out' heard heard') answer
+
+abbrev pub IsNoticeStopped : World → notice_asked.Request → Told → Told → Account Trouble →
+    Account Trouble → Trouble → Type 0
+IsNoticeStopped w a out out' heard heard' t =
+    IsStopped notice_trouble (notice.IsNoRun w.shelf (list_in w) a)
+    (SaysNotice w.shelf (list_in w) (heirs_in w) a) out out' heard heard' t
 
 abbrev pub IsNoticeEnd : World → notice_asked.Request → Told → Told → Account Trouble →
     Account Trouble → Result Ended Trouble → Type 0
 IsNoticeEnd w a out out' heard heard' answer =
     Ends (λ e. Does out out' heard heard' (λ text told.
     IsNotice w.shelf (list_in w) (heirs_in w) a text told (noticed e)))
-    (IsStopped notice_trouble (notice.IsNoRun w.shelf (list_in w) a) out out' (heard' ≡ heard))
-    answer
+    (IsNoticeStopped w a out out' heard heard') answer

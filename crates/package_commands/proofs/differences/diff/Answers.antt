@@ -1,59 +1,46 @@
-use Rattle.std.proofs.Common.{ℕ, ◌<◌, List, ◌++◌, map, refl, subst}
+use Rattle.std.proofs.Common.{ℕ, ◌<◌, List, subst, sym}
+use Rattle.check_files.proofs.Doing.{known}
 use Rattle.changes_program.specs.Run.{IsNoRun}
-use Rattle.check_files.proofs.Doing.{hears_trans}
-use Rattle.check_files.specs.Told.{Tells}
 use Rattle.list_program.specs.Named.{inside_of}
-use Rattle.package_files.specs.declared.listed.Listed.{Listed}
-use Rattle.spdx_commands.proofs.Steps.{memory_refused, part_broken, stopped}
-use Rattle.spdx_troubles.specs.Causes.{file_trouble, gate_trouble}
-use Rattle.package_commands.specs.Forms.{AreFormsTold}
 use Rattle.package_commands.proofs.Diffs.{both_read}
+use Rattle.spdx_commands.specs.Said.{IsSaid, text_of, told_of}
+use Rattle.spdx_commands.proofs.Stops.{refused, said_off, stopped}
+use Rattle.spdx_troubles.specs.Causes.{gate_trouble}
+use Rattle.spdx_troubles.specs.declared.trouble.Trouble.{Trouble}
+use Rattle.package_commands.specs.Changes.{IsDiff, SaysDiff}
+use Rattle.package_commands.proofs.Gates.{diff_as, says_diff}
 use Rattle.package_commands.proofs.differences.diff.Goals as goal
 
 pub returns-in_err-outcome-clause-err : goal.returns-in_err-outcome-clause-err
 returns-in_err-outcome-clause-err g c =
-    stopped gate_trouble (IsNoRun (g.S.Shelf.told c.args.shelf.now) (inside_of c.args.inside.list.now c.args.inside.extras.now) c.args.heirs.now c.args.asked.run) _ (g.O.Sink.told c.args.output.now)
-    c.in_err-outcome.field-0.0 c.in_err-outcome.ensures.err refl c.from_residual.result c.from_residual.ensures.1
+    let s = g.S.Shelf.told c.args.shelf.now in
+    let inside = inside_of c.args.inside.list.now c.args.inside.extras.now in
+    stopped gate_trouble (IsNoRun s inside c.args.heirs.now c.args.asked.run) (SaysDiff s inside c.args.heirs.now c.args.asked) (g.O.Sink.told c.args.output.now)
+    (g.T.Listener.heard c.args.listener.now) c.in_err-outcome.field-0.0 c.in_err-outcome.ensures.err c.from_residual.result c.from_residual.ensures.1
 
-pub returns-in_err-tell_left_out-clause-err : goal.returns-in_err-tell_left_out-clause-err
-returns-in_err-tell_left_out-clause-err g c =
-    memory_refused gate_trouble (IsNoRun (g.S.Shelf.told c.args.shelf.now) (inside_of c.args.inside.list.now c.args.inside.extras.now) c.args.heirs.now c.args.asked.run) _ (g.O.Sink.told c.args.output.now) (g.O.Sink.told c.args.output.now)
-    c.from_residual-in_err-tell_left_out.result c.from_residual-in_err-tell_left_out.ensures.1
+pub returns-in_err-both-clause-err : goal.returns-in_err-both-clause-err
+returns-in_err-both-clause-err g c =
+    let s = g.S.Shelf.told c.args.shelf.now in
+    let inside = inside_of c.args.inside.list.now c.args.inside.extras.now in
+    refused gate_trouble (IsNoRun s inside c.args.heirs.now c.args.asked.run) (SaysDiff s inside c.args.heirs.now c.args.asked) (g.O.Sink.told c.args.output.now)
+    (g.T.Listener.heard c.args.listener.now) c.from_residual-in_err-both.result c.from_residual-in_err-both.ensures.1
 
-pub returns-in_err-tell_forms-clause-err : goal.returns-in_err-tell_forms-clause-err
-returns-in_err-tell_forms-clause-err g c =
-    memory_refused gate_trouble (IsNoRun (g.S.Shelf.told c.args.shelf.now) (inside_of c.args.inside.list.now c.args.inside.extras.now) c.args.heirs.now c.args.asked.run) _ (g.O.Sink.told c.args.output.now) (g.O.Sink.told c.args.output.now)
-    c.from_residual-in_err-tell_forms.result c.from_residual-in_err-tell_forms.ensures.1
-
-pub returns-in_err-totals-clause-err : goal.returns-in_err-totals-clause-err
-returns-in_err-totals-clause-err g c =
-    part_broken gate_trouble (IsNoRun (g.S.Shelf.told c.args.shelf.now) (inside_of c.args.inside.list.now c.args.inside.extras.now) c.args.heirs.now c.args.asked.run) _ (g.O.Sink.told c.args.output.now)
-    (g.O.Sink.told c.put_told.new.output) c.in_err-totals.field-0.0 c.in_err-totals.ensures.err c.from_residual-in_err-totals.result c.from_residual-in_err-totals.ensures.1
+pub returns-in_err-say-clause-err : goal.returns-in_err-say-clause-err
+returns-in_err-say-clause-err g c =
+    let s = g.S.Shelf.told c.args.shelf.now in
+    let inside = inside_of c.args.inside.list.now c.args.inside.extras.now in
+    said_off gate_trouble (IsNoRun s inside c.args.heirs.now c.args.asked.run) (SaysDiff s inside c.args.heirs.now c.args.asked) (g.O.Sink.told c.args.output.now)
+    (g.T.Listener.heard c.args.listener.now) (g.O.Sink.told c.say.new.output) (g.T.Listener.heard c.say.new.listener) (text_of c.in_ok-both.both.0) (told_of c.in_ok-both.both.0)
+    (says_diff s inside c.args.heirs.now c.args.asked c.in_ok-outcome.outcome c.in_ok-both.both.0 (record { status = c.status-status.result; totals = c.in_ok-both.both.1 }) c.in_ok-outcome.ensures.ok c.in_ok-both.ensures c.status-status.ensures)
+    c.in_err-say.field-0.0 c.in_err-say.ensures.err c.from_residual-in_err-say.result c.from_residual-in_err-say.ensures.1
 
 pub returns-clause-ok : goal.returns-clause-ok
 returns-clause-ok g c =
-    let h = g.T.Listener.heard c.args.listener.now in
-    let k = g.T.Listener.heard c.tell_left_out.new.listener in
-    let l = g.T.Listener.heard c.tell_forms.new.listener in
-    let faults = map file_trouble c.in_ok-outcome.outcome.left_out.items in
-    let forms = subst (λ (files : List Listed). Tells k l (AreFormsTold files)) c.deref.ensures.value c.in_ok-tell_forms.ensures in
-    let put = c.in_ok-totals.ensures.ok in
-    record {
-      text = put.0;
-      told = faults ++ forms.told;
-      writes = put.1;
-      tells = hears_trans h k l faults forms.told c.in_ok-tell_left_out.ensures forms.tells;
-      is = record {
-        run = c.in_ok-outcome.outcome;
-        forms = forms.told;
-        is_run = c.in_ok-outcome.ensures.ok;
-        text_is = put.2.text_is;
-        forms_are = forms.is;
-        told_are = refl;
-        totals_are = put.2.totals_are;
-        status_is = c.status-status.ensures;
-      };
-    }
+    let s = g.S.Shelf.told c.args.shelf.now in
+    let inside = inside_of c.args.inside.list.now c.args.inside.extras.now in
+    known (g.O.Sink.told c.args.output.now) (g.O.Sink.told c.say.new.output) (g.T.Listener.heard c.args.listener.now) (g.T.Listener.heard c.say.new.listener) (IsSaid c.in_ok-both.both.0)
+    (λ text told. IsDiff s inside c.args.heirs.now c.args.asked text told (record { status = c.status-status.result; totals = c.in_ok-both.both.1 })) c.in_ok-say.ensures.ok
+    (diff_as s inside c.args.heirs.now c.args.asked c.in_ok-outcome.outcome c.in_ok-both.both.0 (record { status = c.status-status.result; totals = c.in_ok-both.both.1 }) c.in_ok-outcome.ensures.ok c.in_ok-both.ensures c.status-status.ensures)
 
 pub returns-clause-read : goal.returns-clause-read
 returns-clause-read g c = λ lt.

@@ -1,55 +1,45 @@
-use Rattle.std.proofs.Common.{ℕ, ◌<◌, List, map, refl, subst}
-use Rattle.std.specs.Option.{option_copied}
-use Rattle.check_files.specs.Told.{Tells}
+use Rattle.std.proofs.Common.{ℕ, ◌<◌, List, subst, sym}
+use Rattle.check_files.proofs.Doing.{known}
 use Rattle.gate_program.specs.Run.{IsNoRun}
 use Rattle.list_program.specs.Named.{inside_of}
-use Rattle.package_files.specs.declared.listed.Listed.{Listed}
-use Rattle.spdx_troubles.specs.Causes.{file_trouble, gate_trouble}
-use Rattle.spdx_commands.proofs.Steps.{memory_refused, part_broken, stopped}
-use Rattle.package_commands.specs.Gate.{IsGate, IsGateEnd, IsReadTold}
-use Rattle.package_commands.proofs.Ends.{ended}
+use Rattle.spdx_commands.specs.Said.{IsSaid, text_of, told_of}
+use Rattle.spdx_commands.proofs.Stops.{refused, said_off, stopped}
+use Rattle.spdx_troubles.specs.Causes.{gate_trouble}
+use Rattle.spdx_troubles.specs.declared.trouble.Trouble.{Trouble}
+use Rattle.package_commands.specs.Gate.{IsGate, SaysGate}
+use Rattle.package_commands.proofs.Gates.{gate_as, says_gate}
 use Rattle.package_commands.proofs.gated.gate.Goals as goal
 
 pub returns-in_err-outcome-clause-err : goal.returns-in_err-outcome-clause-err
 returns-in_err-outcome-clause-err g c =
-    stopped gate_trouble (IsNoRun (g.S.Shelf.told c.args.shelf.now) (inside_of c.args.inside.list.now c.args.inside.extras.now) c.args.heirs.now c.args.asked.run) _ (g.O.Sink.told c.args.output.now)
-    c.in_err-outcome.field-0.0 c.in_err-outcome.ensures.err refl c.from_residual.result c.from_residual.ensures.1
+    let s = g.S.Shelf.told c.args.shelf.now in
+    let inside = inside_of c.args.inside.list.now c.args.inside.extras.now in
+    stopped gate_trouble (IsNoRun s inside c.args.heirs.now c.args.asked.run) (SaysGate s inside c.args.heirs.now c.args.asked) (g.O.Sink.told c.args.output.now)
+    (g.T.Listener.heard c.args.listener.now) c.in_err-outcome.field-0.0 c.in_err-outcome.ensures.err c.from_residual.result c.from_residual.ensures.1
 
-pub returns-in_err-tell_left_out-clause-err : goal.returns-in_err-tell_left_out-clause-err
-returns-in_err-tell_left_out-clause-err g c =
-    memory_refused gate_trouble (IsNoRun (g.S.Shelf.told c.args.shelf.now) (inside_of c.args.inside.list.now c.args.inside.extras.now) c.args.heirs.now c.args.asked.run) _ (g.O.Sink.told c.args.output.now) (g.O.Sink.told c.args.output.now)
-    c.from_residual-in_err-tell_left_out.result c.from_residual-in_err-tell_left_out.ensures.1
+pub returns-in_err-said-clause-err : goal.returns-in_err-said-clause-err
+returns-in_err-said-clause-err g c =
+    let s = g.S.Shelf.told c.args.shelf.now in
+    let inside = inside_of c.args.inside.list.now c.args.inside.extras.now in
+    refused gate_trouble (IsNoRun s inside c.args.heirs.now c.args.asked.run) (SaysGate s inside c.args.heirs.now c.args.asked) (g.O.Sink.told c.args.output.now)
+    (g.T.Listener.heard c.args.listener.now) c.from_residual-in_err-said.result c.from_residual-in_err-said.ensures.1
 
-pub returns-in_err-tell_read-clause-err : goal.returns-in_err-tell_read-clause-err
-returns-in_err-tell_read-clause-err g c =
-    memory_refused gate_trouble (IsNoRun (g.S.Shelf.told c.args.shelf.now) (inside_of c.args.inside.list.now c.args.inside.extras.now) c.args.heirs.now c.args.asked.run) _ (g.O.Sink.told c.args.output.now) (g.O.Sink.told c.args.output.now)
-    c.from_residual-in_err-tell_read.result c.from_residual-in_err-tell_read.ensures.1
-
-pub returns-in_err-put_end-clause-err : goal.returns-in_err-put_end-clause-err
-returns-in_err-put_end-clause-err g c =
-    part_broken gate_trouble (IsNoRun (g.S.Shelf.told c.args.shelf.now) (inside_of c.args.inside.list.now c.args.inside.extras.now) c.args.heirs.now c.args.asked.run) _ (g.O.Sink.told c.args.output.now)
-    (g.O.Sink.told c.put_end.new.output) c.in_err-put_end.field-0.0 c.in_err-put_end.ensures.err c.from_residual-in_err-put_end.result c.from_residual-in_err-put_end.ensures.1
+pub returns-in_err-say-clause-err : goal.returns-in_err-say-clause-err
+returns-in_err-say-clause-err g c =
+    let s = g.S.Shelf.told c.args.shelf.now in
+    let inside = inside_of c.args.inside.list.now c.args.inside.extras.now in
+    said_off gate_trouble (IsNoRun s inside c.args.heirs.now c.args.asked.run) (SaysGate s inside c.args.heirs.now c.args.asked) (g.O.Sink.told c.args.output.now)
+    (g.T.Listener.heard c.args.listener.now) (g.O.Sink.told c.say.new.output) (g.T.Listener.heard c.say.new.listener) (text_of c.in_ok-said.said) (told_of c.in_ok-said.said)
+    (says_gate s inside c.args.heirs.now c.args.asked c.in_ok-outcome.outcome c.in_ok-said.said c.status-status.result c.in_ok-outcome.ensures.ok c.in_ok-said.ensures c.status-status.ensures)
+    c.in_err-say.field-0.0 c.in_err-say.ensures.err c.from_residual-in_err-say.result c.from_residual-in_err-say.ensures.1
 
 pub returns-clause-ok : goal.returns-clause-ok
 returns-clause-ok g c =
-    ended (g.O.Sink.told c.args.output.now) (g.O.Sink.told c.put_end.new.output) (g.T.Listener.heard c.args.listener.now) (g.T.Listener.heard c.tell_left_out.new.listener) (g.T.Listener.heard c.tell_read.new.listener)
-    (g.T.Listener.heard c.put_end.new.listener) (map file_trouble c.in_ok-outcome.outcome.left_out.items)
-    (IsReadTold c.args.asked.is_quiet c.args.asked.run.wanted.source c.in_ok-outcome.outcome.files.items)
-    (IsGateEnd (option_copied c.args.asked.run.look.explain) c.in_ok-outcome.outcome.end)
-    (λ text told. IsGate (g.S.Shelf.told c.args.shelf.now) (inside_of c.args.inside.list.now c.args.inside.extras.now) c.args.heirs.now c.args.asked text told c.status-status.result)
-    c.in_ok-tell_left_out.ensures
-    (subst (λ (files : List Listed). Tells (g.T.Listener.heard c.tell_left_out.new.listener) (g.T.Listener.heard c.tell_read.new.listener) (IsReadTold c.args.asked.is_quiet c.args.asked.run.wanted.source files)) c.deref.ensures.value c.in_ok-tell_read.ensures)
-    c.in_ok-put_end.ensures.ok
-    (λ text read at_end reads ends. record {
-      run = c.in_ok-outcome.outcome;
-      read = read;
-      ended = at_end;
-      is_run = c.in_ok-outcome.ensures.ok;
-      read_are = reads;
-      ends = ends;
-      told_are = refl;
-      status_is = c.status-status.ensures;
-    })
+    let s = g.S.Shelf.told c.args.shelf.now in
+    let inside = inside_of c.args.inside.list.now c.args.inside.extras.now in
+    known (g.O.Sink.told c.args.output.now) (g.O.Sink.told c.say.new.output) (g.T.Listener.heard c.args.listener.now) (g.T.Listener.heard c.say.new.listener) (IsSaid c.in_ok-said.said)
+    (λ text told. IsGate s inside c.args.heirs.now c.args.asked text told c.status-status.result) c.in_ok-say.ensures.ok
+    (gate_as s inside c.args.heirs.now c.args.asked c.in_ok-outcome.outcome c.in_ok-said.said c.status-status.result c.in_ok-outcome.ensures.ok c.in_ok-said.ensures c.status-status.ensures)
 
 pub returns-clause-passes : goal.returns-clause-passes
 returns-clause-passes g c = λ lt. c.in_ok-outcome.ensures.passes (subst (λ (n : ℕ). n < 1) c.status-status.ensures lt)

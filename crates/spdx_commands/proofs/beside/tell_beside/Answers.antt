@@ -28,4 +28,4 @@ returns g c = λ known knows.
     let is = subst (λ (b : Bool). IsFileBy b s c.args.path.now) c.if-not-is_file.false c.is_file.ensures in
     let has = no_longer (contains text_cmp old folder) c.in_ok-is_new.is_new c.in_ok-is_new.ensures.added c.if-not-is_new.false in
     told_now s old c.insert.new.self known c.args.path.now folder c.in_ok-left.left.items (g.T.Listener.heard c.args.listener.now) (g.T.Listener.heard c.tell_left.new.listener)
-    is c.folder_of-folder.ensures has c.in_ok-is_new.ensures.updates.0 c.in_ok-left.ensures c.in_ok-tell_left.ensures knows
+    is c.folder_of-folder.ensures has c.in_ok-is_new.ensures.updates.0 c.in_ok-left.ensures c.in_ok-tell_left.ensures.all knows

@@ -1,3 +1,4 @@
+use Rattle.spdx_commands.proofs.Breaking.{at_output, at_text, broke}
 use Rattle.std.proofs.Common.{List, ℕ, refl, subst, sym}
 use Rattle.std.specs.Io.KnownBytes.{Appends}
 use Rattle.fix_program.specs.declared.file.Deed.{Deed}
@@ -39,3 +40,14 @@ returns-in-Replace-clause-ok g c =
 pub returns-in-Replace-clause-err : goal.returns-in-Replace-clause-err
 returns-in-Replace-clause-err g c =
     off_at (g.O.Sink.told c.args.output.now) (g.R.Replacing.tried c.args.replacer.now) (g.R.Replacing.tried c.do_replacement.new.replacer) c.do_replacement.result c.do_replacement.ensures.err
+
+pub returns-in_err-write_all-in-Put-clause-begun : goal.returns-in_err-write_all-in-Put-clause-begun
+returns-in_err-write_all-in-Put-clause-begun g c =
+    broke c.from_residual.result _
+    (at_text (g.O.Sink.told c.args.output.now) (g.O.Sink.told c.write_all.new.output) (g.T.Listener.heard c.args.listener.now) (g.R.Replacing.tried c.args.replacer.now) c.deref.result.now
+    c.in_err-write_all-in-Put.ensures.begun)
+
+pub returns-in-Replace-clause-begun : goal.returns-in-Replace-clause-begun
+returns-in-Replace-clause-begun g c =
+    at_output (g.O.Sink.told c.args.output.now) (g.T.Listener.heard c.args.listener.now) (g.T.Listener.heard c.do_replacement.new.listener) (g.R.Replacing.tried c.args.replacer.now)
+    (g.R.Replacing.tried c.do_replacement.new.replacer) c.do_replacement.result c.do_replacement.ensures.begun

@@ -1,3 +1,5 @@
+use Rattle.spdx_commands.proofs.Breaking.{at_none, at_silence, broke}
+use Rattle.spdx_commands.specs.Mend.{stand}
 use Rattle.std.proofs.Common.{◌≡◌, ◌++◌, append-nil, refl, subst, sym}
 use Rattle.fix_program.specs.declared.ends.FileEnd.{FileEnd}
 use Rattle.spdx_commands.specs.Mend.{IsDeedDone, IsEndDone, IsLeftOut, left_behind, nothing, stand}
@@ -33,7 +35,7 @@ returns-in_ok-status-in-LeftOut-clause-ok g c =
     let k = g.R.Replacing.tried c.args.replacer.now in
     let status = c.in_ok-status-in-LeftOut.status in
     known nodes nodes (λ _. IsLeftOut c.in-LeftOut.trouble) (λ before. IsEndDone s cat before c.args.end) (λ before knows d is. subst (λ (e : FileEnd). IsEndDone s cat before e d) (sym c.in-LeftOut.is) is)
-    (stand out h k) (stand out l k) status (left_out_told out h l k nodes c.in-LeftOut.trouble status c.in_ok-status-in-LeftOut.ensures)
+    (stand out h k) (stand out l k) status (left_out_told out h l k nodes c.in-LeftOut.trouble status c.in_ok-status-in-LeftOut.ensures.ok)
 
 pub returns-in_ok-status-in-LeftOut-clause-left : goal.returns-in_ok-status-in-LeftOut-clause-left
 returns-in_ok-status-in-LeftOut-clause-left g c =
@@ -50,3 +52,13 @@ returns-in_ok-push-in-LeftBehind-clause-ok g c =
     let cat = c.args.catalogue.now in
     idle (stand (g.O.Sink.told c.args.output.now) (g.T.Listener.heard c.args.listener.now) (g.R.Replacing.tried c.args.replacer.now)) c.args.so_far.now.replaced (λ before. IsEndDone s cat before c.args.end)
     (λ before. subst (λ (e : FileEnd). IsEndDone s cat before e nothing) (sym c.in-LeftBehind.is) refl)
+
+pub returns-in_err-status-in-LeftOut-clause-begun : goal.returns-in_err-status-in-LeftOut-clause-begun
+returns-in_err-status-in-LeftOut-clause-begun g c =
+    broke c.from_residual.result _
+    (at_silence (g.O.Sink.told c.args.output.now) (g.T.Listener.heard c.args.listener.now) (g.T.Listener.heard c.tell_left_out.new.listener) (g.R.Replacing.tried c.args.replacer.now)
+    c.in_err-status-in-LeftOut.ensures.memory)
+
+pub returns-in_err-push-in-LeftBehind-clause-begun : goal.returns-in_err-push-in-LeftBehind-clause-begun
+returns-in_err-push-in-LeftBehind-clause-begun g c =
+    broke _ _ (at_none (stand (g.O.Sink.told c.args.output.now) (g.T.Listener.heard c.args.listener.now) (g.R.Replacing.tried c.args.replacer.now)))

@@ -1,3 +1,5 @@
+use Rattle.spdx_commands.proofs.Breaking.{at_hindrance, at_try, broke}
+use Rattle.std.proofs.Common.{refl}
 use Rattle.spdx_commands.proofs.Doings.{hindered, memory_off, placed, tried, unwritten_off}
 use Rattle.spdx_commands.proofs.deeds.place.Goals as goal
 
@@ -14,7 +16,7 @@ returns-in-Ok-clause-ok g c = λ output.
     let k = g.R.Replacing.tried c.args.replacer.now in
     let m = g.R.Replacing.tried c.replace.new.self in
     placed output (g.T.Listener.heard c.args.listener.now) (g.T.Listener.heard c.tell_loss.new.listener) k m c.args.replaced.now c.add.new.self c.args.new c.replace.result c.in-Ok.loss
-    c.in-Ok.is (tried k m c.args.new c.replace.result c.as_str.result.now c.deref.result.now c.as_str.ensures.value c.deref.ensures.value c.replace.ensures) c.in_ok-tell_loss-in-Ok.ensures c.in_ok-add-in-Ok.ensures
+    c.in-Ok.is (tried k m c.args.new c.replace.result c.as_str.result.now c.deref.result.now c.as_str.ensures.value c.deref.ensures.value c.replace.ensures) c.in_ok-tell_loss-in-Ok.ensures.ok c.in_ok-add-in-Ok.ensures
 
 pub returns-clause-ok : goal.returns-clause-ok
 returns-clause-ok g c =
@@ -30,3 +32,19 @@ returns-clause-err g c =
     let m = g.R.Replacing.tried c.replace.new.self in
     unwritten_off k m c.args.new c.replace.result c.in-Err.obstacle c.tell_hindrance.result c.in-Err.is
     (tried k m c.args.new c.replace.result c.as_str.result.now c.deref.result.now c.as_str.ensures.value c.deref.ensures.value c.replace.ensures) c.tell_hindrance.ensures.err
+
+pub returns-in_err-add-in-Ok-clause-begun : goal.returns-in_err-add-in-Ok-clause-begun
+returns-in_err-add-in-Ok-clause-begun g c =
+    broke c.from_residual.result _
+    (λ out. at_try out (g.T.Listener.heard c.args.listener.now) (g.T.Listener.heard c.args.listener.now) (g.R.Replacing.tried c.args.replacer.now) (g.R.Replacing.tried c.replace.new.self) _ c.replace.ensures refl)
+
+pub returns-in_err-tell_loss-in-Ok-clause-begun : goal.returns-in_err-tell_loss-in-Ok-clause-begun
+returns-in_err-tell_loss-in-Ok-clause-begun g c =
+    broke c.from_residual-in_err-tell_loss-in-Ok.result _
+    (λ out. at_try out (g.T.Listener.heard c.args.listener.now) (g.T.Listener.heard c.tell_loss.new.listener) (g.R.Replacing.tried c.args.replacer.now) (g.R.Replacing.tried c.replace.new.self) _
+    c.replace.ensures c.in_err-tell_loss-in-Ok.ensures.memory)
+
+pub returns-clause-begun : goal.returns-clause-begun
+returns-clause-begun g c =
+    at_hindrance (g.T.Listener.heard c.args.listener.now) (g.T.Listener.heard c.tell_hindrance.new.listener) (g.R.Replacing.tried c.args.replacer.now) (g.R.Replacing.tried c.replace.new.self) _
+    c.tell_hindrance.result c.replace.ensures c.tell_hindrance.ensures.none

@@ -1,3 +1,4 @@
+use Rattle.spdx_commands.proofs.Breaking.{at_silence, broke}
 use Rattle.std.proofs.Common.{List, ℕ, subst, true}
 use Rattle.fix_program.specs.Files.{IsFixedAt, IsNotFixed}
 use Rattle.spdx_commands.specs.Mend.{IsLeftOut, IsPlacedAgain, IsPlacedIf, left_out, mended, stand}
@@ -26,4 +27,9 @@ returns-clause-ok g c = λ output.
     let k = g.R.Replacing.tried c.args.replacer.now in
     let at = subst (λ (p : List ℕ). IsNotFixed s c.args.catalogue.now true c.args.old.parts p t) c.as_str.ensures.value c.in-Err.ensures.err in
     known c.args.replaced.now c.args.replaced.now (λ _. IsLeftOut t) (λ _. IsPlacedAgain s c.args.catalogue.now c.args.old) (λ before knows d is. left_out t at is)
-    (stand output h k) (stand output l k) c.in_ok-status-in-Err.status (left_out_told output h l k c.args.replaced.now t c.in_ok-status-in-Err.status c.in_ok-status-in-Err.ensures)
+    (stand output h k) (stand output l k) c.in_ok-status-in-Err.status (left_out_told output h l k c.args.replaced.now t c.in_ok-status-in-Err.status c.in_ok-status-in-Err.ensures.ok)
+
+pub returns-in_err-status-in-Err-clause-begun : goal.returns-in_err-status-in-Err-clause-begun
+returns-in_err-status-in-Err-clause-begun g c =
+    broke c.from_residual.result _
+    (λ out. at_silence out (g.T.Listener.heard c.args.listener.now) (g.T.Listener.heard c.tell_left_out.new.listener) (g.R.Replacing.tried c.args.replacer.now) c.in_err-status-in-Err.ensures.memory)

@@ -1,10 +1,12 @@
 use Rattle.std.proofs.Common.{◌≡◌, ◌∙◌, List, append-nil, rules, subst, sym}
 use Rattle.std.proofs.lemmas.Iterator.Adapters.{YieldsList-from_vec}
-use Rattle.std.proofs.lemmas.Iterator.Consumers.{YieldsList-end}
+use Rattle.std.proofs.lemmas.Iterator.Consumers.{YieldsList-end, YieldsList-so_far, YieldsList-turn}
 use Rattle.std.proofs.lemmas.List.{map-id}
 use Rattle.fix_program.specs.declared.ends.FileEnd.{FileEnd}
 use Rattle.spdx_commands.specs.Mend.{AreEndsDone, Did, stand}
 use Rattle.spdx_commands.specs.Steps.{Comes}
+use Rattle.spdx_commands.proofs.Breaking.{broke, ends_broken}
+use Rattle.spdx_commands.proofs.Saying.{at_one}
 use Rattle.spdx_commands.proofs.Doings.{end_more, left_more, none_done, part_off}
 use Rattle.spdx_commands.proofs.mended_paths.do_ends.Goals as goal
 
@@ -42,3 +44,15 @@ returns-clause-ok g c =
     (stand (g.O.Sink.told c.loop-end.output) (g.T.Listener.heard c.loop-end.listener) (g.R.Replacing.tried c.loop-end.replacer))
     (Comes c.args.so_far.now.replaced c.loop-end.so_far.replaced c.loop-end.worst (λ before. AreEndsDone (g.S.Shelf.told c.args.shelf.now) c.args.catalogue.now before es)))
     all c.loop-end.invariant.0
+
+pub returns-in_err-status-clause-begun : goal.returns-in_err-status-clause-begun
+returns-in_err-status-clause-begun g c =
+    let list = YieldsList-from_vec {s = c.into_iter-end-iterator.result} c.args.ends.items (search rules) (search rules) in
+    let front = YieldsList-so_far list c.loop-end.yielded c.loop-end.end-iterator c.loop-end.yielded_by in
+    let turn = YieldsList-turn list c.loop-end.yielded c.loop-end.end-iterator c.loop-end.yielded_by c.next.result c.next.new.self c.in-Some.end c.in-Some.is c.next.ensures.steps in
+    let x = stand (g.O.Sink.told c.args.output.now) (g.T.Listener.heard c.args.listener.now) (g.R.Replacing.tried c.args.replacer.now) in
+    let y = stand (g.O.Sink.told c.loop-end.output) (g.T.Listener.heard c.loop-end.listener) (g.R.Replacing.tried c.loop-end.replacer) in
+    let z = stand (g.O.Sink.told c.do_end.new.output) (g.T.Listener.heard c.do_end.new.listener) (g.R.Replacing.tried c.do_end.new.replacer) in
+    broke c.from_residual.result _
+    (ends_broken (g.S.Shelf.told c.args.shelf.now) c.args.catalogue.now x y z c.args.so_far.now.replaced c.loop-end.so_far.replaced c.loop-end.worst c.args.ends.items c.loop-end.yielded _
+    c.loop-end.invariant.0 c.in_err-status.ensures.begun (at_one c.args.ends.items c.loop-end.yielded c.in-Some.end front turn.0 turn.1))
