@@ -1,6 +1,6 @@
 //! Licence expressions that were read.
 
-ghost use Rattle.std.specs.Prelude.{◌≡◌, ◌<◌, ◌^◌, IfOk, List, length, map, string_bytes};
+ghost use Rattle.std.specs.Prelude.{◌≡◌, ◌<◌, ◌^◌, [], IfOk, List, length, map, string_bytes};
 ghost use Rattle.spdx_parser.specs.Tree.{Tree, postfix, leaves, node_of};
 ghost use Rattle.spdx_parser.specs.Spans.{requirement_spans};
 ghost use Rattle.spdx.specs.Value.{Written, placed};
@@ -112,6 +112,16 @@ impl<'c> Expression<'c> {
         ensures { self.new ≡ self.old }
     {
         self.nodes.shrink_to_fit();
+    }
+
+    /// Lets the text go, and the memory that it takes: it is empty then. Nothing else changes; the places of the
+    /// requirements are those in the text that was read.
+    pub fn forget_text(&mut self, alloc: Global)
+        ensures text { self.new.text ≡ [] }
+        ensures tree { self.new.tree ≡ self.old.tree }
+        ensures spans { self.new.spans ≡ self.old.spans }
+    {
+        self.original = String::new(alloc);
     }
 
     /// A copy that is the same in every part, spans and text included, or the want of memory.

@@ -8,16 +8,16 @@ ghost use Rattle.spdx.specs.Value.{trees_of};
 ghost use Rattle.spdx_lines.specs.Answer.{AreKept};
 ghost use Rattle.spdx_lines.specs.Trees.{trees_in};
 
+use crate::hints::{Hints, LONGEST_RUN, hash_of};
 use spdx::Expression;
 use std::alloc::{AllocError, Global};
-use std::collections::BTreeMap;
 
 /// Each different expression once.
 #[derive(Drop)]
 pub(crate) struct Kept<'c> {
     expressions: Vec<Expression<'c>>,
-    // Where an equal one may stand, by the normal text, which equal ones share: a hint, of which nothing is claimed.
-    places: BTreeMap<String, Vec<usize>>,
+    // Where an equal one may stand.
+    hints: Hints,
 }
 
 impl<'c> Kept<'c> {
@@ -26,7 +26,7 @@ impl<'c> Kept<'c> {
     {
         Kept {
             expressions: Vec::new(alloc),
-            places: BTreeMap::new(alloc),
+            hints: Hints::new(alloc),
         }
     }
 
@@ -40,46 +40,35 @@ impl<'c> Kept<'c> {
             AreKept c (trees_in self.old) trees → IsOfRows c expression.entry.tree →
             AreKept c (trees_in self.new) (trees ++ expression.entry.tree ∷ [])) }
     {
-        let text = expression.normal_text(alloc)?;
-        if self.has(text.as_str(), &expression) {
+        let hash = hash_of(&expression);
+        if self.has(hash, &expression) {
             return Ok(());
         }
-        let place = self.expressions.len();
+        self.hints.note(alloc, hash, self.expressions.len())?;
+        expression.forget_text(alloc);
         expression.shrink_to_fit();
         self.expressions.push(expression)?;
-        self.note(alloc, text, place)
+        Ok(())
     }
 
     // Whether an equal expression stands where the hints lead.
-    fn has(&self, text: &str, expression: &Expression<'c>) -> bool
+    fn has(&self, hash: u32, expression: &Expression<'c>) -> bool
         ensures { IsTrue result → (c : Rows) (trees : List Tree) →
             AreKept c (trees_in self.now) trees → IsOfRows c expression.now.tree →
             Contains (trees_in self.now) expression.now.tree }
     {
-        let Some(places) = self.places.get(text) else {
-            return false;
-        };
-        for place in places {
-            if let Some(kept) = self.expressions.get(*place)
+        for step in 0..LONGEST_RUN {
+            let Some(hint) = self.hints.at(hash, step) else {
+                return false;
+            };
+            if hint.hash == hash
+                && let Some(kept) = self.expressions.get(hint.place as usize)
                 && *kept == *expression
             {
                 return true;
             }
         }
         false
-    }
-
-    // An expression with this text stands there.
-    fn note(&mut self, alloc: Global, text: String, place: usize) -> Result<(), AllocError>
-        ensures { trees_in self.new ≡ trees_in self.old }
-    {
-        if let Some(places) = self.places.get_mut(text.as_str()) {
-            places.push(place)?;
-            return Ok(());
-        }
-        let places = vec![in alloc; place]?;
-        self.places.insert(text, places)?;
-        Ok(())
     }
 
     /// All of them.

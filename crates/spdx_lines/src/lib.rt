@@ -11,6 +11,7 @@
 mod all_lines;
 mod answer;
 mod each_line;
+mod hints;
 mod kept;
 pub mod lines;
 pub mod program;

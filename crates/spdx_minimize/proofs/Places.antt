@@ -1,22 +1,26 @@
 -- The places of the members that satisfy a requirement, against the members themselves.
-use Rattle.std.proofs.Common.{◌≡◌, ℕ, zero, suc, ◌+◌, ◌<◌, ◌≤◌, Bool, true, false, ◌&&◌, ◌||◌, cond, List, [], ◌∷◌, ◌++◌, ◌-◌, length, take, drop, map, refl, ◌∙◌, ap, arith, get_or}
+use Rattle.std.proofs.Common.{◌≡◌, ℕ, zero, suc, ◌+◌, ◌<◌, ◌≤◌, Bool, true, false, ◌&&◌, ◌||◌, cond, List, [], ◌∷◌, ◌++◌, ◌-◌, length, take, drop, map, refl, sym, ◌∙◌, ap, subst, arith, get_or, ◌/◌}
 use native.Mathlib.Numerals.{unary_clauses}
-use Rattle.std.specs.List.{list_all}
-use Rattle.std.proofs.lemmas.List.{length-map, map-append, length-append, length-drop, drop-append-le, take-append-le, drop_all, take_all}
-use Rattle.std.specs.List.{All}
-use Rattle.std.proofs.lemmas.List.Elements.{All-head, All-tail, All-same, All-push, All-weaker}
+use Rattle.std.proofs.lemmas.List.{length-map, map-append, length-append, length-drop, drop-append-le, take-append-le, drop_all, take_all, drop_more, drop-drop, take-map, drop-map, length-take-le}
+use Rattle.std.specs.Prelude.{slice_range}
+use Rattle.std.specs.List.{All, flat_map}
+use Rattle.std.proofs.lemmas.List.Elements.{All-head, All-tail, All-same, All-push, All-weaker, All-take, All-drop}
 use Rattle.spdx_requirement.specs.Items.{Requirement, requirement_of}
 use Rattle.spdx_parser.specs.declared.node.ExpressionReq.{ExpressionReq}
 use Rattle.spdx_parser.specs.declared.node.ExprNode.{ExprNode}
-use Rattle.spdx_parser.specs.Tree.{Tree, leaves, postfix, node_of}
+use Rattle.spdx_parser.specs.Tree.{Tree, Leaf, Join, Op, leaves, postfix, node_of}
+use Rattle.spdx_evaluation.specs.Postfix.{IsPostfix, tree_in}
 use Rattle.spdx_licensee.specs.Satisfies.{satisfies}
 use Rattle.spdx_evaluation.specs.Requirements.{requirements_in}
 use Rattle.spdx_evaluation.specs.Truth.{truth_of}
 use Rattle.spdx_minimize.specs.Choice.{any_chosen, suffices_for}
 use Rattle.spdx_evaluation.specs.Truth.{holds}
 use Rattle.spdx_minimize.specs.declared.question.Part.{Part}
+use Rattle.spdx_minimize.specs.declared.nodes.TreeNodes.{TreeNodes}
+use Rattle.spdx_minimize.specs.declared.question.Meeting.{Meeting}
 use Rattle.spdx_minimize.specs.declared.question.Question.{Question}
-use Rattle.spdx_minimize.specs.Places.{places_from, places, places_in, any_at, question_tree, part_of, met_by, IsOver, answered, longest}
+use Rattle.spdx_minimize.specs.Trees.{tree_of_nodes, trees_in}
+use Rattle.spdx_minimize.specs.Places.{places_from, places, places_in, leaf_places, any_at, question_tree, part_of, met_by, IsOver, answers, all_true, longest}
 use Rattle.spdx_evaluation.proofs.Nodes.{requirement_at, requirements_of_tree}
 
 none_chosen : (ms : List Requirement) (r : Requirement) → any_chosen ms [] r ≡ false
@@ -50,15 +54,92 @@ answers_same : (ms : List Requirement) (selection : List Bool) (rs : List Requir
 answers_same ms selection [] = refl
 answers_same ms selection (r ∷ rs) = ap (λ (z : Bool). z ∷ map (any_at selection) (map (places ms) rs)) (any_place ms selection r) ∙ ap (λ (z : List Bool). any_chosen ms selection r ∷ z) (answers_same ms selection rs)
 
--- what the questions are answered is whether the selection suffices
-pub all_answered : (ms : List Requirement) (selection : List Bool) (qs : List Question) → IsOver ms qs → list_all (answered selection) qs ≡ suffices_for (map question_tree qs) ms selection
-all_answered ms selection [] over = refl
-all_answered ms selection (q ∷ qs) over =
-    let here : met_by q ≡ map (places ms) (leaves (question_tree q)) = cc in
-    let rest : IsOver ms qs = cc in
-    let same : answered selection q ≡ holds (any_chosen ms selection) (question_tree q) =
-    ap (truth_of (question_tree q)) (ap (λ (z : List (List ℕ)). map (any_at selection) z) here ∙ answers_same ms selection (leaves (question_tree q))) in
-    ap (λ (z : Bool). z && list_all (answered selection) qs) same ∙ ap (λ (z : Bool). holds (any_chosen ms selection) (question_tree q) && z) (all_answered ms selection qs rest)
+-- ---- of many trees, whose answers stand behind one another
+
+first_ones : (xs ys : List Bool) (n : ℕ) → length xs ≡ n → take n (xs ++ ys) ≡ xs
+first_ones xs ys n e = take-append-le n xs ys (omega (arith, e)) ∙ take_all n xs (omega (arith, e))
+
+other_ones : (xs ys : List Bool) (n : ℕ) → length xs ≡ n → drop n (xs ++ ys) ≡ ys
+other_ones xs ys n e = drop-append-le n xs ys (omega (arith, e)) ∙ ap (λ (z : List Bool). z ++ ys) (drop_all n xs (omega (arith, e)))
+
+answers_each : (ms : List Requirement) (selection : List Bool) (ts : List Tree) → all_true ts (map (any_at selection) (flat_map (leaf_places ms) ts)) ≡ suffices_for ts ms selection
+answers_each ms selection [] = refl
+answers_each ms selection (t ∷ ts) =
+    let n = length (leaves t) in
+    let here = map (any_at selection) (leaf_places ms t) in
+    let more = map (any_at selection) (flat_map (leaf_places ms) ts) in
+    let count : length here ≡ n = length-map (leaf_places ms t) (any_at selection) ∙ length-map (leaves t) (places ms) in
+    ap (λ (z : List Bool). truth_of t (take n z) && all_true ts (drop n z)) (map-append (any_at selection) (leaf_places ms t) (flat_map (leaf_places ms) ts))
+    ∙ ap (λ (z : List Bool). truth_of t z && all_true ts (drop n (here ++ more))) (first_ones here more n count)
+    ∙ ap (λ (z : List Bool). truth_of t here && all_true ts z) (other_ones here more n count)
+    ∙ ap (λ (z : List Bool). truth_of t z && all_true ts more) (answers_same ms selection (leaves t))
+    ∙ ap (λ (z : Bool). holds (any_chosen ms selection) t && z) (answers_each ms selection ts)
+
+-- what the places answer is whether the selection suffices
+pub all_answered : (ms : List Requirement) (selection : List Bool) (ts : List Tree) (meeting : Meeting) → IsOver ms ts meeting → all_true ts (map (any_at selection) (met_by meeting)) ≡ suffices_for ts ms selection
+all_answered ms selection ts meeting over = ap (λ (z : List (List ℕ)). all_true ts (map (any_at selection) z)) over ∙ answers_each ms selection ts
+
+each_place : (ms : List Requirement) (ts : List Tree) → length (flat_map (leaf_places ms) ts) ≡ length (flat_map leaves ts)
+each_place ms [] = refl
+each_place ms (t ∷ ts) =
+    length-append (leaf_places ms t) (flat_map (leaf_places ms) ts)
+    ∙ ap (λ (k : ℕ). k + length (flat_map (leaf_places ms) ts)) (length-map (leaves t) (places ms))
+    ∙ ap (λ (k : ℕ). length (leaves t) + k) (each_place ms ts)
+    ∙ sym (length-append (leaves t) (flat_map leaves ts))
+
+-- one part for each requirement
+pub each_part : (ms : List Requirement) (ts : List Tree) (meeting : Meeting) → IsOver ms ts meeting → length meeting.parts.items ≡ length (flat_map leaves ts)
+each_part ms ts meeting over = sym (length-map meeting.parts.items (part_of meeting.places.items)) ∙ ap length over ∙ each_place ms ts
+
+-- ---- of the tree at one place among many
+
+length-postfix : (t : Tree) → length (postfix t) + 1 ≡ length (leaves t) + length (leaves t)
+length-postfix (Leaf r) = refl
+length-postfix (Join o l r) =
+    omega (arith, length-append (postfix l) (postfix r ++ Op o ∷ []), length-append (postfix r) (Op o ∷ []), length-append (leaves l) (leaves r), length-postfix l, length-postfix r)
+
+-- half of the nodes and one more are requirements
+pub half_and_one : (nodes : List ExprNode) → IsPostfix (map node_of nodes) → length nodes / 2 + 1 ≡ length (leaves (tree_in nodes))
+half_and_one nodes e = omega (arith, length-postfix (tree_in nodes), length-map nodes node_of, ap length e)
+
+-- the trees from i on, where i holds these nodes
+trees_from : (lists : List TreeNodes) (i : ℕ) (d : TreeNodes) → i < length lists → d ≡ get_or lists i d → trees_in (drop i lists) ≡ tree_of_nodes d ∷ trees_in (drop (i + 1) lists)
+trees_from lists i d lt is = ap trees_in (drop_more lists i d lt) ∙ ap (λ (z : TreeNodes). tree_of_nodes z ∷ trees_in (drop (i + 1) lists)) (sym is)
+
+-- the parts that are left behind one tree more
+pub parts_left : (lists : List TreeNodes) (i : ℕ) (d : TreeNodes) (first n : ℕ) → i < length lists → d ≡ get_or lists i d → first + length (flat_map leaves (trees_in (drop i lists))) ≡ n
+    → first + (length d.nodes.now / 2 + 1) + length (flat_map leaves (trees_in (drop (i + 1) lists))) ≡ n
+parts_left lists i d first n lt is left =
+    omega (
+      arith,
+      left,
+      half_and_one d.nodes.now d.postfix,
+      ap (λ (ts : List Tree). length (flat_map leaves ts)) (trees_from lists i d lt is),
+      length-append (leaves (tree_of_nodes d)) (flat_map leaves (trees_in (drop (i + 1) lists))),
+    )
+
+-- the answers to one part of the parts are a part of the answers
+part_answers : (selection : List Bool) (ks : List ℕ) (ps : List Part) (first next : ℕ)
+    → map (any_at selection) (map (part_of ks) (slice_range ps first next)) ≡ take (next - first) (drop first (map (any_at selection) (map (part_of ks) ps)))
+part_answers selection ks ps first next =
+    ap (map (any_at selection)) (sym (take-map (part_of ks) (next - first) (drop first ps)) ∙ ap (take (next - first)) (sym (drop-map (part_of ks) first ps)))
+    ∙ sym (take-map (any_at selection) (next - first) (drop first (map (part_of ks) ps)))
+    ∙ ap (take (next - first)) (sym (drop-map (any_at selection) first (map (part_of ks) ps)))
+
+-- the trees from i on are true where the one at i is and those behind it are
+pub one_of_all : (lists : List TreeNodes) (i : ℕ) (d : TreeNodes) (selection : List Bool) (ks : List ℕ) (ps : List Part) (first next : ℕ) → i < length lists → d ≡ get_or lists i d → next ≡ first + (length d.nodes.now / 2 + 1)
+    → all_true (trees_in (drop i lists)) (drop first (map (any_at selection) (map (part_of ks) ps)))
+    ≡ (truth_of (tree_of_nodes d) (map (any_at selection) (map (part_of ks) (slice_range ps first next))) && all_true (trees_in (drop (i + 1) lists)) (drop next (map (any_at selection) (map (part_of ks) ps))))
+one_of_all lists i d selection ks ps first next lt is e =
+    let answers = map (any_at selection) (map (part_of ks) ps) in
+    let n = length (leaves (tree_of_nodes d)) in
+    let more = trees_in (drop (i + 1) lists) in
+    let count : next - first ≡ n = omega (arith, e, half_and_one d.nodes.now d.postfix) in
+    let here : take n (drop first answers) ≡ map (any_at selection) (map (part_of ks) (slice_range ps first next)) = ap (λ (k : ℕ). take k (drop first answers)) (sym count) ∙ sym (part_answers selection ks ps first next) in
+    let behind : drop n (drop first answers) ≡ drop next answers = drop-drop n first answers ∙ ap (λ (k : ℕ). drop k answers) (omega (arith, e, half_and_one d.nodes.now d.postfix)) in
+    ap (λ (ts : List Tree). all_true ts (drop first answers)) (trees_from lists i d lt is)
+    ∙ ap (λ (z : List Bool). truth_of (tree_of_nodes d) z && all_true more (drop n (drop first answers))) here
+    ∙ ap (λ (z : List Bool). truth_of (tree_of_nodes d) (map (any_at selection) (map (part_of ks) (slice_range ps first next))) && all_true more z) behind
 
 placed_each : (ms : List Requirement) (rs : List ExpressionReq) → map (λ r. places ms (requirement_of r.req)) rs ≡ map (places ms) (map requirement_at rs)
 placed_each ms [] = refl
@@ -69,8 +150,8 @@ pub places_of_tree : (ms : List Requirement) (nodes : List ExprNode) (t : Tree) 
 places_of_tree ms nodes t e = placed_each ms (requirements_in nodes) ∙ ap (λ (z : List Requirement). map (places ms) z) (requirements_of_tree nodes t e)
 
 -- one answer for each requirement
-pub each_answer : (selection : List Bool) (q : Question) → length (map (any_at selection) (met_by q)) ≡ length (leaves (question_tree q))
-each_answer selection q = length-map (met_by q) (any_at selection) ∙ length-map q.parts.items (part_of q.places.items) ∙ q.each
+pub each_answer : (selection : List Bool) (q : Question) → length (answers selection q) ≡ length (leaves (question_tree q))
+each_answer selection q = length-map (map (part_of q.places.now) q.parts.now) (any_at selection) ∙ length-map q.parts.now (part_of q.places.now) ∙ q.each
 
 -- the answer at one place
 pub answer_at : (selection : List Bool) (ks : List ℕ) (ps : List Part) (i : ℕ) (d : Part) → i < length ps → any_at selection (part_of ks (get_or ps i d)) ≡ get_or (map (any_at selection) (map (part_of ks) ps)) i false
@@ -116,8 +197,22 @@ each_within ks more new ps parts p longer added start end within =
     All-same (IsWithin (length new)) parts (ps ++ p ∷ []) added
     (All-push (IsWithin (length new)) ps p (All-weaker (IsWithin (length ks)) (IsWithin (length new)) (λ q h. (h.0, omega (arith, h.1, grown))) ps within) (omega (arith, start, end, grown), omega (arith, end)))
 
--- each question fits where the longest does
-pub each_fits : (qs : List Question) (i : ℕ) (d : Question) → i < length qs → length (get_or qs i d).nodes.now ≤ longest qs
+-- so many parts are a part for each requirement
+pub one_each : (nodes : List ExprNode) → IsPostfix (map node_of nodes) → (ps : List Part) (first : ℕ) → first + (length nodes / 2 + 1) ≤ length ps → length (slice_range ps first (first + (length nodes / 2 + 1))) ≡ length (leaves (tree_in nodes))
+one_each nodes e ps first le =
+    let next = first + (length nodes / 2 + 1) in
+    let count : next - first ≡ length (leaves (tree_in nodes)) = omega (arith, half_and_one nodes e) in
+    length-take-le (next - first) (drop first ps) (omega (arith, le, length-drop first ps)) ∙ count
+
+-- they lie where all of them lie
+pub some_within : (ks ks' : List ℕ) (ps ps' : List Part) (first next : ℕ) → ks' ≡ ks → ps' ≡ ps → All (IsWithin (length ks)) ps → All (IsWithin (length ks')) (slice_range ps' first next)
+some_within ks ks' ps ps' first next k p h =
+    let there : All (IsWithin (length ks')) ps = subst (λ (z : List ℕ). All (IsWithin (length z)) ps) (sym k) h in
+    let all : All (IsWithin (length ks')) ps' = subst (λ (z : List Part). All (IsWithin (length ks')) z) (sym p) there in
+    All-take (IsWithin (length ks')) (next - first) (drop first ps') (All-drop (IsWithin (length ks')) first ps' all)
+
+-- each list fits where the longest does
+pub each_fits : (lists : List TreeNodes) (i : ℕ) (d : TreeNodes) → i < length lists → length (get_or lists i d).nodes.now ≤ longest lists
 each_fits [] i d h = absurd (omega arith)
-each_fits (q ∷ qs) zero d h = omega arith
-each_fits (q ∷ qs) (suc i) d h = omega (arith, each_fits qs i d (omega arith))
+each_fits (list ∷ lists) zero d h = omega arith
+each_fits (list ∷ lists) (suc i) d h = omega (arith, each_fits lists i d (omega arith))

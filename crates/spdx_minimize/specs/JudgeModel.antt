@@ -1,14 +1,14 @@
 -- What a judge of selections shows.
-use Rattle.std.specs.Prelude.{ℕ, List, length, map}
+use Rattle.std.specs.Prelude.{ℕ, List, length}
 use Rattle.spdx_requirement.specs.Items.{Requirement}
 use Rattle.spdx_parser.specs.Tree.{Tree}
 use Rattle.spdx_evaluation.specs.Requirements.{nows}
 use Rattle.spdx_minimize.specs.declared.judge.NodesJudge.{NodesJudge}
-use Rattle.spdx_minimize.specs.Places.{question_tree}
+use Rattle.spdx_minimize.specs.Trees.{trees_in}
 
 -- the trees of its expressions
 abbrev pub judged_trees : NodesJudge → List Tree
-judged_trees judge = map question_tree judge.questions.items
+judged_trees judge = trees_in judge.lists.items
 
 -- what its members hold
 abbrev pub judged_members : NodesJudge → List Requirement

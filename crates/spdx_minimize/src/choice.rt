@@ -6,14 +6,11 @@ ghost use Rattle.spdx_requirement.specs.Items.{requirement_of};
 ghost use Rattle.spdx_evaluation.specs.Requirements.{nows};
 ghost use Rattle.spdx_minimize.specs.Choice.{useful, chosen, chosen_of, choice_of, choice_among, IsLeastChoice};
 ghost use Rattle.spdx_minimize.specs.MinimizeFaults.{refused_choice};
-ghost use Rattle.spdx_minimize.specs.Places.{question_tree, IsOver};
 ghost use Rattle.spdx_minimize.specs.Trees.{trees_in};
 
 use crate::first::choice_for_one;
 use crate::held::HeldJudge;
-use crate::judge::{question_of, questions_of};
 use crate::nodes::TreeNodes;
-use crate::question::Question;
 use crate::useful::useful_members;
 use selections::least_selection;
 use smallvec::SmallVec;
@@ -22,7 +19,6 @@ use spdx_error::MinimizeError;
 use spdx_licensee::Licensee;
 use spdx_parser::node::ExprNode;
 use std::alloc::{AllocError, Global};
-use std::slice;
 
 // A truth for each member, true where it is chosen; so many take no memory.
 type Selection = SmallVec<bool, 32>;
@@ -91,34 +87,27 @@ pub(crate) fn choice_among_members<'a, 'c: 'a>(
     if count > 1024 {
         return Err(Failure::Refused(MinimizeError::TooManyRequirements(count)));
     }
-    if let [list] = lists {
-        let question = question_of(alloc, list.nodes, members)?;
-        return choice_by_questions(alloc, slice::from_ref(&question), members);
-    }
-    let questions = questions_of(alloc, lists, members)?;
-    choice_by_questions(alloc, questions.as_slice(), members)
+    choice_by_judge(alloc, lists, members)
 }
 
-// The choice among these members, at most 1,024, that makes the expressions of the questions true.
-fn choice_by_questions<'a, 'c: 'a>(
+// The same among at most 1,024 members.
+fn choice_by_judge<'a, 'c: 'a>(
     alloc: Global,
-    questions: &[Question<'a, 'c>],
+    lists: &[TreeNodes<'a, 'c>],
     members: &[&'a Licensee<'c>],
 ) -> Result<Vec<LicenseReq<'c>>, Failure<MinimizeError>>
-    requires few { length members.now ≤ 1024 }
-    requires over { IsOver (nows members.now) questions.now }
+    requires { length members.now ≤ 1024 }
     ensures ok { IfOk result (λ reqs.
-        choice_among (map question_tree questions.now) (nows members.now)
+        choice_among (trees_in lists.now) (nows members.now)
         ≡ chosen (map requirement_of reqs.items)) }
     ensures err { IfErr result (IfRefused (λ e.
-        choice_among (map question_tree questions.now) (nows members.now) ≡ refused_choice e)) }
+        choice_among (trees_in lists.now) (nows members.now) ≡ refused_choice e)) }
     ensures least { IfOk result (λ reqs.
-        IsLeastChoice (map question_tree questions.now) (nows members.now)
-        (map requirement_of reqs.items)) }
+        IsLeastChoice (trees_in lists.now) (nows members.now) (map requirement_of reqs.items)) }
 {
     let mut selection = Selection::from_elem(alloc, false, members.len())?;
     let places = selection.as_mut_slice();
-    let mut judge = HeldJudge::new(alloc, questions, members)?;
+    let mut judge = HeldJudge::new(alloc, lists, members)?;
     if !least_selection(&mut judge, places) {
         return Err(Failure::Refused(MinimizeError::RequirementsUnmet));
     }

@@ -1,16 +1,16 @@
 //! Judging selections of licensees.
 
 ghost use Rattle.std.specs.Prelude.{◌≡◌, ◌≤◌, ◌++◌, IfOk, OnOk, length, map};
-ghost use Rattle.std.specs.List.{list_all};
+ghost use Rattle.std.specs.List.{All, flat_map};
 ghost use Rattle.spdx_requirement.specs.Items.{requirement_of};
 ghost use Rattle.spdx_parser.specs.Tree.{leaves, node_of};
 ghost use Rattle.spdx_evaluation.specs.Postfix.{IsPostfix, tree_in};
 ghost use Rattle.spdx_evaluation.specs.Requirements.{nows};
 ghost use Rattle.spdx_minimize.specs.Trees.{trees_in};
-ghost use Rattle.spdx_minimize.specs.Places.{places, met_by, any_at, question_tree, IsOver, answered, longest};
+ghost use Rattle.spdx_minimize.specs.Places.{places, part_of, met_by, leaf_places, any_at, IsOver, answered, all_true, longest};
 
 use crate::nodes::TreeNodes;
-use crate::question::{Part, PartList, PlaceList, Question};
+use crate::question::{Meeting, Part, PartList, PlaceList, Question};
 use crate::useful::satisfies;
 use selections::{Sufficiency, Truths, WordTruths};
 use spdx_catalogue::LicenseReq;
@@ -27,12 +27,13 @@ use std::alloc::{AllocError, Global};
 /// it up to the first that is chosen.
 #[derive(Drop)]
 pub struct NodesJudge<'a, 'c: 'a> {
-    questions: Vec<Question<'a, 'c>>,
+    lists: Vec<TreeNodes<'a, 'c>>,
+    meeting: Meeting,
     members: Vec<&'a Licensee<'c>>,
     truths: Truths,
     asked: u64,
-    ghost over: { IsOver (nows members.items) questions.items },
-    ghost room: { longest questions.items ≤ truths.room },
+    ghost over: { IsOver (nows members.items) (trees_in lists.items) meeting },
+    ghost room: { longest lists.items ≤ truths.room },
 }
 
 impl<'a, 'c: 'a> NodesJudge<'a, 'c> {
@@ -50,11 +51,13 @@ impl<'a, 'c: 'a> NodesJudge<'a, 'c> {
         ensures count { IfOk result (λ judge. judged_count judge ≡ length members.now) }
         ensures asked { IfOk result (λ judge. questions_asked judge ≡ 0) }
     {
-        let questions = questions_of(alloc, lists, members)?;
+        let meeting = meeting_of(alloc, lists, members)?;
+        let lists = copies_of(alloc, lists)?;
         let members = Vec::from_slice(alloc, members)?;
-        let truths = Truths::with_room(alloc, longest_of(questions.as_slice()))?;
+        let truths = Truths::with_room(alloc, longest_of(lists.as_slice()))?;
         Ok(NodesJudge {
-            questions,
+            lists,
+            meeting,
             members,
             truths,
             asked: 0,
@@ -87,56 +90,73 @@ impl<'a, 'c: 'a> Sufficiency for NodesJudge<'a, 'c> {
 
     fn judge(&mut self, selection: &[bool]) -> bool {
         self.asked = self.asked.saturating_add(1);
-        are_all_true(&mut self.truths, self.questions.as_slice(), selection)
+        are_all_true(
+            &mut self.truths,
+            self.lists.as_slice(),
+            &self.meeting,
+            selection,
+        )
     }
 
     ghost grows = { λ judge some more e h f.
         suffices_grows (judged_trees judge) (judged_members judge) some more h f };
 }
 
-// The questions of these expressions to these members.
-pub(crate) fn questions_of<'a, 'c>(
+// The same lists once more.
+fn copies_of<'a, 'c>(
     alloc: Global,
     lists: &[TreeNodes<'a, 'c>],
-    members: &[&Licensee<'_>],
-) -> Result<Vec<Question<'a, 'c>>, AllocError>
-    ensures trees { IfOk result (λ questions.
-        map question_tree questions.items ≡ trees_in lists.now) }
-    ensures over { IfOk result (λ questions. IsOver (nows members.now) questions.items) }
+) -> Result<Vec<TreeNodes<'a, 'c>>, AllocError>
+    ensures { IfOk result (λ copies. trees_in copies.items ≡ trees_in lists.now) }
 {
-    let mut questions = Vec::with_capacity(alloc, lists.len())?;
+    let mut copies = Vec::with_capacity(alloc, lists.len())?;
     for list in lists {
-        questions.push(question_of(alloc, list.nodes, members)?)?;
+        copies.push(TreeNodes::new(list.nodes))?;
     }
-    Ok(questions)
+    Ok(copies)
 }
 
-// The question of this expression to these members.
-pub(crate) fn question_of<'a, 'c>(
+// Which of these members satisfy the requirements of these expressions.
+pub(crate) fn meeting_of(
     alloc: Global,
-    nodes: &'a [ExprNode<'c>],
+    lists: &[TreeNodes<'_, '_>],
     members: &[&Licensee<'_>],
-) -> Result<Question<'a, 'c>, AllocError>
-    requires { IsPostfix (map node_of nodes.now) }
-    ensures tree { IfOk result (λ question. question_tree question ≡ tree_in nodes.now) }
-    ensures met_by { IfOk result (λ question.
-        met_by question ≡ map (places (nows members.now)) (leaves (tree_in nodes.now))) }
+) -> Result<Meeting, AllocError>
+    ensures { IfOk result (λ meeting. IsOver (nows members.now) (trees_in lists.now) meeting) }
 {
     let mut places = PlaceList::new(alloc);
     let mut parts = PartList::new(alloc);
+    for list in lists {
+        push_parts(&mut places, &mut parts, list.nodes, members)?;
+    }
+    Ok(Meeting { places, parts })
+}
+
+// Appends a part for each requirement of the expression.
+fn push_parts(
+    places: &mut PlaceList,
+    parts: &mut PartList,
+    nodes: &[ExprNode<'_>],
+    members: &[&Licensee<'_>],
+) -> Result<(), AllocError>
+    requires postfix { IsPostfix (map node_of nodes.now) }
+    requires within { All (λ p. (p.start ≤ p.end) × (p.end ≤ length places.old.items))
+        parts.old.items }
+    ensures met { OnOk result (map (part_of places.new.items) parts.new.items
+        ≡ map (part_of places.old.items) parts.old.items
+        ++ leaf_places (nows members.now) (tree_in nodes.now)) }
+    ensures within { OnOk result (All (λ p. (p.start ≤ p.end) × (p.end ≤ length places.new.items))
+        parts.new.items) }
+{
     for node in nodes {
         if let ExprNode::Req(requirement) = node {
             let start = places.len();
-            push_places(&mut places, members, &requirement.req)?;
+            push_places(places, members, &requirement.req)?;
             let end = places.len();
             parts.push(Part { start, end })?;
         }
     }
-    Ok(Question {
-        nodes,
-        places,
-        parts,
-    })
+    Ok(())
 }
 
 // Appends the places of the members that satisfy the requirement.
@@ -157,12 +177,12 @@ fn push_places(
 }
 
 // The nodes of the longest.
-pub(crate) fn longest_of(questions: &[Question<'_, '_>]) -> usize
-    ensures { result ≡ longest questions.now }
+pub(crate) fn longest_of(lists: &[TreeNodes<'_, '_>]) -> usize
+    ensures { result ≡ longest lists.now }
 {
     let mut most = 0;
-    for question in questions {
-        most = most.max(question.nodes.len());
+    for list in lists {
+        most = most.max(list.nodes.len());
     }
     most
 }
@@ -170,17 +190,34 @@ pub(crate) fn longest_of(questions: &[Question<'_, '_>]) -> usize
 // Whether the selection makes every expression true.
 pub(crate) fn are_all_true(
     truths: &mut Truths,
-    questions: &[Question<'_, '_>],
+    lists: &[TreeNodes<'_, '_>],
+    meeting: &Meeting,
     selection: &[bool],
 ) -> bool
-    requires { longest questions.now ≤ truths.old.room }
-    ensures answer { result ≡ list_all (answered selection.now) questions.now }
+    requires room { longest lists.now ≤ truths.old.room }
+    requires each { length meeting.now.parts.items
+        ≡ length (flat_map leaves (trees_in lists.now)) }
+    ensures answer { result ≡ all_true (trees_in lists.now)
+        (map (any_at selection.now) (met_by meeting.now)) }
     ensures room { truths.new.room ≡ truths.old.room }
 {
-    for question in questions {
-        if !is_true(truths, question, selection) {
+    let places = meeting.places.as_slice();
+    let all_parts = meeting.parts.as_slice();
+    let mut first = 0;
+    for list in lists {
+        let nodes = list.nodes;
+        // Half of the nodes and one more are requirements.
+        let next = first + (nodes.len() / 2 + 1);
+        let parts = &all_parts[first..next];
+        let question = Question {
+            nodes,
+            places,
+            parts,
+        };
+        if !is_true(truths, &question, selection) {
             return false;
         }
+        first = next;
     }
     true
 }
@@ -203,8 +240,8 @@ fn is_true_in_word(question: &Question<'_, '_>, selection: &[bool]) -> bool
     ensures { result ≡ answered selection.now question.now }
 {
     let nodes = question.nodes;
-    let places = question.places.as_slice();
-    let parts = question.parts.as_slice();
+    let places = question.places;
+    let parts = question.parts;
     let mut leaf = 0;
     let mut truths = WordTruths::new();
     for node in nodes {
@@ -229,8 +266,8 @@ fn is_true_over(truths: &mut Truths, question: &Question<'_, '_>, selection: &[b
     ensures room { truths.new.room ≡ truths.old.room }
 {
     let nodes = question.nodes;
-    let places = question.places.as_slice();
-    let parts = question.parts.as_slice();
+    let places = question.places;
+    let parts = question.parts;
     let mut leaf = 0;
     truths.clear();
     for node in nodes {

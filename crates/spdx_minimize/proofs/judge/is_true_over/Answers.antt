@@ -1,8 +1,8 @@
-use Rattle.std.proofs.Common.{rules, arith, sym, ◌∙◌, ap, ◌≡◌, ◌<◌, ℕ, Bool, List, ◌∷◌, length, map, get_or, false}
+use Rattle.std.proofs.Common.{rules, arith, sym, ◌∙◌, ap, ◌≡◌, ◌<◌, Bool, ◌∷◌, length, get_or, false}
 use Rattle.spdx_minimize.specs.declared.question.Part.{Part}
 use Rattle.spdx_parser.specs.declared.node.Operator.TheVariants.{And, Or}
 use Rattle.spdx_parser.specs.declared.node.ExprNode.TheVariants.{Op}
-use Rattle.spdx_minimize.specs.Places.{part_of, met_by, any_at, question_tree}
+use Rattle.spdx_minimize.specs.Places.{part_of, any_at, answers, question_tree}
 use Rattle.spdx_minimize.proofs.Asking.{begins, leaf_there, reads_requirement, reads_operator, finishes}
 use Rattle.spdx_minimize.proofs.Places.{each_answer, answer_at}
 use Rattle.spdx_minimize.proofs.judge.is_true_over.Goals as goal
@@ -22,13 +22,10 @@ loop-node-preserved c = elim c.match-node.branch [
       let node = sym c.node-item.is ∙ w.in-Req.is in
       let there = leaf_there _ _ _ _ _ _ _ c.loop-node.invariant.so_far c.loop-node-test.true node in
       let q = c.args.question.now in
-      let within : c.loop-node.leaf < length q.parts.items = omega (arith, there, each_answer c.args.selection.now q, q.each) in
+      let within : c.loop-node.leaf < length q.parts.now = omega (arith, there, each_answer c.args.selection.now q, q.each) in
       let none : Part = record { start = 0; end = 0 } in
-      let leaf = c.loop-node.leaf in
-      let here : any_at c.args.selection.now (part_of c.as_slice-places.result.now (get_or c.as_slice-parts.result.now leaf none)) ≡ get_or (map (any_at c.args.selection.now) (met_by q)) leaf false =
-      ap (λ (z : List ℕ). any_at c.args.selection.now (part_of z (get_or c.as_slice-parts.result.now leaf none))) c.as_slice-places.ensures
-      ∙ ap (λ (z : List Part). any_at c.args.selection.now (part_of q.places.items (get_or z leaf none))) c.as_slice-parts.ensures
-      ∙ answer_at c.args.selection.now q.places.items q.parts.items leaf none within in
+      let here : any_at c.args.selection.now (part_of q.places.now (get_or q.parts.now c.loop-node.leaf none)) ≡ get_or (answers c.args.selection.now q) c.loop-node.leaf false =
+      answer_at c.args.selection.now q.places.now q.parts.now c.loop-node.leaf none within in
       rw (w.leaf-is, w.truths-is) record {
         so_far = reads_requirement _ _ _ _ _ _ _ _ c.loop-node.invariant.so_far c.loop-node-test.true node
             (w.push.ensures.items ∙ ap (λ (b : Bool). b ∷ c.loop-node.truths.items) (w.is_any_chosen.ensures ∙ here)) w.push.ensures.room;

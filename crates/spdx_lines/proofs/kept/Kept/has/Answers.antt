@@ -4,8 +4,8 @@ use Rattle.spdx_lines.specs.Trees.{trees_in}
 use Rattle.spdx_lines.proofs.Keeping.{given_at, same_there}
 use Rattle.spdx_lines.proofs.kept.Kept.has.Goals as goal
 
-pub returns-in-loop-place : goal.returns-in-loop-place
-returns-in-loop-place c = λ t catalogue trees h row.
+pub returns-in-loop-step : goal.returns-in-loop-step
+returns-in-loop-step c = λ t catalogue trees h row.
     let kept = c.in-Some-get.kept.now in
     let lookup = c.in-Some-get.ensures.lookup in
     let found = given_at (λ e. e.tree) c.deref.result.now _ kept lookup.3.0 lookup.1 in

@@ -1,14 +1,13 @@
 use Rattle.std.proofs.Common.{◌≡◌, ◌<◌, ◌+◌, ◌∙◌, ap, sym, length, map, ◌++◌, ◌∷◌, List, ℕ, drop, [], get_or}
-use Rattle.std.proofs.lemmas.List.{length-map, append-nil, append_assoc, drop_all, drop_more}
+use Rattle.std.proofs.lemmas.List.{append-nil, append_assoc, drop_all, drop_more}
 use Rattle.spdx_requirement.specs.Items.{Requirement, requirement_of}
-use Rattle.spdx_parser.specs.Tree.{leaves}
 use Rattle.spdx_parser.specs.declared.node.ExprNode.{ExprNode}
 use Rattle.spdx_evaluation.specs.Postfix.{tree_in}
 use Rattle.spdx_evaluation.specs.Requirements.{nows}
 use Rattle.spdx_minimize.specs.Places.{places, places_in, part_of}
 use Rattle.spdx_minimize.proofs.Places.{places_of_tree, one_part, each_within}
-use Rattle.spdx_minimize.proofs.judge.question_of.Goals as goal
-use Rattle.spdx_minimize.proofs.judge.question_of.Goals.{in-Req+in_ok-push_places+in_ok-push, in_default}
+use Rattle.spdx_minimize.proofs.judge.push_parts.Goals as goal
+use Rattle.spdx_minimize.proofs.judge.push_parts.Goals.{in-Req+in_ok-push_places+in_ok-push, in_default}
 
 -- the places of the requirements from i on, where i holds n
 places_from : (ms : List Requirement) (nodes : List ExprNode) (i : ℕ) (d n : ExprNode) → i < length nodes → d ≡ get_or nodes i d → d ≡ n → places_in ms (drop i nodes) ≡ places_in ms (n ∷ drop (i + 1) nodes)
@@ -41,26 +40,12 @@ loop-node-preserved c =
           }
     ]
 
--- the parts that were found are those of all requirements
-all_met : (P : List (List ℕ)) (ms : List Requirement) (nodes : List ExprNode) (i : ℕ) → drop i nodes ≡ [] → P ++ places_in ms (drop i nodes) ≡ places_in ms nodes → P ≡ places_in ms nodes
-all_met P ms nodes i none met = sym (append-nil P) ∙ ap (λ (z : List ExprNode). P ++ places_in ms z) (sym none) ∙ met
-
-pub invariant_of-result : goal.invariant_of-result
-invariant_of-result c =
-    let t = tree_in c.args.nodes.now in
+pub returns-clause-met : goal.returns-clause-met
+returns-clause-met c =
     let ms = nows c.args.members.now in
-    let met = all_met _ ms c.args.nodes.now c.loop-node.node-index (drop_all c.loop-node.node-index c.args.nodes.now c.loop-node-test.false) c.loop-node.invariant.met in
-    record {
-      postfix = c.requires;
-      each =
-          sym (length-map c.loop-node.parts.items (part_of c.loop-node.places.items))
-          ∙ ap length (met ∙ places_of_tree ms c.args.nodes.now t c.requires)
-          ∙ length-map (leaves t) (places ms);
-      within = c.loop-node.invariant.within;
-    }
-
-pub returns-clause-met_by : goal.returns-clause-met_by
-returns-clause-met_by c =
-    let ms = nows c.args.members.now in
-    all_met _ ms c.args.nodes.now c.loop-node.node-index (drop_all c.loop-node.node-index c.args.nodes.now c.loop-node-test.false) c.loop-node.invariant.met
-    ∙ places_of_tree ms c.args.nodes.now (tree_in c.args.nodes.now) c.requires
+    let nodes = c.args.nodes.now in
+    let found = map (part_of c.loop-node.places.items) c.loop-node.parts.items in
+    sym (append-nil found)
+    ∙ ap (λ (z : List ExprNode). found ++ places_in ms z) (sym (drop_all c.loop-node.node-index nodes c.loop-node-test.false))
+    ∙ c.loop-node.invariant.met
+    ∙ ap (λ (z : List (List ℕ)). map (part_of c.args.places.now.items) c.args.parts.now.items ++ z) (places_of_tree ms nodes (tree_in nodes) c.requires.postfix)
