@@ -1,5 +1,5 @@
 -- What expressions need, one after the other.
-use Rattle.std.proofs.Common.{◌≡◌, ◌∙◌, refl, sym, ap, ℕ, ◌+◌, ◌<◌, List, [], ◌∷◌, ◌++◌, get_or, length, map, take, subst, append_assoc, append-nil, Bool, true}
+use Rattle.std.proofs.Common.{◌≡◌, ◌∙◌, sym, ap, ℕ, ◌+◌, ◌<◌, List, [], ◌∷◌, ◌++◌, get_or, length, map, take, subst, append_assoc, append-nil, Bool, true}
 use Rattle.std.specs.Prelude.{if◌then◌else◌}
 use Rattle.std.proofs.lemmas.List.{map_more}
 use Rattle.spdx_lexer.specs.declared.token.ParseMode.{ParseMode}
@@ -8,7 +8,7 @@ use Rattle.license_tags.specs.Comments.{comment_of}
 use Rattle.license_tags.specs.Tags.{tags_of}
 use Rattle.check_sources.specs.Findings.{Source}
 use Rattle.check_sources.specs.Tags.{is_binary}
-use Rattle.check_files.specs.Noted.{AddsNeeded, AddsOne, AreAllNeeded, Grows, NeedsDeclared, declares, is_none, none, more, site_text, tag_text, tag_texts}
+use Rattle.check_files.specs.Noted.{AddsNeeded, AddsOne, Grows, NeedsDeclared, declares, is_none, none, more, site_text, tag_text, tag_texts}
 use Rattle.check_sources.specs.Manifests.{mode_in}
 use Rattle.manifests.specs.Sites.{AreSites, IsReason}
 use Rattle.manifests.specs.declared.form.Form.{Form}

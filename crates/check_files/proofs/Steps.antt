@@ -1,5 +1,5 @@
 -- What is passed over.
-use Rattle.std.proofs.Common.{◌≡◌, refl, sym, inr, ℕ, Bool, true, false, List, [], ◌∷◌, Option, Result, Ok, Err, OnOk, subst}
+use Rattle.std.proofs.Common.{◌≡◌, refl, sym, inr, ℕ, Bool, true, List, [], ◌∷◌, Option, Result, Ok, Err, OnOk, subst}
 use Rattle.std.specs.Prelude.{String, string_bytes}
 use Rattle.std.specs.declared.alloc.Global.{Global}
 use Rattle.std.specs.declared.io.Error.{Error}

@@ -1,5 +1,5 @@
 -- What is found in a file, part by part.
-use Rattle.std.proofs.Common.{◌≡◌, ◌∙◌, refl, sym, ap, inl, ℕ, Bool, true, false, List, [], ◌++◌, ◌==◌, ◌&&◌, Option, subst}
+use Rattle.std.proofs.Common.{◌≡◌, ◌∙◌, refl, sym, ap, inl, ℕ, Bool, true, List, [], ◌++◌, ◌==◌, ◌&&◌, Option, subst}
 use Rattle.std.specs.Io.KnownBytes.{Appends}
 use Rattle.std.proofs.KnownBytes.{Appends-trans}
 use Rattle.line_engine.specs.Device.{Told}
@@ -11,7 +11,7 @@ use Rattle.source_trees.specs.declared.reading.Taken.{Taken}
 use Rattle.spdx_check.specs.declared.check.Check.{Check}
 use Rattle.check_sources.specs.Findings.{Source}
 use Rattle.check_sources.specs.Manifests.{ChecksManifest}
-use Rattle.check_told.specs.Counted.{IsCounted, counted, written}
+use Rattle.check_told.specs.Counted.{IsCounted}
 use Rattle.check_told.specs.declared.sums.Sums.{Sums}
 use Rattle.check_files.specs.declared.trouble.CheckTrouble.{CheckTrouble}
 use Rattle.check_files.specs.Files.{DeclaresPart, IsFileChecked, IsFileStep, IsStepBy, NotesFile, TagsPart, has_both, is_wanted}

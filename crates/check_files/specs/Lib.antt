@@ -5,3 +5,4 @@ pub mod Parts
 pub mod Noted
 pub mod Files
 pub mod Clean
+pub mod Begun

@@ -1,5 +1,5 @@
 -- What is found in the parts of a file.
-use Rattle.std.specs.Prelude.{◌≡◌, ℕ, Bool, true, false, List, Some, None}
+use Rattle.std.specs.Prelude.{◌≡◌, ℕ, Bool, false, List, Some, None}
 use Rattle.std.specs.Str.{IsUtf8}
 use Rattle.toml.specs.Data.{Members}
 use Rattle.toml.specs.Parse.{parse_document}

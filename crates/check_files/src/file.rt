@@ -1,7 +1,8 @@
 // A file below a folder.
 
-ghost use Rattle.std.specs.Prelude.{◌≡◌, ◌==◌, ◌&&◌, IfErr, IfOk, OnOk, map, string_bytes};
+ghost use Rattle.std.specs.Prelude.{◌≡◌, ◌==◌, ◌&&◌, IfErr, IfOk, OnErr, OnOk, map, string_bytes};
 ghost use Rattle.std.specs.Option.{option_copied};
+ghost use Rattle.check_files.specs.Begun.{IsBeginning, IsDeclaredText, IsFileBegun, IsTaggedText, IsTextBegun};
 ghost use Rattle.check_files.specs.Files as spec;
 ghost use Rattle.check_files.specs.Files.{
   IsFileChecked,
@@ -41,7 +42,7 @@ pub struct Below<'b> {
 ///
 /// # Errors
 ///
-/// What is found can't be written, or memory was refused.
+/// What is found can't be written, or memory was refused. A beginning of it is written then, and nothing is told.
 #[tactic(auto, using(crate::proofs::Doing::nothing))]
 pub fn check_file<S: Shelf, O: Sink, T: Telling>(
     alloc: Global,
@@ -59,6 +60,10 @@ pub fn check_file<S: Shelf, O: Sink, T: Telling>(
         below.entry.taken (option_copied below.entry.folder) path.now (tally_of sums.old)
         (notes_of noted.old) text told (tally_of sums.new) (notes_of noted.new))) }
     ensures err { IfErr result (IsBrokenOff (O.told output.new)) }
+    ensures begun { OnErr result (Does (O.told output.old) (O.told output.new)
+        (T.told teller.old) (T.told teller.new) (λ text told. IsFileBegun (S.told shelf.now)
+        check.now below.entry.taken (option_copied below.entry.folder) path.now
+        (tally_of sums.old) (notes_of noted.old) text told)) }
 {
     if !is_wanted(below.taken, path) {
         return Ok(());
@@ -97,6 +102,9 @@ fn check_bytes<S: Shelf, O: Sink>(
         (option_copied below.entry.folder) path.now bytes.now (tally_of sums.old)
         (notes_of noted.old) text (tally_of sums.new) (notes_of noted.new))) }
     ensures err { IfErr result (IsBrokenOff (O.told output.new)) }
+    ensures begun { OnErr result (Writes (O.told output.old) (O.told output.new)
+        (IsTextBegun check.now below.entry.taken (option_copied below.entry.folder) path.now
+        bytes.now (tally_of sums.old) (notes_of noted.old))) }
 {
     let form = form_below(below.taken, path);
     let folder = below.folder;
@@ -195,6 +203,8 @@ fn declared_part<O: Sink>(
         (tally_of sums.old) (map string_bytes used.old.items) text count (tally_of sums.new)
         (map string_bytes used.new.items))) }
     ensures err { IfErr result (IsBrokenOff (O.told output.new)) }
+    ensures begun { OnErr result (Writes (O.told output.old) (O.told output.new) (IsBeginning
+        (IsDeclaredText check.now form path.now bytes.now (tally_of sums.old)))) }
 {
     let Some(form) = form else {
         return Ok(0);
@@ -222,6 +232,9 @@ fn tags_part<O: Sink>(
         path.now bytes.now (tally_of sums.old) (map string_bytes used.old.items) text count
         (tally_of sums.new) (map string_bytes used.new.items))) }
     ensures err { IfErr result (IsBrokenOff (O.told output.new)) }
+    ensures begun { OnErr result (Writes (O.told output.old) (O.told output.new) (IsBeginning
+        (IsTaggedText check.now below.entry.taken.tags path.now bytes.now
+        (tally_of sums.old)))) }
 {
     if !below.taken.tags {
         return Ok(0);

@@ -1,6 +1,7 @@
 // What is found in the parts of a file: written, and counted.
 
-ghost use Rattle.std.specs.Prelude.{◌≡◌, IfErr, IfOk, OnOk};
+ghost use Rattle.std.specs.Prelude.{◌≡◌, IfErr, IfOk, OnErr, OnOk};
+ghost use Rattle.check_files.specs.Begun.{IsBeginning, IsManifestText, IsTagText};
 ghost use Rattle.check_files.specs.Parts as spec;
 ghost use Rattle.check_files.specs.Parts.{AreTagsChecked, IsManifestChecked, IsTable};
 ghost use Rattle.check_files.specs.Tally.{tally_of, with_table};
@@ -20,7 +21,7 @@ use std::alloc::{AllocError, Global};
 ///
 /// # Errors
 ///
-/// It can't be written, or memory was refused.
+/// It can't be written, or memory was refused. A beginning of it is written then.
 pub fn check_declared<O: Sink>(
     alloc: Global,
     check: &Check<'_>,
@@ -33,6 +34,8 @@ pub fn check_declared<O: Sink>(
         IsManifestChecked check.now form (source_of source.entry) (tally_of sums.old) text count
         (tally_of sums.new))) }
     ensures err { IfErr result (IsBrokenOff (O.told output.new)) }
+    ensures begun { OnErr result (Writes (O.told output.old) (O.told output.new) (IsBeginning
+        (IsManifestText check.now form (source_of source.entry) (tally_of sums.old)))) }
 {
     let found = check_manifest(alloc, check, sums.is_clean(), form, source)?;
     let count = found.summary.lines;
@@ -71,7 +74,7 @@ fn is_table(alloc: Global, form: Form, bytes: &[u8]) -> Result<bool, AllocError>
 ///
 /// # Errors
 ///
-/// It can't be written, or memory was refused.
+/// It can't be written, or memory was refused. A beginning of it is written then.
 pub fn check_tagged<O: Sink>(
     alloc: Global,
     check: &Check<'_>,
@@ -83,6 +86,8 @@ pub fn check_tagged<O: Sink>(
         AreTagsChecked check.now (source_of source.entry) (tally_of sums.old) text count
         (tally_of sums.new))) }
     ensures err { IfErr result (IsBrokenOff (O.told output.new)) }
+    ensures begun { OnErr result (Writes (O.told output.old) (O.told output.new) (IsBeginning
+        (IsTagText check.now (source_of source.entry) (tally_of sums.old)))) }
 {
     let found = check_tags(alloc, check, sums.is_clean(), source)?;
     let count = found.summary.lines;

@@ -1,6 +1,6 @@
 // Who is told of troubles, and how far a check is.
 
-ghost use Rattle.std.specs.Prelude.{◌∷◌, [], OnOk};
+ghost use Rattle.std.specs.Prelude.{◌≡◌, ◌∷◌, [], OnErr, OnOk};
 ghost use Rattle.check_files.specs.Told.{Account, Hears};
 ghost use Rattle.check_files.specs.declared.trouble.CheckTrouble as the_trouble;
 
@@ -16,9 +16,10 @@ pub trait Telling {
     ///
     /// # Errors
     ///
-    /// Memory was refused.
+    /// Memory was refused, and it is told nothing.
     fn tell(&mut self, alloc: Global, trouble: CheckTrouble) -> Result<(), AllocError>
-        ensures { OnOk result (Hears (told self.old) (told self.new) (trouble ∷ [])) };
+        ensures told { OnOk result (Hears (told self.old) (told self.new) (trouble ∷ [])) }
+        ensures memory { OnErr result (told self.new ≡ told self.old) };
 
     /// So many files below a folder were checked, and another one is come to.
     ///

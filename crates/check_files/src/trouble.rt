@@ -1,6 +1,6 @@
 // Why files are passed over, and why a check ends before its end.
 
-ghost use Rattle.std.specs.Prelude.{◌≡◌, IfErr, OnOk};
+ghost use Rattle.std.specs.Prelude.{◌≡◌, IfErr, OnErr, OnOk};
 ghost use Rattle.check_files.specs.Passing as spec;
 ghost use Rattle.check_files.specs.Passing.{PassesOver, is_of_memory};
 ghost use Rattle.check_files.specs.Tally.{tally_of};
@@ -78,7 +78,7 @@ fn refuses_memory(error: &io::Error) -> bool
 ///
 /// # Errors
 ///
-/// It was.
+/// It was, and nothing is told.
 pub fn pass_over<T: Telling>(
     alloc: Global,
     trouble: CheckTrouble,
@@ -88,6 +88,7 @@ pub fn pass_over<T: Telling>(
     ensures ok { OnOk result (PassesOver trouble (T.told teller.old) (T.told teller.new)
         (tally_of sums.old) (tally_of sums.new)) }
     ensures err { IfErr result (λ fault. fault ≡ Memory) }
+    ensures memory { OnErr result (T.told teller.new ≡ T.told teller.old) }
 {
     if is_of_memory(&trouble) {
         return Err(CheckFault::Memory);

@@ -1,3 +1,4 @@
+pub mod Begun
 pub mod Streams
 pub mod Wholes
 pub mod Paths

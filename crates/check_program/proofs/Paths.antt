@@ -1,5 +1,5 @@
 -- Each path, and all of them.
-use Rattle.std.proofs.Common.{◌≡◌, inl, inr, refl, sym, subst, ℕ, ◌+◌, ◌<◌, List, [], ◌∷◌, ◌++◌, get_or, length, map, take, Bor}
+use Rattle.std.proofs.Common.{◌≡◌, inl, inr, sym, subst, ℕ, ◌+◌, ◌<◌, List, [], ◌∷◌, ◌++◌, get_or, length, map, take, Bor}
 use Rattle.std.proofs.lemmas.List.{map_more}
 use Rattle.line_engine.specs.Device.{Told}
 use Rattle.shelves.specs.Shelf.{Shelved}

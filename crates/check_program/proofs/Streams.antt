@@ -1,8 +1,7 @@
 -- The lines of what is read piece by piece.
-use Rattle.std.proofs.Common.{◌≡◌, inl, inr, refl, sym, subst, ℕ, Bool, true, false, List, [], ◌∷◌, ◌++◌, Option, None, Some, Ok, Err, String, codes, count_by, string_bytes, if◌then◌else◌}
+use Rattle.std.proofs.Common.{◌≡◌, inl, inr, refl, subst, ℕ, Bool, List, [], ◌∷◌, ◌++◌, Option, None, Some, Ok, Err, codes, count_by, if◌then◌else◌}
 use Rattle.std.proofs.lemmas.List.{append-nil}
 use Rattle.std.specs.Io.KnownBytes.{Consumes, IsAtEnd}
-use Rattle.std.specs.declared.alloc.Global.{Global}
 use Rattle.std.specs.declared.io.Error.{Error}
 use Rattle.line_engine.specs.Device.{Told, devices}
 use Rattle.line_engine.specs.Lines.{cut, lines_of}
@@ -21,17 +20,17 @@ use Rattle.check_files.specs.Passing.{IsPassed}
 use Rattle.check_files.specs.Tally.{Tally, is_clean, with_lines}
 use Rattle.check_files.specs.Told.{Account, Does}
 use Rattle.check_files.proofs.Doing.{heard_alone, hears_nil, known}
-use Rattle.check_program.specs.Lines.{AreAllRead, AreRead, AreSomeRead, FailsBy, GivesBy, IsLinesStep, IsLinesStepOf, rule_of}
+use Rattle.check_program.specs.Lines.{AreRead, FailsBy, GivesBy, IsLinesStep, IsLinesStepOf, rule_of}
 use Rattle.check_program.specs.Unread.{PassesBroken, PassesUnread}
 
 -- what was read to its end is all that there is
-all_had : (a a' : Option (List ℕ)) (bytes : List ℕ) → Consumes a a' bytes → IsAtEnd a' → MayHave a bytes
+pub all_had : (a a' : Option (List ℕ)) (bytes : List ℕ) → Consumes a a' bytes → IsAtEnd a' → MayHave a bytes
 all_had None a' bytes c e = tt
 all_had (Some xs) None bytes c e = absurd c
 all_had (Some xs) (Some ys) bytes c e = subst (λ (zs : List ℕ). xs ≡ zs) (append-nil bytes) (subst (λ (zs : List ℕ). xs ≡ bytes ++ zs) e c)
 
 -- what was read begins what there is
-some_had : (a a' : Option (List ℕ)) (bytes : List ℕ) → Consumes a a' bytes → (rest : List ℕ) × MayHave a (bytes ++ rest)
+pub some_had : (a a' : Option (List ℕ)) (bytes : List ℕ) → Consumes a a' bytes → (rest : List ℕ) × MayHave a (bytes ++ rest)
 some_had None a' bytes c = ([], tt)
 some_had (Some xs) None bytes c = absurd c
 some_had (Some xs) (Some ys) bytes c = (ys, c)

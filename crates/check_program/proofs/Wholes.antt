@@ -1,5 +1,5 @@
 -- A file that is read whole.
-use Rattle.std.proofs.Common.{◌≡◌, inl, inr, refl, subst, ℕ, List, [], ◌∷◌, Option}
+use Rattle.std.proofs.Common.{inl, inr, refl, ℕ, List, [], ◌∷◌, Option}
 use Rattle.std.specs.declared.io.Error.{Error}
 use Rattle.line_engine.specs.Device.{Told}
 use Rattle.manifests.specs.declared.form.Form.{Form}

@@ -1,5 +1,6 @@
 pub mod Lines
 pub mod Unread
 pub mod Paths
+pub mod Begun
 pub mod Runs
 pub mod Clean

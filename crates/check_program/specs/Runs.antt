@@ -1,7 +1,7 @@
 -- What a run of `spdx check` writes and tells, and its status.
 use Rattle.std.specs.Prelude.{◌≡◌, ◌⊎◌, ℕ, Bool, true, false, ◌&&◌, List, [], ◌++◌, Ok, map, if◌then◌else◌}
 use Rattle.std.specs.Option.{option_copied}
-use Rattle.check_files.specs.Told.{Account}
+use Rattle.check_files.specs.Told.{Account, Does}
 use Rattle.finding_forms.specs.declared.forms.Format.{Format}
 use Rattle.finding_forms.specs.declared.forms.Format.TheVariants as format
 use Rattle.finding_forms.specs.Forms.{beginning, ending}
@@ -23,6 +23,7 @@ use Rattle.check_program.specs.declared.run.CheckEnd.{CheckEnd}
 use Rattle.check_program.specs.declared.run.CheckEnd.TheVariants as end
 use Rattle.check_program.specs.declared.run.Inside as written
 use Rattle.check_program.specs.declared.run.Request.{Request}
+use Rattle.check_program.specs.Begun.{ArePathsBegun}
 use Rattle.check_program.specs.Paths.{ArePathSteps, Ways, path_in}
 
 -- what the program has inside: its list and extras, what to write in place of names, and its
@@ -84,12 +85,34 @@ pub record IsNoCheck (s : Shelved) (inside : Inside) (a : Request) (t : ListTrou
   pub writes_none : out' ≡ out
   pub tells_none : heard' ≡ heard
 
--- why a run ends before its end; nothing is said of memory
+-- what stands before all findings, as far as it is written; or all of that, and of the paths a
+-- beginning; or all paths, and what stands behind all findings, as far as it is written
+pub data IsRunBegun (s : Shelved) (check : Check) (version : List ℕ) (a : Request) :
+    List ℕ → List CheckTrouble → Type 0 where
+  in_beginning : (text rest : List ℕ) → beginning check.format version ≡ text ++ rest →
+      IsRunBegun s check version a text []
+  in_paths : (found : List ℕ) (told : List CheckTrouble) →
+      ArePathsBegun s check (ways_in a) (map path_in a.paths.now) nothing_counted found told →
+      IsRunBegun s check version a (beginning check.format version ++ found) told
+  in_ending : (found text rest : List ℕ) (told : List CheckTrouble) (sums : Sums) →
+      ArePathSteps s check (ways_in a) (map path_in a.paths.now) nothing_counted found told
+      (tally_of sums) →
+      ending check.format ++ last_lines a.summary check.format sums ≡ text ++ rest →
+      IsRunBegun s check version a (beginning check.format version ++ (found ++ text)) told
+
+-- a run is begun by the list that is named or inside, and as it is asked
+abbrev pub IsBegun : Shelved → Inside → Request → List ℕ → List CheckTrouble → Type 0
+IsBegun s inside a text told = (check : Check) × IsCheck s inside a check
+    × IsRunBegun s check inside.version a text told
+
+-- why a run ends before its end, and how far it has come then
 abbrev pub IsNoRun : Shelved → Inside → Request → Told → Told → Account CheckTrouble →
     Account CheckTrouble → CheckEnd → Type 0
 IsNoRun s inside a out out' heard heard' (end.List t) = IsNoCheck s inside a t out out' heard heard'
-IsNoRun s inside a out out' heard heard' end.Output = out'.has_failed ≡ true
-IsNoRun s inside a out out' heard heard' end.Memory = Unit {0}
+IsNoRun s inside a out out' heard heard' end.Output =
+    (out'.has_failed ≡ true) × Does out out' heard heard' (IsBegun s inside a)
+IsNoRun s inside a out out' heard heard' end.Memory =
+    Does out out' heard heard' (IsBegun s inside a)
 
 -- a run ends as a part of it broke off
 abbrev pub IsEndOf : CheckFault → CheckEnd → Type 0

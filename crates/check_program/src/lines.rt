@@ -1,12 +1,13 @@
 // A file, or standard input, that has an expression a line.
 
-ghost use Rattle.std.specs.Prelude.{◌≡◌, ◌∷◌, [], IfErr, OnOk, codes, string_bytes};
+ghost use Rattle.std.specs.Prelude.{◌≡◌, ◌∷◌, [], IfErr, OnErr, OnOk, codes, string_bytes};
 ghost use Rattle.check_files.specs.Tally.{tally_of, with_lines};
 ghost use Rattle.check_files.specs.Told.{Does, IsBrokenOff};
 ghost use Rattle.check_files.specs.declared.trouble.CheckFault.TheVariants.{Memory};
 ghost use Rattle.open_shelves.specs.Opened.{MayHave};
 ghost use Rattle.source_trees.specs.Readings.{is_input};
-ghost use Rattle.check_program.specs.Lines.{AreRead, IsLinesStep, IsLinesStepOf, name_at};
+ghost use Rattle.check_program.specs.Begun.{IsLinesStepBegun};
+ghost use Rattle.check_program.specs.Lines.{AreRead, Gives, IsLinesStep, IsLinesStepOf, name_at};
 ghost use Rattle.check_program.specs.Unread.{PassesBroken, PassesUnread};
 
 use check_files::{CheckFault, CheckTrouble, Telling, pass_over};
@@ -50,6 +51,10 @@ pub(crate) fn check_list<S: OpenShelf, O: Sink, T: Telling>(
         (T.told teller.new) (λ text told. IsLinesStep (S.Shelf.told shelf.now) check.now path.now
         (tally_of sums.old) text told (tally_of sums.new))) }
     ensures err { IfErr result (IsBrokenOff (O.told output.new)) }
+    ensures begun { OnErr result (Does (O.told output.old) (O.told output.new)
+        (T.told teller.old) (T.told teller.new) (λ text told. IsLinesStepBegun
+        (Gives (S.Shelf.told shelf.now) path.now) check.now (name_at path.now)
+        (tally_of sums.old) text told)) }
 {
     if is_input(path) {
         check_input(alloc, shelf, check, sums, output, teller)
@@ -71,6 +76,10 @@ fn check_input<S: OpenShelf, O: Sink, T: Telling>(
         (S.Shelf.told shelf.now).InputFails check.now (codes "<stdin>") (tally_of sums.old) text
         told (tally_of sums.new))) }
     ensures err { IfErr result (IsBrokenOff (O.told output.new)) }
+    ensures begun { OnErr result (Does (O.told output.old) (O.told output.new)
+        (T.told teller.old) (T.told teller.new) (λ text told. IsLinesStepBegun
+        (S.Shelf.told shelf.now).IsInput check.now (codes "<stdin>") (tally_of sums.old) text
+        told)) }
 {
     match shelf.open_input(alloc) {
         Ok(input) => check_stream(alloc, check, "<stdin>", input, sums, output, teller),
@@ -92,6 +101,10 @@ fn check_file<S: OpenShelf, O: Sink, T: Telling>(
         ((S.Shelf.told shelf.now).Fails path.now) check.now path.now (tally_of sums.old) text told
         (tally_of sums.new))) }
     ensures err { IfErr result (IsBrokenOff (O.told output.new)) }
+    ensures begun { OnErr result (Does (O.told output.old) (O.told output.new)
+        (T.told teller.old) (T.told teller.new) (λ text told. IsLinesStepBegun
+        ((S.Shelf.told shelf.now).Holds path.now) check.now path.now (tally_of sums.old) text
+        told)) }
 {
     match shelf.open(alloc, path) {
         Ok(file) => check_stream(alloc, check, path, file, sums, output, teller),
@@ -110,6 +123,7 @@ pub(crate) fn pass_unread<T: Telling>(
     ensures ok { OnOk result (PassesUnread name.now error (T.told teller.old)
         (T.told teller.new) (tally_of sums.old) (tally_of sums.new)) }
     ensures err { IfErr result (λ fault. fault ≡ Memory) }
+    ensures memory { OnErr result (T.told teller.new ≡ T.told teller.old) }
 {
     let name = String::from_str(alloc, name)?;
     pass_over(alloc, CheckTrouble::Unreadable(name, error), sums, teller)
@@ -128,6 +142,9 @@ fn check_stream<I: Source + Drop, O: Sink, T: Telling>(
         (T.told teller.new) (λ text told. AreRead (MayHave (I.told input).bytes) check.now name.now
         (tally_of sums.old) text told (tally_of sums.new))) }
     ensures err { IfErr result (IsBrokenOff (O.told output.new)) }
+    ensures begun { OnErr result (Does (O.told output.old) (O.told output.new)
+        (T.told teller.old) (T.told teller.new) (λ text told. IsLinesStepBegun
+        (MayHave (I.told input).bytes) check.now name.now (tally_of sums.old) text told)) }
 {
     match check_lines(alloc, check, sums.is_clean(), name, &mut input, output) {
         Ok(checked) => {
@@ -158,6 +175,7 @@ fn pass_broken<T: Telling>(
     ensures ok { OnOk result (PassesBroken name.now (T.told teller.old) (T.told teller.new)
         (tally_of sums.old) (tally_of sums.new)) }
     ensures err { IfErr result (λ fault. fault ≡ Memory) }
+    ensures memory { OnErr result (T.told teller.new ≡ T.told teller.old) }
 {
     let name = String::from_str(alloc, name)?;
     pass_over(alloc, CheckTrouble::Broken(name), sums, teller)

@@ -1,8 +1,10 @@
 // A path that is named.
 
-ghost use Rattle.std.specs.Prelude.{◌≡◌, None, Some, IfErr, IfOk, OnOk, map};
+ghost use Rattle.std.specs.Prelude.{◌≡◌, None, Some, IfErr, IfOk, OnErr, OnOk, map};
 ghost use Rattle.check_files.specs.Tally.{tally_of};
 ghost use Rattle.check_files.specs.Told.{Does, IsBrokenOff, Writes};
+ghost use Rattle.check_files.specs.Begun.{IsBeginning};
+ghost use Rattle.check_program.specs.Begun.{ArePathsBegun, IsPartStepBegun, IsPartText, IsPathBegun, IsReadBegun};
 ghost use Rattle.check_program.specs.Lines.{Fails, Gives};
 ghost use Rattle.check_program.specs.Paths as spec;
 ghost use Rattle.check_program.specs.Paths.{
@@ -58,7 +60,8 @@ impl<'w> Ways<'w> {
 ///
 /// # Errors
 ///
-/// What is found can't be written, or memory was refused.
+/// What is found can't be written, or memory was refused. What was written and told is then what comes of the paths before, and
+/// a beginning of what comes of the next one.
 pub(crate) fn check_paths<S: OpenShelf, O: Sink, T: Telling>(
     alloc: Global,
     shelf: &S,
@@ -74,6 +77,10 @@ pub(crate) fn check_paths<S: OpenShelf, O: Sink, T: Telling>(
         (ways_of ways.entry) (map path_in paths.now) (tally_of sums.old) text told
         (tally_of sums.new))) }
     ensures err { IfErr result (IsBrokenOff (O.told output.new)) }
+    ensures begun { OnErr result (Does (O.told output.old) (O.told output.new)
+        (T.told teller.old) (T.told teller.new) (λ text told. ArePathsBegun
+        (S.Shelf.told shelf.now) check.now (ways_of ways.entry) (map path_in paths.now)
+        (tally_of sums.old) text told)) }
 {
     for path in paths {
         check_path(alloc, shelf, check, ways, *path, sums, output, teller)?;
@@ -95,6 +102,10 @@ fn check_path<S: OpenShelf, O: Sink, T: Telling>(
         (T.told teller.new) (λ text told. IsPathStep (S.Shelf.told shelf.now) check.now
         (ways_of ways.entry) path.now (tally_of sums.old) text told (tally_of sums.new))) }
     ensures err { IfErr result (IsBrokenOff (O.told output.new)) }
+    ensures begun { OnErr result (Does (O.told output.old) (O.told output.new)
+        (T.told teller.old) (T.told teller.new) (λ text told. IsPathBegun
+        (S.Shelf.told shelf.now) check.now (ways_of ways.entry) path.now (tally_of sums.old) text
+        told)) }
 {
     match reading_of(alloc, shelf, ways.wanted, path) {
         Ok(reading) => check_as(
@@ -121,6 +132,10 @@ fn check_as<S: OpenShelf, O: Sink, T: Telling>(
         (ways_of ways.entry) reading path.now (tally_of sums.old) text told
         (tally_of sums.new))) }
     ensures err { IfErr result (IsBrokenOff (O.told output.new)) }
+    ensures begun { OnErr result (Does (O.told output.old) (O.told output.new)
+        (T.told teller.old) (T.told teller.new) (λ text told. IsReadBegun
+        (S.Shelf.told shelf.now) check.now (ways_of ways.entry) reading path.now
+        (tally_of sums.old) text told)) }
 {
     match reading {
         Reading::Lines => check_list(alloc, shelf, check, path, sums, output, teller),
@@ -151,6 +166,7 @@ fn pass_fault<T: Telling>(
     ensures ok { OnOk result (spec.PassesFault fault (T.told teller.old)
         (T.told teller.new) (tally_of sums.old) (tally_of sums.new)) }
     ensures err { IfErr result (λ fault. fault ≡ Memory) }
+    ensures memory { OnErr result (T.told teller.new ≡ T.told teller.old) }
 {
     match trouble_of(fault) {
         Some(trouble) => pass_over(alloc, trouble, sums, teller),
@@ -184,6 +200,9 @@ fn check_whole<S: Shelf, O: Sink, T: Telling>(
         (T.told teller.new) (λ text told. IsPartStep (S.told shelf.now) check.now form
         path.now (tally_of sums.old) text told (tally_of sums.new))) }
     ensures err { IfErr result (IsBrokenOff (O.told output.new)) }
+    ensures begun { OnErr result (Does (O.told output.old) (O.told output.new)
+        (T.told teller.old) (T.told teller.new) (λ text told. IsPartStepBegun
+        (S.told shelf.now) check.now form path.now (tally_of sums.old) text told)) }
 {
     let name = name_at(path);
     match bytes_at(alloc, shelf, path) {
@@ -216,6 +235,8 @@ fn check_part<O: Sink>(
         IsPartChecked check.now form name.now bytes.now (tally_of sums.old) text
         (tally_of sums.new))) }
     ensures err { IfErr result (IsBrokenOff (O.told output.new)) }
+    ensures begun { OnErr result (Writes (O.told output.old) (O.told output.new) (IsBeginning
+        (IsPartText check.now form name.now bytes.now (tally_of sums.old)))) }
 {
     match form {
         Some(form) => check_manifest(alloc, check, form, name, bytes, sums, output),
@@ -236,6 +257,8 @@ fn check_manifest<O: Sink>(
         IsPartChecked check.now (Some form) name.now bytes.now (tally_of sums.old) text
         (tally_of sums.new))) }
     ensures err { IfErr result (IsBrokenOff (O.told output.new)) }
+    ensures begun { OnErr result (Writes (O.told output.old) (O.told output.new) (IsBeginning
+        (IsPartText check.now (Some form) name.now bytes.now (tally_of sums.old)))) }
 {
     let bytes = without_mark(bytes);
     let source = Source { path: name, bytes };
@@ -255,6 +278,8 @@ fn check_tags<O: Sink>(
         IsPartChecked check.now None name.now bytes.now (tally_of sums.old) text
         (tally_of sums.new))) }
     ensures err { IfErr result (IsBrokenOff (O.told output.new)) }
+    ensures begun { OnErr result (Writes (O.told output.old) (O.told output.new) (IsBeginning
+        (IsPartText check.now None name.now bytes.now (tally_of sums.old)))) }
 {
     let text = utf16_text(alloc, bytes)?;
     let bytes = bytes_or(&text, bytes);

@@ -1,7 +1,8 @@
 // A run over all paths.
 
-ghost use Rattle.std.specs.Prelude.{◌≡◌, ◌<◌, ◌++◌, IfErr, IfOk, OnOk};
+ghost use Rattle.std.specs.Prelude.{◌≡◌, ◌<◌, ◌++◌, IfErr, IfOk, OnErr, OnOk};
 ghost use Rattle.std.specs.Io.KnownBytes.{Appends};
+ghost use Rattle.line_engine.specs.Progress.{AppendsBeginning};
 ghost use Rattle.finding_forms.specs.Forms.{beginning, ending};
 ghost use Rattle.check_files.specs.Told.{Does, IsBrokenOff};
 ghost use Rattle.check_program.specs.Clean.{AreAllClean};
@@ -94,7 +95,8 @@ impl From<CheckFault> for CheckEnd {
 ///
 /// # Errors
 ///
-/// The list isn't had, and nothing is written; what is found can't be written; or memory was refused.
+/// The list isn't had, and nothing is written; what is found can't be written; or memory was refused. Of a run that breaks off a
+/// beginning is written and told: what comes of the paths before, and a beginning of what comes of the next one.
 pub fn check<S: OpenShelf, O: Sink, T: Telling>(
     alloc: Global,
     shelf: &S,
@@ -169,6 +171,10 @@ fn check_by<S: OpenShelf, O: Sink, T: Telling>(
         spec.IsRunBy (S.Shelf.told shelf.now) check.now version.now request.entry text told
         status)) }
     ensures err { IfErr result (IsBrokenOff (O.told output.new)) }
+    ensures begun { OnErr result (Does (O.told output.old) (O.told output.new)
+        (T.told teller.old) (T.told teller.new) (λ text told.
+        spec.IsRunBegun (S.Shelf.told shelf.now) check.now version.now request.entry text
+        told)) }
 {
     let mut sums = Sums::new(alloc);
     put_first(alloc, check.format, version, output)?;
@@ -201,6 +207,8 @@ fn put_first<O: Sink>(
     ensures ok { OnOk result (Appends (O.told output.old).bytes (O.told output.new).bytes
         (beginning format version.now)) }
     ensures err { IfErr result (IsBrokenOff (O.told output.new)) }
+    ensures begun { OnErr result (AppendsBeginning (O.told output.old).bytes
+        (O.told output.new).bytes (beginning format version.now)) }
 {
     let mut text = Vec::new(alloc);
     put_beginning(alloc, &mut text, format, version)?;
@@ -219,6 +227,8 @@ fn put_last<O: Sink>(
     ensures ok { OnOk result (Appends (O.told output.old).bytes (O.told output.new).bytes
         (ending format ++ last_lines summary format sums.now)) }
     ensures err { IfErr result (IsBrokenOff (O.told output.new)) }
+    ensures begun { OnErr result (AppendsBeginning (O.told output.old).bytes
+        (O.told output.new).bytes (ending format ++ last_lines summary format sums.now)) }
 {
     let mut text = Vec::new(alloc);
     put_ending(&mut text, format)?;

@@ -1,3 +1,5 @@
+pub mod Lines
+pub mod Shown
 pub mod Written
 pub mod Findings
 pub mod Tags

@@ -13,7 +13,7 @@ use Rattle.manifests.specs.declared.site.Site.{Site}
 use Rattle.manifests.specs.Sites.{AreSites, IsReason, reads_slash}
 use Rattle.finding_forms.specs.Finding.{Seen, Told, nothing}
 use Rattle.finding_forms.specs.Forms.{finding_text}
-use Rattle.line_sights.specs.Lines.{line_of, within}
+use Rattle.check_sources.specs.Lines.{line_of, within}
 use Rattle.text_places.specs.Places.{column_of}
 use Rattle.spdx_check.specs.declared.check.Check.{Check}
 use Rattle.spdx_check.specs.Checking.{Spot}

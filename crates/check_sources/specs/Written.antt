@@ -2,7 +2,7 @@
 use Rattle.std.specs.Prelude.{ℕ, ◌+◌, ◌-◌, min, List, bytes_eq, length, take, drop, if◌then◌else◌}
 use Rattle.spdx_lexer.specs.Words.{Span}
 use Rattle.finding_forms.specs.Finding.{Seen, Told}
-use Rattle.line_sights.specs.Lines.{line_of, seen_at, within}
+use Rattle.check_sources.specs.Lines.{line_of, seen_at, within}
 use Rattle.text_places.specs.Places.{column_of}
 use Rattle.spdx_check.specs.Checking.{Spot, told_by}
 use Rattle.spdx_check.specs.Finding.{Wrong}

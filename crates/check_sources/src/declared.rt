@@ -20,11 +20,11 @@ ghost use Rattle.finding_forms.specs.Finding.{seen_of, told};
 ghost use Rattle.finding_forms.specs.Forms.{finding_text};
 ghost use Rattle.spdx_check.specs.Checking.{spot_of};
 
+use crate::cursor::Cursor;
 use crate::findings::{Findings, Source, findings_of};
 use crate::written::{Part, Written, shown_part};
 use finding_forms::{Finding, Help, Place, Sight, put_finding};
 use line_engine::lines::Summary;
-use line_sights::Cursor;
 use manifests::{Fault, Form, ManifestError, Reason, Site, reads_slash, sites};
 use spdx_check::Check;
 use spdx_lexer::token::ParseMode;

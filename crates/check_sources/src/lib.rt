@@ -1,20 +1,25 @@
-//! What is wrong with the license expressions of a source file or a manifest, told where they are written.
+//! What is wrong with the license expressions of a source file or a manifest, told where they are written: each place with its
+//! line, its column, and what is shown of that line round it.
 //!
 //! ```rust
 //! // crates/check_files/src/parts.rt
 //! let found = check_tags(alloc, check, sums.is_clean(), source)?;
 //! ```
 //!
-//! It stands on `license_tags` and `manifests`, which say where the expressions are, on `spdx_check`, which says what is
-//! wrong with each, and on `line_sights`, which says how a place in a file is told.
+//! It stands on `license_tags` and `manifests`, which say where the expressions are, and on `spdx_check`, which says what is
+//! wrong with each.
 #![tactic(auto)]
 
+mod cursor;
 mod declared;
 mod findings;
+mod shown;
 mod tags;
 mod written;
 
+pub use crate::cursor::Cursor;
 pub use crate::declared::{check_manifest, mode_in, reason_text};
 pub use crate::findings::{Findings, Source};
+pub use crate::shown::Shown;
 pub use crate::tags::{check_tags, is_binary};
 pub use crate::written::slice_in;

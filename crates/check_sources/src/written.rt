@@ -15,11 +15,12 @@ ghost use Rattle.check_sources.specs.Written.{
   spot_in,
   whole_of,
 };
-ghost use Rattle.line_sights.specs.Shown.{seen_in};
+ghost use Rattle.check_sources.specs.Shown.{seen_in};
 
+use crate::cursor::Cursor;
 use crate::findings::Source;
+use crate::shown::Shown;
 use finding_forms::{Place, put_finding};
-use line_sights::{Cursor, Shown};
 use spdx_check::{Check, Refusal, refusal_of};
 use std::alloc::{AllocError, Global};
 

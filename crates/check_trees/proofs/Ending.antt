@@ -4,7 +4,6 @@ use Rattle.std.specs.IoError.{error_kind}
 use Rattle.std.specs.List.{list_any}
 use Rattle.std.specs.declared.alloc.Global.{Global}
 use Rattle.std.specs.declared.io.Error.{Error}
-use Rattle.std.specs.declared.io.ErrorKind.{ErrorKind}
 use Rattle.std.specs.declared.io.ErrorKind.TheVariants.{OutOfMemory}
 use Rattle.std.proofs.lemmas.Bool.{true≢false}
 use Rattle.std.proofs.lemmas.List.{append-nil}
@@ -22,14 +21,14 @@ use Rattle.check_files.specs.Passing.{PassesOver, is_no_memory, is_of_memory, re
 use Rattle.check_files.specs.Tally.{Tally, with_texts}
 use Rattle.check_files.specs.Told.{Account, Does, Hears, Writes}
 use Rattle.check_files.proofs.Doing.{both, heard_alone, known, nothing, written_alone}
-use Rattle.check_trees.specs.Ends.{AreOwed, AreTexts, AreTextsOr, AreWholes, IsBareStep, IsEnd, IsEndBy, IsTextsFolder, IsTextsStep, IsUnseenBy, OwesTexts, are_none, left_trouble}
+use Rattle.check_trees.specs.Ends.{AreOwed, AreTexts, AreTextsOr, AreWholes, IsBareStep, IsEnd, IsEndBy, IsTextsFolder, IsTextsStep, OwesTexts, are_none, left_trouble}
 use Rattle.check_trees.specs.Steps.{AreSteps, IsWalked, PassesAll}
 use Rattle.check_trees.specs.Trees.{IsTreeChecked, IsTreeStep, Manner}
 
-no_memory : (e : Error) → error_kind e ≡ OutOfMemory → refuses_memory e ≡ true
+pub no_memory : (e : Error) → error_kind e ≡ OutOfMemory → refuses_memory e ≡ true
 no_memory e h = ap is_no_memory h
 
-first_had : (b c : Bool) → (b || c) ≡ false → b ≡ false
+pub first_had : (b c : Bool) → (b || c) ≡ false → b ≡ false
 first_had false c h = refl
 first_had true c h = h
 

@@ -1,3 +1,4 @@
+pub mod Begun
 pub mod Walked
 pub mod Seeing
 pub mod Sorting

@@ -1,5 +1,5 @@
 -- What is done with all that a walk comes to, one after the other.
-use Rattle.std.proofs.Common.{◌≡◌, ℕ, List, [], ◌∷◌, ◌++◌, Option, Some, None, subst, sym, append_assoc}
+use Rattle.std.proofs.Common.{ℕ, List, [], ◌∷◌, ◌++◌, Option, Some, None, subst, sym, append_assoc}
 use Rattle.std.proofs.lemmas.List.{append-nil}
 use Rattle.line_engine.specs.Device.{Told}
 use Rattle.shelves.specs.Shelf.{Shelved}
@@ -13,7 +13,7 @@ use Rattle.check_files.specs.declared.trouble.CheckTrouble.{CheckTrouble}
 use Rattle.check_files.specs.Noted.{Notes}
 use Rattle.check_files.specs.Tally.{Tally}
 use Rattle.check_files.specs.Told.{Account, Does, Hears}
-use Rattle.check_files.proofs.Doing.{both, hears_trans, known, nothing}
+use Rattle.check_files.proofs.Doing.{both, hears_trans, nothing}
 use Rattle.check_trees.specs.Steps as steps
 use Rattle.check_trees.specs.Steps.{AreSteps, IsSeenStep, IsSoFar, IsWalked}
 

@@ -1,13 +1,23 @@
 // The end of a folder.
 
-ghost use Rattle.std.specs.Prelude.{◌≡◌, IfErr, IfOk, OnOk, is_some, map, string_bytes};
+ghost use Rattle.std.specs.Prelude.{◌≡◌, IfErr, IfOk, OnErr, OnOk, Some, is_some, map, string_bytes};
 ghost use Rattle.std.specs.Option.{option_copied};
 ghost use Rattle.check_files.specs.Noted.{notes_of};
 ghost use Rattle.check_files.specs.Tally.{is_clean, tally_of, with_bare, with_texts};
-ghost use Rattle.check_files.specs.Told.{Does, Hears, IsBrokenOff, Writes};
+ghost use Rattle.check_files.specs.Begun.{IsBeginning};
+ghost use Rattle.check_files.specs.Told.{Does, Hears, IsBrokenOff, Tells, Writes};
 ghost use Rattle.check_files.specs.declared.trouble.CheckFault.TheVariants.{Memory};
 ghost use Rattle.source_trees.specs.Readings.{is_all};
 ghost use Rattle.check_told.specs.Owed.{bare_at, owed_by, whole_names, whole_of, wholes_text};
+ghost use Rattle.check_trees.specs.Begun.{
+  AreFirst,
+  AreFirstPassed,
+  IsBareBegun,
+  IsEndBegun,
+  IsOwedBegun,
+  IsTextsStepBegun,
+  IsWholesText,
+};
 ghost use Rattle.check_trees.specs.Ends as spec;
 ghost use Rattle.check_trees.specs.Ends.{AreOwed, AreWholes, IsBareStep, IsEnd, IsTextsStep, left_trouble};
 ghost use Rattle.check_trees.specs.Steps.{PassesAll};
@@ -43,6 +53,10 @@ pub(crate) fn end_folder<S: Shelf, O: Sink, T: Telling>(
         check.now is_told (option_copied below.entry.folder) (notes_of noted)
         (tally_of sums.old) text told (tally_of sums.new))) }
     ensures err { IfErr result (IsBrokenOff (O.told output.new)) }
+    ensures begun { OnErr result (Does (O.told output.old) (O.told output.new)
+        (T.told teller.old) (T.told teller.new) (λ text told. IsEndBegun
+        (is_all below.entry.taken) (S.told shelf.now) check.now is_told
+        (option_copied below.entry.folder) (notes_of noted) (tally_of sums.old) text told)) }
 {
     let Noted {
         used,
@@ -82,8 +96,10 @@ fn tell_left<T: Telling>(
     left_behind: Vec<String>,
     teller: &mut T,
 ) -> Result<(), AllocError>
-    ensures { OnOk result (Hears (T.told teller.old) (T.told teller.new)
+    ensures all { OnOk result (Hears (T.told teller.old) (T.told teller.new)
         (map left_trouble left_behind.items)) }
+    ensures begun { OnErr result (Tells (T.told teller.old) (T.told teller.new)
+        (AreFirst (map left_trouble left_behind.items))) }
 {
     for path in left_behind {
         teller.tell(alloc, CheckTrouble::LeftBehind(path))?;
@@ -107,6 +123,10 @@ fn tell_texts<S: Shelf, O: Sink, T: Telling>(
         (option_copied folder.entry) (map string_bytes used.now) (tally_of sums.old) text told
         (tally_of sums.new))) }
     ensures err { IfErr result (IsBrokenOff (O.told output.new)) }
+    ensures begun { OnErr result (Does (O.told output.old) (O.told output.new)
+        (T.told teller.old) (T.told teller.new) (λ text told. IsTextsStepBegun
+        (S.told shelf.now) check.now (option_copied folder.entry) (map string_bytes used.now)
+        (tally_of sums.old) text told)) }
 {
     match folder {
         Some(folder) => tell_owed(alloc, shelf, check, folder, used, sums, output, teller),
@@ -128,6 +148,10 @@ fn tell_owed<S: Shelf, O: Sink, T: Telling>(
         (T.told teller.new) (λ text told. spec.OwesTexts (S.told shelf.now) check.now folder.now
         (map string_bytes used.now) (tally_of sums.old) text told (tally_of sums.new))) }
     ensures err { IfErr result (IsBrokenOff (O.told output.new)) }
+    ensures begun { OnErr result (Does (O.told output.old) (O.told output.new)
+        (T.told teller.old) (T.told teller.new) (λ text told. IsTextsStepBegun
+        (S.told shelf.now) check.now (Some folder.now) (map string_bytes used.now)
+        (tally_of sums.old) text told)) }
 {
     let texts = texts_in(alloc, shelf, folder)?;
     put_or_pass(alloc, check, folder, used, texts, sums, output, teller)
@@ -149,6 +173,10 @@ fn put_or_pass<O: Sink, T: Telling>(
         (map string_bytes used.now) (map string_bytes texts.files.items) texts.troubles.items
         (tally_of sums.old) text told (tally_of sums.new))) }
     ensures err { IfErr result (IsBrokenOff (O.told output.new)) }
+    ensures begun { OnErr result (Does (O.told output.old) (O.told output.new)
+        (T.told teller.old) (T.told teller.new) (λ text told. IsOwedBegun check.now folder.now
+        (map string_bytes used.now) (map string_bytes texts.files.items) texts.troubles.items
+        (tally_of sums.old) text told)) }
 {
     let Texts { files, troubles } = texts;
     if are_none(&troubles) {
@@ -177,6 +205,8 @@ fn pass_all<T: Telling>(
     ensures ok { OnOk result (PassesAll troubles.items (T.told teller.old) (T.told teller.new)
         (tally_of sums.old) (tally_of sums.new)) }
     ensures err { IfErr result (λ fault. fault ≡ Memory) }
+    ensures begun { OnErr result (Tells (T.told teller.old) (T.told teller.new)
+        (AreFirstPassed troubles.items)) }
 {
     for trouble in troubles {
         pass_over(alloc, trouble, sums, teller)?;
@@ -199,6 +229,9 @@ fn put_owed<O: Sink>(
         (whole_names (map string_bytes files.now))) with_texts (tally_of sums.old) text
         (tally_of sums.new))) }
     ensures err { IfErr result (IsBrokenOff (O.told output.new)) }
+    ensures begun { OnErr result (Writes (O.told output.old) (O.told output.new) (IsBeginning
+        (IsWholesText check.now (owed_by folder.now (map string_bytes used.now)
+        (whole_names (map string_bytes files.now))) (tally_of sums.old)))) }
 {
     let wholes = owed_by(alloc, folder, used, files)?;
     let text = text_of_wholes(alloc, check, sums, &wholes)?;
@@ -235,6 +268,8 @@ fn tell_bare<O: Sink>(
         IsBareStep is_told check.now has_texts (map string_bytes untagged.now)
         (tally_of sums.old) text (tally_of sums.new))) }
     ensures err { IfErr result (IsBrokenOff (O.told output.new)) }
+    ensures begun { OnErr result (Writes (O.told output.old) (O.told output.new)
+        (IsBareBegun is_told check.now (map string_bytes untagged.now) (tally_of sums.old))) }
 {
     if is_told {
         return put_bare(alloc, check, untagged, sums, output);
@@ -257,6 +292,9 @@ fn put_bare<O: Sink>(
         AreWholes check.now (map bare_at (map string_bytes untagged.now)) with_bare
         (tally_of sums.old) text (tally_of sums.new))) }
     ensures err { IfErr result (IsBrokenOff (O.told output.new)) }
+    ensures begun { OnErr result (Writes (O.told output.old) (O.told output.new) (IsBeginning
+        (IsWholesText check.now (map bare_at (map string_bytes untagged.now))
+        (tally_of sums.old)))) }
 {
     let wholes = without_license(alloc, untagged)?;
     let text = text_of_wholes(alloc, check, sums, &wholes)?;

@@ -1,6 +1,6 @@
 // What is done with all that a walk comes to.
 
-ghost use Rattle.std.specs.Prelude.{◌≡◌, [], IfErr, OnOk, string_bytes};
+ghost use Rattle.std.specs.Prelude.{◌≡◌, [], IfErr, OnErr, OnOk, string_bytes};
 ghost use Rattle.std.specs.Option.{option_copied};
 ghost use Rattle.check_files.specs.Noted.{notes_of};
 ghost use Rattle.check_files.specs.Tally.{tally_of, with_left_out};
@@ -8,6 +8,7 @@ ghost use Rattle.check_files.specs.Told.{Does, Hears, IsBrokenOff};
 ghost use Rattle.check_files.specs.declared.trouble.CheckFault.TheVariants.{Memory};
 ghost use Rattle.source_trees.specs.Walks.{waiting};
 ghost use Rattle.source_trees.specs.declared.walk.Seen.TheVariants.{Folder};
+ghost use Rattle.check_trees.specs.Begun.{IsSeenBegun, IsWalkBegun};
 ghost use Rattle.check_trees.specs.Steps.{IsSeenStep, IsWalked, PassesIf, trouble_of, with_left};
 
 use check_files::{Below, CheckFault, CheckTrouble, Noted, Telling, check_file, pass_over};
@@ -39,6 +40,10 @@ pub(crate) fn walked<S: Shelf, O: Sink, T: Telling>(
         (O.told output.old) (O.told output.new) (T.told teller.old) (T.told teller.new)
         (tally_of sums.new) (notes_of noted.new)) }
     ensures err { IfErr result (IsBrokenOff (O.told output.new)) }
+    ensures begun { OnErr result (Does (O.told output.old) (O.told output.new)
+        (T.told teller.old) (T.told teller.new) (λ text told. IsWalkBegun (S.told shelf.now)
+        check.now below.entry.taken (option_copied below.entry.folder) (waiting walk)
+        (tally_of sums.old) (notes_of noted.old) text told)) }
 {
     let mut files = 0;
     for turn in 0..u64::MAX {
@@ -89,6 +94,10 @@ fn check_seen<S: Shelf, O: Sink, T: Telling>(
         below.entry.taken (option_copied below.entry.folder) seen (tally_of sums.old)
         (notes_of noted.old) text told (tally_of sums.new) (notes_of noted.new))) }
     ensures err { IfErr result (IsBrokenOff (O.told output.new)) }
+    ensures begun { OnErr result (Does (O.told output.old) (O.told output.new)
+        (T.told teller.old) (T.told teller.new) (λ text told. IsSeenBegun (S.told shelf.now)
+        check.now below.entry.taken (option_copied below.entry.folder) seen (tally_of sums.old)
+        (notes_of noted.old) text told)) }
 {
     match seen {
         Seen::File(path) => check_file(
@@ -143,6 +152,7 @@ fn pass_unnamed<T: Telling>(
     ensures ok { OnOk result (PassesIf (trouble_of (Folder path unnamed)) (T.told teller.old)
         (T.told teller.new) (tally_of sums.old) (tally_of sums.new)) }
     ensures err { IfErr result (λ fault. fault ≡ Memory) }
+    ensures memory { OnErr result (T.told teller.new ≡ T.told teller.old) }
 {
     if unnamed == 0 {
         Ok(())

@@ -1,10 +1,11 @@
 // All that is below a folder.
 
-ghost use Rattle.std.specs.Prelude.{◌≡◌, IfErr, OnOk};
+ghost use Rattle.std.specs.Prelude.{◌≡◌, IfErr, OnErr, OnOk};
 ghost use Rattle.check_files.specs.Noted.{nothing_noted};
 ghost use Rattle.check_files.specs.Tally.{tally_of};
 ghost use Rattle.check_files.specs.Told.{Does, IsBrokenOff};
 ghost use Rattle.source_trees.specs.Walks.{IsBegun, waiting};
+ghost use Rattle.check_trees.specs.Begun.{IsTreeBegun};
 ghost use Rattle.check_trees.specs.Trees.{IsTreeChecked, IsTreeStep, manner_of};
 
 use crate::ends::end_folder;
@@ -35,7 +36,8 @@ pub struct Manner<'m> {
 ///
 /// # Errors
 ///
-/// What is found can't be written, or memory was refused.
+/// What is found can't be written, or memory was refused. What was written and told is then what comes of all that the walk came
+/// to before, and a beginning of what comes next, or of the end of the folder.
 pub fn check_tree<S: Shelf, O: Sink, T: Telling>(
     alloc: Global,
     shelf: &S,
@@ -50,6 +52,9 @@ pub fn check_tree<S: Shelf, O: Sink, T: Telling>(
         (T.told teller.new) (λ text told. IsTreeStep (S.told shelf.now) check.now
         (manner_of manner.entry) path.now (tally_of sums.old) text told (tally_of sums.new))) }
     ensures err { IfErr result (IsBrokenOff (O.told output.new)) }
+    ensures begun { OnErr result (Does (O.told output.old) (O.told output.new)
+        (T.told teller.old) (T.told teller.new) (λ text told. IsTreeBegun (S.told shelf.now)
+        check.now (manner_of manner.entry) path.now (tally_of sums.old) text told)) }
 {
     match Walk::new(alloc, shelf, path) {
         Ok(walk) => check_below(
@@ -78,6 +83,10 @@ fn check_below<S: Shelf, O: Sink, T: Telling>(
         (λ text told. IsTreeChecked (S.told shelf.now) check.now (manner_of manner.entry)
         path.now (tally_of sums.old) text told (tally_of sums.new))) }
     ensures err { IfErr result (IsBrokenOff (O.told output.new)) }
+    ensures begun { OnErr result (IsBegun (S.told shelf.now) path.now (waiting walk) →
+        Does (O.told output.old) (O.told output.new) (T.told teller.old) (T.told teller.new)
+        (λ text told. IsTreeBegun (S.told shelf.now) check.now (manner_of manner.entry) path.now
+        (tally_of sums.old) text told)) }
 {
     let folder = texts_folder(alloc, shelf, manner.texts, path)?;
     let below = Below {

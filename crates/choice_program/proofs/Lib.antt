@@ -1,3 +1,10 @@
+pub mod Allowing
+pub mod Judging
+pub mod Owning
+pub mod Joining
+pub mod Numbers
+pub mod Served
+pub mod Laws
 pub mod Naming
 pub mod Stating
 pub mod Causes

@@ -1,3 +1,8 @@
+pub mod Judged
+pub mod Picked
+pub mod Allowed
+pub mod Agreed
+pub mod Chosen
 pub mod Unchosen
 pub mod Named
 pub mod Licensees

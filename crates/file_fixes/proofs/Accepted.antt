@@ -7,13 +7,13 @@ use Rattle.std.specs.Option.{option_or}
 use Rattle.std.proofs.lemmas.List.{take-append-drop}
 use Rattle.spdx_requirement.specs.Rows.{Rows}
 use Rattle.manifests.specs.declared.form.Form.{Form}
-use Rattle.fix_sources.specs.declared.FixedText.{FixedText}
-use Rattle.fix_sources.specs.Fixing.{IsFixed, IsRead, bytes_after, texts_in}
-use Rattle.fix_sources.specs.Mending.{Marked, marked}
-use Rattle.fix_sources.specs.Spans.{tag_spans}
-use Rattle.fix_sources.proofs.Laws as text
-use Rattle.manifest_fixes.specs.Fixing as manifest
-use Rattle.manifest_fixes.proofs.Laws as manifest_laws
+use Rattle.file_fixes.specs.declared.FixedText.{FixedText}
+use Rattle.file_fixes.specs.Fixing.{IsFixed, IsRead, bytes_after, texts_in}
+use Rattle.file_fixes.specs.Mending.{Marked, marked}
+use Rattle.file_fixes.specs.Spans.{tag_spans}
+use Rattle.file_fixes.proofs.Laws as text
+use Rattle.file_fixes.specs.ManifestFixing as manifest
+use Rattle.file_fixes.proofs.ManifestLaws as manifest_laws
 use Rattle.file_fixes.specs.declared.mended.Outcome.{Outcome}
 use Rattle.file_fixes.specs.declared.mended.Parts.{Parts}
 use Rattle.file_fixes.specs.declared.mended.Parts.TheVariants as parts

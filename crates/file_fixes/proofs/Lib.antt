@@ -1,1 +1,11 @@
+pub mod ManifestLaws
+pub mod ManifestSettled
+pub mod Slashed
+pub mod SoFar
+pub mod Settled
+pub mod Pieces
+pub mod Progress
+pub mod Lines
+pub mod Texts
+pub mod Laws
 pub mod Accepted

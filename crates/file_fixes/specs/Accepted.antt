@@ -5,12 +5,12 @@ use Rattle.spdx_requirement.specs.Rows.{Rows}
 use Rattle.manifests.specs.declared.form.Form.{Form}
 use Rattle.manifests.specs.declared.site.Site.{Site}
 use Rattle.manifests.specs.Sites.{AreSites}
-use Rattle.fix_sources.specs.declared.Span.{Span}
-use Rattle.fix_sources.specs.Fixing.{IsRead, IsTextAfter, texts_in}
-use Rattle.fix_sources.specs.Mending.{Marked, marked}
-use Rattle.fix_sources.specs.Spans.{line_spans, tag_spans}
-use Rattle.manifest_fixes.specs.Fixing as manifest
-use Rattle.manifest_fixes.specs.Fixing.{texts_of}
+use Rattle.file_fixes.specs.declared.Span.{Span}
+use Rattle.file_fixes.specs.Fixing.{IsRead, IsTextAfter, texts_in}
+use Rattle.file_fixes.specs.Mending.{Marked, marked}
+use Rattle.file_fixes.specs.Spans.{line_spans, tag_spans}
+use Rattle.file_fixes.specs.ManifestFixing as manifest
+use Rattle.file_fixes.specs.ManifestFixing.{texts_of}
 use Rattle.file_fixes.specs.declared.mended.Outcome.{Outcome}
 use Rattle.file_fixes.specs.declared.mended.Parts.{Parts}
 use Rattle.file_fixes.specs.declared.mended.Parts.TheVariants as parts

@@ -7,13 +7,13 @@ use Rattle.spdx_requirement.specs.Rows.{Rows}
 use Rattle.manifests.specs.declared.form.Form.{Form}
 use Rattle.manifests.specs.declared.site.Fault.{Fault}
 use Rattle.manifests.specs.declared.site.ManifestError.TheVariants.{Refused}
-use Rattle.line_sights.specs.Lines.{line_of, within}
-use Rattle.fix_sources.specs.declared.FixedText.{FixedText}
-use Rattle.fix_sources.specs.Fixing.{IsFixed, bytes_after}
-use Rattle.fix_sources.specs.Mending.{Marked, marked}
-use Rattle.fix_sources.specs.Spans.{line_spans, tag_spans}
-use Rattle.manifest_fixes.specs.Fixing as manifest
-use Rattle.manifest_fixes.specs.declared.FixedManifest.{FixedManifest}
+use Rattle.check_sources.specs.Lines.{line_of, within}
+use Rattle.file_fixes.specs.declared.FixedText.{FixedText}
+use Rattle.file_fixes.specs.Fixing.{IsFixed, bytes_after}
+use Rattle.file_fixes.specs.Mending.{Marked, marked}
+use Rattle.file_fixes.specs.Spans.{line_spans, tag_spans}
+use Rattle.file_fixes.specs.ManifestFixing as manifest
+use Rattle.file_fixes.specs.declared.FixedManifest.{FixedManifest}
 use Rattle.file_fixes.specs.declared.mended.ManifestFault.{ManifestFault}
 use Rattle.file_fixes.specs.declared.mended.MendError.{MendError}
 use Rattle.file_fixes.specs.declared.mended.MendError.TheVariants as error

@@ -1,7 +1,7 @@
 // What becomes of the bytes of a file.
 
 ghost use Rattle.std.specs.Prelude.{◌≡◌, ◌≤◌, ◌++◌, IfErr, IfOk, false, length};
-ghost use Rattle.fix_sources.specs.Fixing.{bytes_after};
+ghost use Rattle.file_fixes.specs.Fixing.{bytes_after};
 ghost use Rattle.file_fixes.specs.Accepted.{Accepts, Reads, Stays};
 ghost use Rattle.file_fixes.specs.Mended as spec;
 ghost use Rattle.file_fixes.specs.Mended.{
@@ -15,9 +15,10 @@ ghost use Rattle.file_fixes.specs.Mended.{
   IsUnmended,
 };
 
-use fix_sources::{FixedText, fix_lines, fix_tags};
-use line_sights::Cursor;
-use manifest_fixes::{FixedManifest, fix_manifest};
+use crate::fixed::fix_manifest;
+use crate::fixing::{fix_lines, fix_tags};
+use crate::{FixedManifest, FixedText};
+use check_sources::Cursor;
 use manifests::{Fault, Form, ManifestError, Reason};
 use spdx_catalogue::Catalogue;
 use std::alloc::{AllocError, Global};

@@ -13,7 +13,7 @@ use Rattle.source_trees.specs.declared.reading.Taken.{Taken}
 use Rattle.source_trees.specs.declared.reading.Wanted.{Wanted}
 use Rattle.source_trees.specs.declared.walk.Seen.{Seen}
 use Rattle.source_trees.specs.declared.walk.Seen.TheVariants as seen
-use Rattle.fix_sources.specs.Fixing.{bytes_after}
+use Rattle.file_fixes.specs.Fixing.{bytes_after}
 use Rattle.fix_program.specs.declared.ends.FileEnd.{FileEnd}
 use Rattle.fix_program.specs.declared.ends.FileEnd.TheVariants as end
 use Rattle.file_fixes.specs.declared.mended.Parts.{Parts}

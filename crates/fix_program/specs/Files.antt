@@ -9,7 +9,7 @@ use Rattle.shelves.specs.declared.shelf.Stamp.{Stamp}
 use Rattle.spdx_requirement.specs.Rows.{Rows}
 use Rattle.line_diff.specs.Diff.{diff_of, rows_of}
 use Rattle.fix_program.specs.Diffs.{diff_name}
-use Rattle.fix_sources.specs.Fixing.{bytes_after}
+use Rattle.file_fixes.specs.Fixing.{bytes_after}
 use Rattle.file_fixes.specs.Accepted.{Reads}
 use Rattle.file_fixes.specs.Mended.{IsMended, IsUnmended}
 use Rattle.fix_program.specs.declared.file.Deed.{Deed}

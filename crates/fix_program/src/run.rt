@@ -36,6 +36,8 @@ pub struct Request<'a> {
     pub wanted: Wanted<'a>,
     /// Whether files are to be written; else diffs are put out.
     pub is_written: bool,
+    /// Whether a file that has other names, which keep the old bytes then, is to be written too.
+    pub breaks_links: bool,
     /// The paths of the files and folders; `-` is standard input.
     pub paths: &'a [&'a str],
 }

@@ -3,7 +3,7 @@
 //! It reads no expression: it gives their places, and whoever asked reads them.
 //!
 //! ```rust
-//! // crates/fix_sources/src/spans.rt
+//! // crates/file_fixes/src/spans.rt
 //! for tag in tags(alloc, bytes, comment_of(path))? {
 //! ```
 //!

@@ -1,2 +1,5 @@
+pub mod Parted
+pub mod Cut
+pub mod Gathered
 pub mod Causes
 pub mod Twice

@@ -2,7 +2,7 @@
 use Rattle.std.specs.Prelude.{◌≡◌, ℕ, Bool, true, false, List, Option, Some, None, codes}
 use Rattle.std.specs.Path.{path_join}
 use Rattle.spdx_tables.specs.TableReading.{date_in}
-use Rattle.list_lines.specs.Lines.{day_in}
+use Rattle.list_program.specs.Lines.{day_in}
 use Rattle.spdx_list.specs.Dates.{released_in}
 use Rattle.shelves.specs.Shelf.{Shelved}
 use Rattle.list_program.specs.Named.{InsideBytes}

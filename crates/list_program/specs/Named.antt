@@ -7,7 +7,7 @@ use Rattle.spdx_catalogue.specs.Names.{without_plus}
 use Rattle.spdx_catalogue.specs.Reading.{catalogue_in}
 use Rattle.spdx_list.specs.Files.{ExtraRows, extras_in}
 use Rattle.spdx_list.specs.Made.{Makes}
-use Rattle.list_lines.specs.Reading.{IsListOf}
+use Rattle.list_program.specs.Reading.{IsListOf}
 use Rattle.shelves.specs.Shelf.{Shelved}
 
 -- what a program has inside: a list as lines, and what this project says besides SPDX's files

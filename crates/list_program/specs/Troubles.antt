@@ -5,9 +5,9 @@ use Rattle.spdx_requirement.specs.Rows.{Rows}
 use Rattle.spdx_catalogue.specs.declared.error.ReadFault.{ReadFault}
 use Rattle.spdx_catalogue.specs.declared.error.ReadFault.TheVariants as read
 use Rattle.spdx_catalogue.specs.Reading.{catalogue_in}
-use Rattle.list_lines.specs.Reading.{IsNoListOf}
-use Rattle.list_lines.specs.declared.read.LinesFault.{LinesFault}
-use Rattle.list_lines.specs.declared.read.LinesFault.TheVariants as fault
+use Rattle.list_program.specs.Reading.{IsNoListOf}
+use Rattle.list_program.specs.declared.read.LinesFault.{LinesFault}
+use Rattle.list_program.specs.declared.read.LinesFault.TheVariants as fault
 use Rattle.spdx_list.specs.declared.error.ListFault.{ListFault}
 use Rattle.spdx_list.specs.Files.{ExtraRows, extras_in}
 use Rattle.spdx_list.specs.Made.{Makes, IsRefused}

@@ -2,7 +2,7 @@
 
 ghost use Rattle.std.specs.Prelude.{◌≡◌, ℕ, List, IfErr, IfOk, option_map, string_bytes};
 ghost use Rattle.std.specs.Option.{option_copied};
-ghost use Rattle.list_lines.specs.Lines.{day_in};
+ghost use Rattle.list_program.specs.Lines.{day_in};
 ghost use Rattle.list_program.specs.declared.trouble.ListTrouble.TheVariants.{Memory};
 ghost use Rattle.list_program.specs.Dated.{
   IsDateAt,
@@ -14,8 +14,8 @@ ghost use Rattle.list_program.specs.Named.{inside_of};
 ghost use Rattle.list_program.specs.Troubles.{IsNoListAt, IsNoListNamed, IsNoNamedList};
 
 use crate::named::{Inside, bytes_below, bytes_of, is_folder};
+use crate::read::day_in_lines;
 use crate::trouble::ListTrouble;
-use list_lines::day_in_lines;
 use shelves::{Shelf, VariableFault};
 use spdx_list::release_date;
 use spdx_tables::version_date;

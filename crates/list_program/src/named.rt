@@ -16,7 +16,7 @@ ghost use Rattle.list_program.specs.Named.{
   MakesWith,
   inside_of,
 };
-ghost use Rattle.list_lines.specs.Reading.{IsListOf};
+ghost use Rattle.list_program.specs.Reading.{IsListOf};
 ghost use Rattle.list_program.specs.Troubles as troubles;
 ghost use Rattle.list_program.specs.Troubles.{
   AreNoExtras,
@@ -28,8 +28,8 @@ ghost use Rattle.list_program.specs.Troubles.{
   IsUnreadable,
 };
 
+use crate::read::{LinesFault, catalogue_in_lines};
 use crate::trouble::ListTrouble;
-use list_lines::{LinesFault, catalogue_in_lines};
 use shelves::{Shelf, VariableFault};
 use spdx_catalogue::{Catalogue, ReadFault};
 use spdx_list::{Extras, ListFault, catalogue_of};

@@ -17,17 +17,17 @@ use Rattle.choice_program.specs.Among.{AreChosen, HasOwn, IsMeant, Meant, trees_
 use Rattle.choice_program.specs.Choose.{IsChosenAmong}
 use Rattle.choice_program.specs.Named.{Named, named, shown_all}
 use Rattle.choice_program.specs.declared.choosing.Chosen.{Chosen}
-use Rattle.policy_choices.specs.Allowed.{IsChosenByPolicy}
-use Rattle.policy_choices.specs.Judged.{HasOwn as HasPick}
+use Rattle.choice_program.specs.Allowed.{IsChosenByPolicy}
+use Rattle.choice_program.specs.Judged.{HasOwn as HasPick}
 use Rattle.spdx_gate.specs.declared.judged.Judged.{Judged}
 use Rattle.spdx_policy.specs.Rules.{Rules}
-use Rattle.policy_choices.specs.Chosen.{IsChosen}
-use Rattle.policy_choices.specs.Picked.{AreParts, Pick, judged_in, requirements_of, tree_of}
-use Rattle.policy_choices.specs.declared.acceptance.Accepted.{Accepted}
-use Rattle.policy_choices.specs.declared.acceptance.Accepted.TheVariants as accepted
-use Rattle.own_texts.specs.All.{AreAllOwn, next, none}
-use Rattle.own_texts.specs.Own.{Owner, Read}
-use Rattle.own_texts.specs.declared.own.Reading.{Reading}
+use Rattle.choice_program.specs.Chosen.{IsChosen}
+use Rattle.choice_program.specs.Picked.{AreParts, Pick, judged_in, requirements_of, tree_of}
+use Rattle.choice_program.specs.declared.acceptance.Accepted.{Accepted}
+use Rattle.choice_program.specs.declared.acceptance.Accepted.TheVariants as accepted
+use Rattle.owed_texts.specs.All.{AreAllOwn, next, none}
+use Rattle.owed_texts.specs.Own.{Owner, Read}
+use Rattle.owed_texts.specs.declared.own.Reading.{Reading}
 use Rattle.notice_told.specs.declared.packages.Package.{Package}
 use Rattle.notice_program.specs.Noted.{Noted, noted, noted_by, noted_in}
 use Rattle.notice_program.specs.Taken.{Entry, Taken, Used, entries_in, owner, package_of, packages_in, taken, taken_in, used, used_in}

@@ -18,13 +18,13 @@ use Rattle.notice_told.specs.declared.page.NoticeFault.TheVariants as fault
 use Rattle.notice_told.specs.declared.page.NoticeText.{NoticeText}
 use Rattle.notice_told.specs.Lacks.{Lacked, lacks_in, seen_lack}
 use Rattle.notice_told.specs.Page.{IsNotice, IsNoticeFault}
-use Rattle.own_texts.specs.declared.all.AllOwn.{AllOwn}
-use Rattle.own_texts.specs.declared.own.Placed.{Placed}
-use Rattle.own_texts.specs.declared.own.Reading.{Reading}
-use Rattle.own_texts.specs.All.{AreAllOwn, reads_in}
-use Rattle.own_texts.specs.Own.{Owner, Read, owner_of}
-use Rattle.general_texts.specs.declared.held.HeldTexts.{HeldTexts}
-use Rattle.general_texts.specs.Held.{Text, each_first, lacked_by}
+use Rattle.owed_texts.specs.declared.all.AllOwn.{AllOwn}
+use Rattle.owed_texts.specs.declared.own.Placed.{Placed}
+use Rattle.owed_texts.specs.declared.own.Reading.{Reading}
+use Rattle.owed_texts.specs.All.{AreAllOwn, reads_in}
+use Rattle.owed_texts.specs.Own.{Owner, Read, owner_of}
+use Rattle.owed_texts.specs.declared.held.HeldTexts.{HeldTexts}
+use Rattle.owed_texts.specs.Held.{Text, each_first, lacked_by}
 use Rattle.notice_program.specs.declared.end.End.TheVariants as end
 use Rattle.notice_program.specs.declared.end.Request.{Request}
 use Rattle.notice_program.specs.declared.end.ToldPage.{ToldPage}

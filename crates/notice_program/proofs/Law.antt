@@ -13,9 +13,9 @@ use Rattle.package_files.specs.declared.listed.Listed.{Listed}
 use Rattle.choice_program.specs.declared.choosing.ChoiceTrouble.{ChoiceTrouble}
 use Rattle.choice_program.specs.declared.choosing.ChoiceTrouble.TheVariants as choice
 use Rattle.choice_program.specs.declared.choosing.Chosen.{Chosen}
-use Rattle.policy_choices.specs.Chosen.{IsChosen}
-use Rattle.general_texts.specs.Held.{Text}
-use Rattle.own_texts.specs.Own.{Read}
+use Rattle.choice_program.specs.Chosen.{IsChosen}
+use Rattle.owed_texts.specs.Held.{Text}
+use Rattle.owed_texts.specs.Own.{Read}
 use Rattle.notice_told.specs.declared.lacks.GeneralText.{GeneralText}
 use Rattle.notice_told.specs.declared.lacks.Lack.{Lack}
 use Rattle.notice_told.specs.declared.packages.Package.{Package}

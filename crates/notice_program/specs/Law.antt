@@ -9,12 +9,12 @@ use Rattle.list_program.specs.Named.{InsideBytes, IsNamedList}
 use Rattle.package_files.specs.All.{path_in}
 use Rattle.package_files.specs.Listed.{IsListedAt}
 use Rattle.choice_program.specs.declared.choosing.Chosen.{Chosen}
-use Rattle.policy_choices.specs.Chosen.{IsChosen}
+use Rattle.choice_program.specs.Chosen.{IsChosen}
 use Rattle.notice_forms.specs.Pages.{page_in}
 use Rattle.notice_forms.specs.Told.{Told}
 use Rattle.notice_told.specs.declared.packages.Package.{Package}
 use Rattle.notice_told.specs.Lacks.{Lacked}
-use Rattle.own_texts.specs.Own.{Read}
+use Rattle.owed_texts.specs.Own.{Read}
 use Rattle.notice_program.specs.declared.end.End.{End}
 use Rattle.notice_program.specs.declared.end.End.TheVariants as end
 use Rattle.notice_program.specs.declared.end.ToldPage.{ToldPage}

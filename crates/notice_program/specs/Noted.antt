@@ -9,8 +9,8 @@ use Rattle.notice_told.specs.declared.lacks.GeneralText.{GeneralText}
 use Rattle.notice_told.specs.declared.packages.OwnFile.{OwnFile}
 use Rattle.notice_told.specs.declared.packages.Package.{Package}
 use Rattle.choice_program.specs.Named.{Named}
-use Rattle.own_texts.specs.Own.{Read}
-use Rattle.general_texts.specs.Held.{Text}
+use Rattle.owed_texts.specs.Own.{Read}
+use Rattle.owed_texts.specs.Held.{Text}
 use Rattle.notice_program.specs.Taken.{Taken, named_in, taken_by}
 
 -- a package with what it is used under, and its own files

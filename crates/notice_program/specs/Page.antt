@@ -8,11 +8,11 @@ use Rattle.text_files.specs.declared.trouble.Obstacle.TheVariants as obstacle
 use Rattle.text_files.specs.declared.trouble.TextTrouble.{TextTrouble}
 use Rattle.text_files.specs.Trouble.{IsOf}
 use Rattle.text_files.specs.Within.{IsFailing}
-use Rattle.own_texts.specs.declared.home.OwnTexts.{OwnTexts}
-use Rattle.own_texts.specs.declared.home.OwnTexts.TheVariants as own
-use Rattle.own_texts.specs.declared.own.Reading.{Reading}
-use Rattle.own_texts.specs.All.{AreAllOwn}
-use Rattle.own_texts.specs.Own.{Read}
+use Rattle.owed_texts.specs.declared.home.OwnTexts.{OwnTexts}
+use Rattle.owed_texts.specs.declared.home.OwnTexts.TheVariants as own
+use Rattle.owed_texts.specs.declared.own.Reading.{Reading}
+use Rattle.owed_texts.specs.All.{AreAllOwn}
+use Rattle.owed_texts.specs.Own.{Read}
 use Rattle.notice_told.specs.declared.lacks.GeneralText.{GeneralText}
 use Rattle.notice_told.specs.declared.packages.Package.{Package}
 use Rattle.notice_told.specs.declared.page.Look.{Look}
@@ -24,9 +24,9 @@ use Rattle.notice_program.specs.declared.end.End.{End}
 use Rattle.notice_program.specs.declared.end.End.TheVariants as end
 use Rattle.notice_program.specs.declared.end.ToldPage.{ToldPage}
 use Rattle.notice_program.specs.declared.end.Request.{Request}
-use Rattle.general_texts.specs.declared.held.HeldTexts.{HeldTexts}
-use Rattle.general_texts.specs.declared.held.TextFolder.{TextFolder}
-use Rattle.general_texts.specs.Held.{AreHeld, Text, each_first, held_of}
+use Rattle.owed_texts.specs.declared.held.HeldTexts.{HeldTexts}
+use Rattle.owed_texts.specs.declared.held.TextFolder.{TextFolder}
+use Rattle.owed_texts.specs.Held.{AreHeld, Text, each_first, held_of}
 use Rattle.notice_program.specs.Noted.{AreSorted, Noted, noted_by, noted_in}
 use Rattle.notice_program.specs.Taken.{Taken, owner}
 use Rattle.notice_program.specs.Told.{IsTold, has_own}

@@ -16,7 +16,7 @@ use Rattle.gate_program.specs.declared.policy.PolicyTrouble.TheVariants as polic
 use Rattle.choice_program.specs.declared.choosing.ChoiceTrouble.{ChoiceTrouble}
 use Rattle.choice_program.specs.declared.choosing.ChoiceTrouble.TheVariants as choice
 use Rattle.choice_program.specs.declared.choosing.Chosen.{Chosen}
-use Rattle.policy_choices.specs.Chosen.{IsChosen, IsNoChoice}
+use Rattle.choice_program.specs.Chosen.{IsChosen, IsNoChoice}
 use Rattle.notice_program.specs.declared.end.End.{End}
 use Rattle.notice_program.specs.declared.end.End.TheVariants as end
 use Rattle.notice_program.specs.declared.end.Request.{Request}

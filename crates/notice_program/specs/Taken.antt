@@ -12,8 +12,8 @@ use Rattle.package_choices.specs.declared.texts.RequirementTexts.{RequirementTex
 use Rattle.choice_program.specs.declared.choosing.Chosen.{Chosen}
 use Rattle.choice_program.specs.Named.{Named, shown_all, shown_in}
 use Rattle.choice_program.specs.Unchosen.{told_name}
-use Rattle.own_texts.specs.declared.own.Placed.{Placed}
-use Rattle.own_texts.specs.Own.{Owner}
+use Rattle.owed_texts.specs.declared.own.Placed.{Placed}
+use Rattle.owed_texts.specs.Own.{Owner}
 use Rattle.notice_program.specs.declared.taken.Entry as entry_as
 use Rattle.notice_program.specs.declared.taken.Used as used_as
 

@@ -1,8 +1,8 @@
 -- What is told of a page.
 use Rattle.std.specs.Prelude.{◌≡◌, ℕ, Bool, true, false, ◌==◌, List, [], ◌∷◌, ◌++◌, Option, None, Some, codes, length, map, option_map, string_bytes, if◌then◌else◌}
 use Rattle.std.specs.Global.{Vec}
-use Rattle.own_texts.specs.declared.home.OwnTexts.{OwnTexts}
-use Rattle.own_texts.specs.declared.home.OwnTexts.TheVariants as own
+use Rattle.owed_texts.specs.declared.home.OwnTexts.{OwnTexts}
+use Rattle.owed_texts.specs.declared.home.OwnTexts.TheVariants as own
 use Rattle.notice_told.specs.declared.lacks.Lack.{Lack}
 use Rattle.notice_told.specs.declared.page.NoticeText.{NoticeText}
 use Rattle.notice_told.specs.Lacks.{Lacked, seen_lack}

@@ -3,11 +3,10 @@
 ghost use Rattle.std.specs.Prelude.{◌≡◌};
 ghost use Rattle.notice_program.specs.Ends as spec;
 
-use choice_program::ChoiceTrouble;
+use choice_program::{Accepted, ChoiceTrouble};
 use notice_forms::Format;
-use own_texts::Folders;
+use owed_texts::Folders;
 use package_files::Wanted;
-use policy_choices::Accepted;
 use text_files::TextTrouble;
 
 /// What is asked of a run.

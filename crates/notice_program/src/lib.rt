@@ -8,7 +8,7 @@
 //! let outcome = notice_program::notice(alloc, shelf, inside, heirs, request)?;
 //! ```
 //!
-//! It stands on `package_files`, `policy_choices`, `own_texts`, `general_texts` and `notice_told`.
+//! It stands on `package_files`, `choice_program`, `owed_texts` and `notice_told`.
 #![tactic(auto)]
 
 pub mod end;

@@ -3,9 +3,9 @@
 ghost use Rattle.std.specs.Prelude.{◌≡◌, ◌++◌, IfOk, OnOk, map, option_map};
 ghost use Rattle.std.specs.List.{zip};
 ghost use Rattle.std.specs.Option.{option_copied, option_to_list};
-ghost use Rattle.own_texts.specs.All.{reads_in, reads_of};
-ghost use Rattle.own_texts.specs.Own.{read_of};
-ghost use Rattle.general_texts.specs.Held.{held_of};
+ghost use Rattle.owed_texts.specs.All.{reads_in, reads_of};
+ghost use Rattle.owed_texts.specs.Own.{read_of};
+ghost use Rattle.owed_texts.specs.Held.{held_of};
 ghost use Rattle.notice_program.specs.Noted as spec;
 ghost use Rattle.notice_program.specs.Noted.{
   AreSorted,
@@ -18,10 +18,9 @@ ghost use Rattle.notice_program.specs.Noted.{
 };
 ghost use Rattle.notice_program.specs.Taken.{taken_by};
 
-use general_texts::HeldText;
 use notice_texts::File;
 use notice_told::{GeneralText, OwnFile, Package as Noted};
-use own_texts::{Placed, ReadFile};
+use owed_texts::{HeldText, Placed, ReadFile};
 use package_sources::Package;
 use std::alloc::{AllocError, Global};
 

@@ -3,8 +3,8 @@
 ghost use Rattle.std.specs.Prelude.{◌≡◌, IfErr, IfOk, map, true};
 ghost use Rattle.std.specs.List.{zip};
 ghost use Rattle.spdx_requirement.specs.Failures.{IfRefused};
-ghost use Rattle.own_texts.specs.All.{reads_in};
-ghost use Rattle.general_texts.specs.Held.{each_first, held_of, lacked_by};
+ghost use Rattle.owed_texts.specs.All.{reads_in};
+ghost use Rattle.owed_texts.specs.Held.{each_first, held_of, lacked_by};
 ghost use Rattle.notice_program.specs.Page as spec;
 ghost use Rattle.notice_program.specs.Page.{
   AreGeneral,
@@ -25,9 +25,11 @@ use crate::noted::{all_general, all_noted, all_owns};
 use crate::taken::{Entry, all_taken, all_used};
 use crate::told::told;
 use choice_program::Chosen;
-use general_texts::{HeldText, HeldTexts, TextFolder, texts_in};
 use notice_told::{Lack, Look, NoticeFault, Package as Noted, all_lacks, notice_text};
-use own_texts::{AllOwn, OwnTexts, Placed, ReadFile, Reading, all_own_files};
+use owed_texts::{
+    AllOwn, HeldText, HeldTexts, OwnTexts, Placed, ReadFile, Reading, TextFolder, all_own_files,
+    texts_in,
+};
 use shelves::Shelf;
 use spdx_requirement::failure::Failure;
 use std::alloc::{AllocError, Global};

@@ -22,11 +22,10 @@ ghost use Rattle.notice_program.specs.Run.{
 use crate::end::{End, Request};
 use crate::page::chosen_end;
 use crate::taken::{all_entries, packages_of};
-use choice_program::ChoiceTrouble;
+use choice_program::{ChoiceTrouble, choose};
 use gate_program::PolicyTrouble;
 use list_program::{Inside, ListTrouble, named_list};
 use package_files::{AllListed, FileFault, Listed, all_listed_at};
-use policy_choices::choose;
 use shelves::Shelf;
 use spdx_catalogue::Catalogue;
 use std::alloc::{AllocError, Global};

@@ -21,7 +21,7 @@ ghost use Rattle.notice_program.specs.Taken.{
 
 use choice_program::{Chosen, told_name};
 use license_notice::Requirement;
-use own_texts::Placed;
+use owed_texts::Placed;
 use package_choices::RequirementTexts;
 use package_files::Listed;
 use package_sources::Package;

@@ -12,7 +12,7 @@ use Rattle.gate_program.specs.declared.run.End.{End}
 use Rattle.gate_program.specs.declared.run.End.TheVariants as end
 use Rattle.gate_program.specs.declared.run.Run.{Run}
 use Rattle.gate_program.specs.declared.told.GateText.{GateText}
-use Rattle.general_texts.specs.Held.{name_in}
+use Rattle.owed_texts.specs.Held.{name_in}
 use Rattle.package_items.specs.Rows.{PackageRow}
 use Rattle.package_files.specs.declared.listed.Listed.{Listed}
 use Rattle.package_files.specs.declared.listed.Source.{Source}

@@ -8,8 +8,8 @@ use Rattle.std.proofs.lemmas.List.{map-append, take_more}
 use Rattle.std.proofs.lemmas.List.Elements.{filter-append, filter_map-append}
 use Rattle.check_files.specs.Told.{Account, Hears, Tells}
 use Rattle.check_files.proofs.Doing.{hears_nil, hears_trans}
-use Rattle.general_texts.specs.Held.{each_first, name_in}
-use Rattle.general_texts.proofs.Firsts.{first_more}
+use Rattle.owed_texts.specs.Held.{each_first, name_in}
+use Rattle.owed_texts.proofs.Firsts.{first_more}
 use Rattle.package_items.specs.Rows.{PackageRow}
 use Rattle.package_files.specs.declared.listed.Listed.{Listed}
 use Rattle.package_files.specs.declared.listed.Source.{Source}

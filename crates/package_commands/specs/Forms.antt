@@ -5,7 +5,7 @@ use Rattle.std.specs.Borrow.{Bor}
 use Rattle.std.specs.Fmt.{decimal}
 use Rattle.std.specs.List.{AllZip, filter_map}
 use Rattle.std.specs.Option.{option_map_or}
-use Rattle.general_texts.specs.Held.{each_first, with_name}
+use Rattle.owed_texts.specs.Held.{each_first, with_name}
 use Rattle.package_files.specs.declared.listed.Listed.{Listed}
 use Rattle.package_sources.specs.declared.form.Form.{Form}
 use Rattle.package_sources.specs.declared.form.Form.TheVariants as form

@@ -3,7 +3,7 @@
 ghost use Rattle.std.specs.Prelude.{◌≡◌, ◌∷◌, ◌++◌, [], IfOk, OnOk, bytes_eq, map, string_bytes};
 ghost use Rattle.std.specs.List.{list_any};
 ghost use Rattle.check_files.specs.Told.{Tells};
-ghost use Rattle.general_texts.specs.Held.{each_first, has_name, name_in, with_name};
+ghost use Rattle.owed_texts.specs.Held.{each_first, has_name, name_in, with_name};
 ghost use Rattle.package_commands.specs.Forms as spec;
 ghost use Rattle.package_commands.specs.Forms.{AreFormsTold, AreWordsTold, form_word, listed_in, words_in};
 

@@ -3,7 +3,7 @@
 ghost use Rattle.std.specs.Prelude.{◌≡◌, ◌∷◌, ◌++◌, [], IfOk, OnOk, map, string_bytes};
 ghost use Rattle.check_files.specs.Told.{Tells};
 ghost use Rattle.document_references.specs.Documents.{documents_of};
-ghost use Rattle.general_texts.specs.Held.{name_in};
+ghost use Rattle.owed_texts.specs.Held.{name_in};
 ghost use Rattle.package_commands.specs.Shared as spec;
 ghost use Rattle.package_commands.specs.Shared.{AreSharedTold, AreToldAs, is_document};
 

@@ -10,14 +10,12 @@ use Rattle.std.proofs.lemmas.List.Folds.{list_any-append}
 use Rattle.line_engine.specs.Device.{Told}
 use Rattle.check_files.specs.Told.{Account, Hears, Tells}
 use Rattle.check_files.proofs.Doing.{hears_nil, hears_trans}
-use Rattle.shelves.specs.Shelf.{Shelved}
 use Rattle.shelves.specs.declared.shelf.Stamp.{Stamp}
-use Rattle.spdx_requirement.specs.Rows.{Rows}
 use Rattle.fix_program.specs.declared.ends.FileEnd.{FileEnd}
 use Rattle.fix_program.specs.declared.file.Replacement.{Replacement}
 use Rattle.fix_program.specs.declared.run.PathEnd.{PathEnd}
 use Rattle.fix_program.specs.declared.trouble.FixTrouble.{FixTrouble}
-use Rattle.spdx_commands.specs.Mend.{AreEndsDone, ArePathsDone, Did, Done, IsBrokenOff, IsEndDone, IsLeftOut, IsPathDone, IsPlaced, Stand, behind, broken, hindrance, is_end, left_behind, no_end, no_path, nothing, stand, telling, then_end, then_path, told_of, unwritten, worst, writing}
+use Rattle.spdx_commands.specs.Mend.{AreEndsDone, ArePathsDone, Did, Done, IsBrokenOff, IsEndDone, IsLeftOut, IsPathDone, IsPlaced, Setting, Stand, attempt_of, behind, broken, hindrance, is_end, left_behind, no_end, no_path, nothing, stand, telling, then_end, then_path, told_of, unwritten, worst, writing}
 use Rattle.spdx_commands.specs.Nodes.{has_node}
 use Rattle.spdx_commands.specs.Replaced.{Attempt, attempt, is_placed, is_replaced, noted, same_node}
 use Rattle.spdx_commands.specs.Steps.{AreReplaced, Comes, ComesOfPath, IsLeftOutTold, IsUnwritten, IsWorst, told}
@@ -60,21 +58,21 @@ or_none false = refl
 abbrev is_of : Stamp → Attempt → Bool
 is_of x a = is_placed a.answer && same_node a.stamp x
 
-one_placed : (old new : Nodes) (path : List ℕ) (stamp : Stamp) (bytes : List ℕ) (loss : Loss) (before : List Attempt)
-    → ((other : Stamp) → has_node new other ≡ (same_node stamp other || has_node old other))
-    → AreReplaced old before → AreReplaced new (before ++ attempt path stamp bytes (Ok loss) ∷ [])
-one_placed old new path stamp bytes loss before adds knows = λ x.
+one_placed : (old new : Nodes) (links : Bool) (r : Replacement) (loss : Loss) (before : List Attempt)
+    → ((other : Stamp) → has_node new other ≡ (same_node r.stamp other || has_node old other))
+    → AreReplaced old before → AreReplaced new (before ++ attempt_of links r (Ok loss) ∷ [])
+one_placed old new links r loss before adds knows = λ x.
     adds x
-    ∙ ap (λ (b : Bool). same_node stamp x || b) (knows x)
-    ∙ swap (same_node stamp x) (is_replaced before x)
-    ∙ sym (list_any-append (is_of x) before (attempt path stamp bytes (Ok loss) ∷ []))
+    ∙ ap (λ (b : Bool). same_node r.stamp x || b) (knows x)
+    ∙ swap (same_node r.stamp x) (is_replaced before x)
+    ∙ sym (list_any-append (is_of x) before (attempt_of links r (Ok loss) ∷ []))
 
-none_placed : (nodes : Nodes) (path : List ℕ) (stamp : Stamp) (bytes : List ℕ) (o : Obstacle) (before : List Attempt)
-    → AreReplaced nodes before → AreReplaced nodes (before ++ attempt path stamp bytes (Err o) ∷ [])
-none_placed nodes path stamp bytes o before knows = λ x.
+none_placed : (nodes : Nodes) (links : Bool) (r : Replacement) (o : Obstacle) (before : List Attempt)
+    → AreReplaced nodes before → AreReplaced nodes (before ++ attempt_of links r (Err o) ∷ [])
+none_placed nodes links r o before knows = λ x.
     knows x
     ∙ or_none (is_replaced before x)
-    ∙ sym (list_any-append (is_of x) before (attempt path stamp bytes (Err o) ∷ []))
+    ∙ sym (list_any-append (is_of x) before (attempt_of links r (Err o) ∷ []))
 
 -- ---- one thing
 
@@ -127,54 +125,53 @@ loss_zero path loss.Nothing = refl
 loss_zero path loss.SetId = refl
 
 -- its bytes were tried
-abbrev pub IsTried : Account Attempt → Account Attempt → Replacement → Result Loss Obstacle → Type 0
-IsTried k m r answer = Hears k m (noted (attempt (string_bytes r.path) r.stamp r.bytes.items answer))
+abbrev pub HearsTried : Account Attempt → Account Attempt → Bool → Replacement → Result Loss Obstacle → Type 0
+HearsTried k m links r answer = Hears k m (noted (attempt_of links r answer))
 
-pub tried : (k m : Account Attempt) (r : Replacement) (answer : Result Loss Obstacle) (path bytes : List ℕ) → path ≡ string_bytes r.path → bytes ≡ r.bytes.items
-    → Hears k m (noted (attempt path r.stamp bytes answer)) → IsTried k m r answer
-tried k m r answer path bytes is same h =
-    subst (λ (b : List ℕ). Hears k m (noted (attempt (string_bytes r.path) r.stamp b answer))) same
-    (subst (λ (p : List ℕ). Hears k m (noted (attempt p r.stamp bytes answer))) is h)
+pub tried : (k m : Account Attempt) (links : Bool) (r : Replacement) (answer : Result Loss Obstacle) (path bytes : List ℕ) → path ≡ string_bytes r.path → bytes ≡ r.bytes.items
+    → Hears k m (noted (attempt path r.stamp links bytes answer)) → HearsTried k m links r answer
+tried k m links r answer path bytes is same h =
+    subst (λ (b : List ℕ). Hears k m (noted (attempt (string_bytes r.path) r.stamp links b answer))) same
+    (subst (λ (p : List ℕ). Hears k m (noted (attempt p r.stamp links bytes answer))) is h)
 
 -- the bytes take the file's place
-pub placed : (out : Told) (h l : Account Trouble) (k m : Account Attempt) (old new : Nodes) (r : Replacement) (answer : Result Loss Obstacle) (x : Loss)
-    → answer ≡ Ok x → IsTried k m r answer → Hears h l (told_of r.path (Ok x))
+pub placed : (out : Told) (h l : Account Trouble) (k m : Account Attempt) (old new : Nodes) (links : Bool) (r : Replacement) (answer : Result Loss Obstacle) (x : Loss)
+    → answer ≡ Ok x → HearsTried k m links r answer → Hears h l (told_of r.path (Ok x))
     → ((other : Stamp) → has_node new other ≡ (same_node r.stamp other || has_node old other))
-    → Did (stand out h k) (stand out l m) (Comes old new 0 (λ _. IsPlaced r))
-placed out h l k m old new r answer x is tries tells adds = record {
-  done = record { text = []; told = told_of r.path (Ok x); tried = attempt (string_bytes r.path) r.stamp r.bytes.items (Ok x) ∷ [] };
+    → Did (stand out h k) (stand out l m) (Comes old new 0 (λ _. IsPlaced links r))
+placed out h l k m old new links r answer x is tries tells adds = record {
+  done = record { text = []; told = told_of r.path (Ok x); tried = attempt_of links r (Ok x) ∷ [] };
   writes = Appends-nil out.bytes;
   tells = tells;
-  tries = subst (IsTried k m r) is tries;
+  tries = subst (HearsTried k m links r) is tries;
   is = λ before knows. record {
     is = record { answer = Ok x; goes_on = refl; text_is = refl; told_is = refl; tried_is = refl };
     status_is = loss_zero r.path x;
-    replaced = one_placed old new (string_bytes r.path) r.stamp r.bytes.items x before adds knows;
+    replaced = one_placed old new links r x before adds knows;
   };
 }
 
-noted_on : (path : List ℕ) (stamp : Stamp) (bytes : List ℕ) (o : Obstacle) → is_end (Err o) ≡ false → noted (attempt path stamp bytes (Err o)) ≡ attempt path stamp bytes (Err o) ∷ []
-noted_on path stamp bytes obstacle.Changed e = refl
-noted_on path stamp bytes obstacle.Linked e = refl
-noted_on path stamp bytes (obstacle.Owner x) e = refl
-noted_on path stamp bytes (obstacle.Failed x) e = absurd (let bad : true ≡ false = e in cc)
+noted_on : (links : Bool) (r : Replacement) (o : Obstacle) → is_end (Err o) ≡ false → noted (attempt_of links r (Err o)) ≡ attempt_of links r (Err o) ∷ []
+noted_on links r obstacle.Changed e = refl
+noted_on links r obstacle.Linked e = refl
+noted_on links r (obstacle.Owner x) e = refl
+noted_on links r (obstacle.Failed x) e = absurd (let bad : true ≡ false = e in cc)
 
 -- they don't, and it is told why
-pub hindered : (h l : Account Trouble) (k m : Account Attempt) (nodes : Nodes) (r : Replacement) (answer : Result Loss Obstacle) (o : Obstacle) (result : Result ℕ Trouble)
-    → answer ≡ Err o → IsTried k m r answer
+pub hindered : (h l : Account Trouble) (k m : Account Attempt) (nodes : Nodes) (links : Bool) (r : Replacement) (answer : Result Loss Obstacle) (o : Obstacle) (result : Result ℕ Trouble)
+    → answer ≡ Err o → HearsTried k m links r answer
     → IfOk result (λ status. status ≡ status_of (hindrance r.path o)) → OnOk result (Hears h l (hindrance r.path o ∷ [])) → OnOk result (is_end (Err o) ≡ false)
-    → IfOk result (λ status. (out : Told) → Did (stand out h k) (stand out l m) (Comes nodes nodes status (λ _. IsPlaced r)))
-hindered h l k m nodes r answer o (Err t) is tries status_is tells goes_on = tt
-hindered h l k m nodes r answer o (Ok status) is tries status_is tells goes_on = λ out. record {
-  done = record { text = []; told = hindrance r.path o ∷ []; tried = attempt (string_bytes r.path) r.stamp r.bytes.items (Err o) ∷ [] };
+    → IfOk result (λ status. (out : Told) → Did (stand out h k) (stand out l m) (Comes nodes nodes status (λ _. IsPlaced links r)))
+hindered h l k m nodes links r answer o (Err t) is tries status_is tells goes_on = tt
+hindered h l k m nodes links r answer o (Ok status) is tries status_is tells goes_on = λ out. record {
+  done = record { text = []; told = hindrance r.path o ∷ []; tried = attempt_of links r (Err o) ∷ [] };
   writes = Appends-nil out.bytes;
   tells = tells;
-  tries = subst (Hears k m) (noted_on (string_bytes r.path) r.stamp r.bytes.items o goes_on)
-      (subst (IsTried k m r) is tries);
+  tries = subst (Hears k m) (noted_on links r o goes_on) (subst (HearsTried k m links r) is tries);
   is = λ before knows. record {
     is = record { answer = Err o; goes_on = goes_on; text_is = refl; told_is = refl; tried_is = refl };
     status_is = one_worst (hindrance r.path o) status status_is;
-    replaced = none_placed nodes (string_bytes r.path) r.stamp r.bytes.items o before knows;
+    replaced = none_placed nodes links r o before knows;
   };
 }
 
@@ -259,31 +256,30 @@ pub off_at : (out : Told) (k m : Account Attempt) (r : Result ℕ Trouble) → I
 off_at out k m (Ok x) h = tt
 off_at out k m (Err t) h = h out
 
-noted_end : (k m : Account Attempt) (path : String Global) (stamp : Stamp) (bytes : List ℕ) (o : Obstacle) (t : Trouble)
-    → Hears k m (noted (attempt (string_bytes path) stamp bytes (Err o))) → IsUnwritten path o t → (out : Told) → IsBrokenOff out k m t
-noted_end k m path stamp bytes obstacle.Changed t tries is out = subst (IsBrokenOff out k m) (sym is) (broken trouble.Memory tt)
-noted_end k m path stamp bytes obstacle.Linked t tries is out = subst (IsBrokenOff out k m) (sym is) (broken trouble.Memory tt)
-noted_end k m path stamp bytes (obstacle.Owner e) t tries is out = subst (IsBrokenOff out k m) (sym is) (broken trouble.Memory tt)
-noted_end k m path stamp bytes (obstacle.Failed e) t tries (inl is) out = subst (IsBrokenOff out k m) (sym is) (broken trouble.Memory tt)
-noted_end k m path stamp bytes (obstacle.Failed e) t tries (inr is) out =
-    let a = attempt (string_bytes path) stamp bytes (Err (obstacle.Failed e)) in
+noted_end : (k m : Account Attempt) (links : Bool) (r : Replacement) (o : Obstacle) (t : Trouble)
+    → HearsTried k m links r (Err o) → IsUnwritten r.path o t → (out : Told) → IsBrokenOff out k m t
+noted_end k m links r obstacle.Changed t tries is out = subst (IsBrokenOff out k m) (sym is) (broken trouble.Memory tt)
+noted_end k m links r obstacle.Linked t tries is out = subst (IsBrokenOff out k m) (sym is) (broken trouble.Memory tt)
+noted_end k m links r (obstacle.Owner e) t tries is out = subst (IsBrokenOff out k m) (sym is) (broken trouble.Memory tt)
+noted_end k m links r (obstacle.Failed e) t tries (inl is) out = subst (IsBrokenOff out k m) (sym is) (broken trouble.Memory tt)
+noted_end k m links r (obstacle.Failed e) t tries (inr is) out =
+    let a = attempt_of links r (Err (obstacle.Failed e)) in
     subst (IsBrokenOff out k m) (sym is.1)
-    (unwritten [] path stamp bytes e (subst (λ (b : Bool). Hears k m (if b then [] else a ∷ [])) is.0 tries))
+    (unwritten [] r.path r.stamp links r.bytes.items e (subst (λ (b : Bool). Hears k m (if b then [] else a ∷ [])) is.0 tries))
 
 -- the file can't be written
-pub unwritten_off : (k m : Account Attempt) (r : Replacement) (answer : Result Loss Obstacle) (o : Obstacle) (result : Result ℕ Trouble)
-    → answer ≡ Err o → IsTried k m r answer → IfErr result (IsUnwritten r.path o)
+pub unwritten_off : (k m : Account Attempt) (links : Bool) (r : Replacement) (answer : Result Loss Obstacle) (o : Obstacle) (result : Result ℕ Trouble)
+    → answer ≡ Err o → HearsTried k m links r answer → IfErr result (IsUnwritten r.path o)
     → IfErr result (λ t. (out : Told) → IsBrokenOff out k m t)
-unwritten_off k m r answer o (Ok x) is tries off = tt
-unwritten_off k m r answer o (Err t) is tries off =
-    noted_end k m r.path r.stamp r.bytes.items o t (subst (IsTried k m r) is tries) off
+unwritten_off k m links r answer o (Ok x) is tries off = tt
+unwritten_off k m links r answer o (Err t) is tries off = noted_end k m links r o t (subst (HearsTried k m links r) is tries) off
 
 -- behind others that were tried
 pub off_behind : (out : Told) (k l m : Account Attempt) (tried : List Attempt) (t : Trouble) → Hears k l tried → IsBrokenOff out l m t → IsBrokenOff out k m t
 off_behind out k l m tried t first (broken u is) = broken u is
-off_behind out k l m tried t first (unwritten before path stamp bytes e last) =
-    let a = attempt (string_bytes path) stamp bytes (Err (obstacle.Failed e)) in
-    unwritten (tried ++ before) path stamp bytes e (subst (Hears k m) (sym (append_assoc tried before (a ∷ []))) (hears_trans k l m tried (before ++ a ∷ []) first last))
+off_behind out k l m tried t first (unwritten before path stamp links bytes e last) =
+    let a = attempt (string_bytes path) stamp links bytes (Err (obstacle.Failed e)) in
+    unwritten (tried ++ before) path stamp links bytes e (subst (Hears k m) (sym (append_assoc tried before (a ∷ []))) (hears_trans k l m tried (before ++ a ∷ []) first last))
 
 pub same_off : (out : Told) (k m : Account Attempt) (part : Trouble) → IsBrokenOff out k m part → (r : Result ℕ Trouble) → IsErrAnd r (λ t. t ≡ part) → IfErr r (IsBrokenOff out k m)
 same_off out k m part is (Ok x) h = tt
@@ -317,15 +313,15 @@ left_more old now new ends e is more =
     ∙ ap (λ (xs : List (String Global)). old ++ (flat_map left_behind ends ++ xs)) (sym (append-nil (left_behind e)))
     ∙ ap (λ (xs : List (String Global)). old ++ xs) (sym (flat_map-append left_behind ends (e ∷ [])))
 
-module _ (s : Shelved) (c : Rows) where
-  pub none_done : (x : Stand) (nodes : Nodes) → Did x x (Comes nodes nodes 0 (λ before. AreEndsDone s c before []))
-  none_done x nodes = idle x nodes (λ before. AreEndsDone s c before []) (λ before. no_end)
+module _ (w : Setting) where
+  pub none_done : (x : Stand) (nodes : Nodes) → Did x x (Comes nodes nodes 0 (λ before. AreEndsDone w before []))
+  none_done x nodes = idle x nodes (λ before. AreEndsDone w before []) (λ before. no_end)
 
   pub end_more : (a b d : Stand) (n o p : Nodes) (ends : List FileEnd) (e : FileEnd) (old status new : ℕ)
-      → Did a b (Comes n o old (λ before. AreEndsDone s c before ends)) → Did b d (Comes o p status (λ before. IsEndDone s c before e)) → new ≡ max status old
-      → Did a d (Comes n p new (λ before. AreEndsDone s c before (ends ++ e ∷ [])))
+      → Did a b (Comes n o old (λ before. AreEndsDone w before ends)) → Did b d (Comes o p status (λ before. IsEndDone w before e)) → new ≡ max status old
+      → Did a d (Comes n p new (λ before. AreEndsDone w before (ends ++ e ∷ [])))
   end_more a b d n o p ends e old status new one other greatest =
-      after a b d (Comes n o old (λ before. AreEndsDone s c before ends)) (Comes o p status (λ before. IsEndDone s c before e)) (Comes n p new (λ before. AreEndsDone s c before (ends ++ e ∷ []))) one other
+      after a b d (Comes n o old (λ before. AreEndsDone w before ends)) (Comes o p status (λ before. IsEndDone w before e)) (Comes n p new (λ before. AreEndsDone w before (ends ++ e ∷ []))) one other
       (λ x y f g before knows.
       let u = f before knows in
       let v = g (before ++ x.tried) u.replaced in
@@ -337,9 +333,9 @@ module _ (s : Shelved) (c : Rows) where
 
   -- what was left behind is told last
   pub path_done : (a b : Stand) (l : Account Trouble) (x : SoFar) (o : Nodes) (p : PathEnd) (status : ℕ) (left : List (String Global))
-      → Did a b (Comes x.replaced o status (λ before. AreEndsDone s c before p.ends.items)) → Hears b.heard l (map trouble.LeftBehind left)
+      → Did a b (Comes x.replaced o status (λ before. AreEndsDone w before p.ends.items)) → Hears b.heard l (map trouble.LeftBehind left)
       → left ≡ x.left.items ++ flat_map left_behind p.ends.items
-      → Did a (stand b.output l b.tried) (λ d. x.left.items ≡ [] → Comes x.replaced o status (λ before. IsPathDone s c before p) d)
+      → Did a (stand b.output l b.tried) (λ d. x.left.items ≡ [] → Comes x.replaced o status (λ before. IsPathDone w before p) d)
   path_done a b l x o p status left q tells is = record {
     done = behind q.done (telling (map trouble.LeftBehind left));
     writes = Appends-trans a.output.bytes b.output.bytes b.output.bytes q.done.text [] q.writes (Appends-nil b.output.bytes);
@@ -357,7 +353,7 @@ module _ (s : Shelved) (c : Rows) where
 
   -- it was done of these paths, and these files are known
   pub record AreSoFar (nodes : Nodes) (status : ℕ) (paths : List PathEnd) (done : Done) : Type 0 where
-    pub is : ArePathsDone s c paths done
+    pub is : ArePathsDone w paths done
     pub status_is : status ≡ worst done.told
     pub replaced : AreReplaced nodes done.tried
 
@@ -371,9 +367,9 @@ module _ (s : Shelved) (c : Rows) where
   }
 
   pub path_more : (a b d : Stand) (x y : SoFar) (paths : List PathEnd) (p : PathEnd) (old status new : ℕ) → Did a b (AreSoFar x.replaced old paths) → x.left.items ≡ []
-      → Did b d (ComesOfPath x y status (λ before. IsPathDone s c before p)) → new ≡ max status old → Did a d (AreSoFar y.replaced new (paths ++ p ∷ []))
+      → Did b d (ComesOfPath x y status (λ before. IsPathDone w before p)) → new ≡ max status old → Did a d (AreSoFar y.replaced new (paths ++ p ∷ []))
   path_more a b d x y paths p old status new one empty other greatest =
-      after a b d (AreSoFar x.replaced old paths) (ComesOfPath x y status (λ before. IsPathDone s c before p)) (AreSoFar y.replaced new (paths ++ p ∷ [])) one other
+      after a b d (AreSoFar x.replaced old paths) (ComesOfPath x y status (λ before. IsPathDone w before p)) (AreSoFar y.replaced new (paths ++ p ∷ [])) one other
       (λ t u f g.
       let v = g empty t.tried f.replaced in
       record {
@@ -382,6 +378,6 @@ module _ (s : Shelved) (c : Rows) where
         replaced = v.replaced;
       })
 
-  pub paths_done : (a b : Stand) (nodes : Nodes) (status : ℕ) (paths : List PathEnd) → Did a b (AreSoFar nodes status paths) → Did a b (IsWorst status (ArePathsDone s c paths))
+  pub paths_done : (a b : Stand) (nodes : Nodes) (status : ℕ) (paths : List PathEnd) → Did a b (AreSoFar nodes status paths) → Did a b (IsWorst status (ArePathsDone w paths))
   paths_done a b nodes status paths p =
       record { done = p.done; writes = p.writes; tells = p.tells; tries = p.tries; is = record { is = p.is.is; status_is = p.is.status_is } }

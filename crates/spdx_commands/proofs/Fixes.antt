@@ -13,12 +13,12 @@ use Rattle.fix_program.specs.declared.run.Request.{Request}
 use Rattle.fix_program.specs.declared.run.Run.{Run}
 use Rattle.list_program.specs.Named.{InsideBytes}
 use Rattle.spdx_commands.specs.Beside.{IsBesideTold}
-use Rattle.spdx_commands.specs.Mend.{AreNeeded, ArePathsDone, Did, DidBefore, IsBrokenOff, IsFix, IsFixBegun, IsFixStopped, IsMere, Stand, behind, broken, broken_off, caused, stand, telling, worst}
+use Rattle.spdx_commands.specs.Mend.{ArePathsDone, Did, IsBrokenOff, IsFix, IsFixBegun, IsFixStopped, IsMere, Stand, behind, broken, broken_off, caused, setting, stand, telling, worst}
 use Rattle.spdx_commands.specs.Replaced.{Attempt}
 use Rattle.spdx_commands.specs.Steps.{IsWorst}
 use Rattle.spdx_commands.proofs.Besides.{beside_zero}
 use Rattle.spdx_commands.proofs.Doings.{worst_append}
-use Rattle.spdx_commands.proofs.Needs.{kept_so, mere, needed_so}
+use Rattle.spdx_commands.proofs.Needs.{mere}
 use Rattle.spdx_troubles.specs.Causes.{fix_fault_trouble}
 use Rattle.spdx_troubles.specs.declared.trouble.Trouble.{Trouble}
 use Rattle.spdx_troubles.specs.declared.trouble.Trouble.TheVariants as trouble
@@ -31,12 +31,12 @@ module _ (s : Shelved) (inside : InsideBytes) (a : Request) where
   not_begun x l cause same is (Ok y) h = tt
   not_begun x l cause same is (Err t) h = subst (IsFixStopped s inside a x (stand x.output l x.tried)) (sym h) (caused cause is refl same refl)
 
-  pub part_broken : (x y : Stand) (part : Trouble) → IsBrokenOff y.output x.tried y.tried part → DidBefore x y (IsFixBegun s inside a) → (r : Result ℕ Trouble) → IsErrAnd r (λ t. t ≡ part)
+  pub part_broken : (x y : Stand) (part : Trouble) → IsBrokenOff y.output x.tried y.tried part → Did x y (IsFixBegun s inside a) → (r : Result ℕ Trouble) → IsErrAnd r (λ t. t ≡ part)
       → IfErr r (IsFixStopped s inside a x y)
   part_broken x y part is begun (Ok z) h = tt
   part_broken x y part is begun (Err t) h = subst (IsFixStopped s inside a x y) (sym h) (broken_off part is begun)
 
-  pub memory_broken : (x y : Stand) → DidBefore x y (IsFixBegun s inside a) → (r : Result ℕ Trouble) → IsErrAnd r (λ t. t ≡ trouble.Memory) → IfErr r (IsFixStopped s inside a x y)
+  pub memory_broken : (x y : Stand) → Did x y (IsFixBegun s inside a) → (r : Result ℕ Trouble) → IsErrAnd r (λ t. t ≡ trouble.Memory) → IfErr r (IsFixStopped s inside a x y)
   memory_broken x y begun r h = part_broken x y trouble.Memory (broken trouble.Memory tt) begun r h
 
   -- ---- what it does
@@ -45,7 +45,7 @@ module _ (s : Shelved) (inside : InsideBytes) (a : Request) where
   greatest run told status xs ys e f g = let all = worst_append xs ys in omega (arith, e, f, g, all)
 
   pub fix_done : (x : Stand) (out : Told) (begun h l : Account Trouble) (m : Account Attempt) (run : Run) (told status : ℕ) (beside : List Trouble) → begun ≡ x.heard → IsRun s inside a run
-      → Did (stand x.output begun x.tried) (stand out h m) (IsWorst told (ArePathsDone s run.catalogue run.paths.items))
+      → Did (stand x.output begun x.tried) (stand out h m) (IsWorst told (ArePathsDone (setting s run.catalogue a.breaks_links) run.paths.items))
       → IsBesideTold a.is_written s (map path_in a.paths.now) beside → Hears h l beside → status ≡ max (plan.status_of run) told
       → Did x (stand out l m) (IsFix s inside a status)
   fix_done x out begun h l m run told status beside same is_run q is_beside tells is = record {
@@ -67,17 +67,10 @@ module _ (s : Shelved) (inside : InsideBytes) (a : Request) where
 
   -- ---- laws
 
-  module _ (x y : Stand) (status : ℕ) (d : Did x y (IsFix s inside a status)) where
-    pub quiet : status < 1 → Tells x.heard y.heard (All IsMere)
-    quiet low =
-        let is = d.is.status_is in
-        record { told = d.done.told; tells = d.tells; is = mere d.done.told (omega (arith, low, is)) }
-
-    pub kept : a.is_written ≡ false → Hears x.tried y.tried []
-    kept off = kept_so s inside a status d.done d.is x.tried y.tried off d.tries
-
-    pub needed : Tells x.tried y.tried (AreNeeded s inside a)
-    needed = record { told = d.done.tried; tells = d.tries; is = needed_so s inside a status d.done d.is }
+  pub quiet : (x y : Stand) (status : ℕ) → Did x y (IsFix s inside a status) → status < 1 → Tells x.heard y.heard (All IsMere)
+  quiet x y status d low =
+      let is = d.is.status_is in
+      record { told = d.done.told; tells = d.tells; is = mere d.done.told (omega (arith, low, is)) }
 
 pub low_run : (run told status is : ℕ) → status ≡ max run told → run ≡ is → status < 1 → is < 1
 low_run run told status is e f low = omega (arith, e, f, low)

@@ -1,5 +1,5 @@
 -- What `fix` writes, tells and puts in the places of files, and with which status it ends.
-use Rattle.std.specs.Prelude.{◌≡◌, ℕ, Bool, true, false, List, [], ◌∷◌, ◌++◌, Some, All, Result, Ok, Err, String, flat_map, map, max, string_bytes, if◌then◌else◌}
+use Rattle.std.specs.Prelude.{◌≡◌, ℕ, Bool, true, false, List, [], ◌∷◌, ◌++◌, Some, Result, Ok, Err, String, flat_map, map, max, string_bytes, if◌then◌else◌}
 use Rattle.std.specs.declared.alloc.Global.{Global}
 use Rattle.std.specs.declared.io.Error.{Error}
 use Rattle.std.specs.Option.{option_copied}
@@ -29,7 +29,7 @@ use Rattle.fix_program.specs.declared.run.Request.{Request}
 use Rattle.fix_program.specs.declared.run.Run.{Run}
 use Rattle.fix_program.specs.declared.trouble.FixTrouble.{FixTrouble}
 use Rattle.spdx_commands.specs.Beside.{IsBesideTold}
-use Rattle.spdx_commands.specs.Replaced.{Attempt, attempt, is_replaced}
+use Rattle.spdx_commands.specs.Replaced.{Attempt, attempt, is_replaced, noted}
 use Rattle.spdx_commands.specs.Said.{IsBroken}
 use Rattle.spdx_commands.specs.declared.replacing.Loss.{Loss}
 use Rattle.spdx_commands.specs.declared.replacing.Loss.TheVariants as loss
@@ -56,6 +56,9 @@ writing text = record { text = text; told = []; tried = [] }
 
 abbrev pub telling : List Trouble → Done
 telling told = record { text = []; told = told; tried = [] }
+
+abbrev pub trying : List Attempt → Done
+trying tried = record { text = []; told = []; tried = tried }
 
 -- one thing behind the other
 abbrev pub behind : Done → Done → Done
@@ -86,6 +89,17 @@ worst (t ∷ ts) = max (status_of t) (worst ts)
 
 -- ---- a file
 
+-- over which shelf and by which list files are mended, and whether those that have other names are
+-- replaced too
+pub record Setting : Type 1 where
+  pub shelf : Shelved
+  pub rows : Rows
+  pub breaks_links : Bool
+
+abbrev pub setting : Shelved → Rows → Bool → Setting
+setting shelf rows breaks_links =
+    record { shelf = shelf; rows = rows; breaks_links = breaks_links }
+
 -- why it stays as it is
 abbrev pub hindrance : String Global → Obstacle → Trouble
 hindrance path obstacle.Changed = trouble.Changed path
@@ -105,17 +119,22 @@ abbrev pub is_end : Result Loss Obstacle → Bool
 is_end (Err (obstacle.Failed e)) = true
 is_end _ = false
 
--- the bytes are tried to put in the file's place, and it is told why they aren't, or what it lost
-pub record IsPlaced (r : Replacement) (done : Done) : Type 0 where
+-- the bytes are tried to put in the file's place, with this answer
+abbrev pub attempt_of : Bool → Replacement → Result Loss Obstacle → Attempt
+attempt_of breaks_links r answer =
+    attempt (string_bytes r.path) r.stamp breaks_links r.bytes.items answer
+
+-- that is tried, and it is told why they aren't in its place, or what the file lost
+pub record IsPlaced (breaks_links : Bool) (r : Replacement) (done : Done) : Type 0 where
   pub answer : Result Loss Obstacle
   pub goes_on : is_end answer ≡ false
   pub text_is : done.text ≡ []
   pub told_is : done.told ≡ told_of r.path answer
-  pub tried_is : done.tried ≡ attempt (string_bytes r.path) r.stamp r.bytes.items answer ∷ []
+  pub tried_is : done.tried ≡ attempt_of breaks_links r answer ∷ []
 
-abbrev pub IsPlacedIf : Deed → Done → Type 0
-IsPlacedIf (deed.Replace r) done = IsPlaced r done
-IsPlacedIf _ done = done ≡ nothing
+abbrev pub IsPlacedIf : Bool → Deed → Done → Type 0
+IsPlacedIf breaks_links (deed.Replace r) done = IsPlaced breaks_links r done
+IsPlacedIf breaks_links _ done = done ≡ nothing
 
 -- it is told why the file is left out
 pub record IsLeftOut (t : FixTrouble) (done : Done) : Type 0 where
@@ -124,57 +143,56 @@ pub record IsLeftOut (t : FixTrouble) (done : Done) : Type 0 where
   pub done_is : done ≡ telling (trouble ∷ [])
 
 -- the file is read and mended again, as it is now; its bytes are then placed, or it is left out
-pub data IsPlacedAgain (s : Shelved) (c : Rows) (r : Replacement) (done : Done) : Type 0 where
-  mended : (f : Fixed) → IsFixedAt s c true r.parts (string_bytes r.path) f →
-      IsPlacedIf f.deed done → IsPlacedAgain s c r done
-  left_out : (t : FixTrouble) → IsNotFixed s c true r.parts (string_bytes r.path) t →
-      IsLeftOut t done → IsPlacedAgain s c r done
+pub data IsPlacedAgain (w : Setting) (r : Replacement) (done : Done) : Type 0 where
+  mended : (f : Fixed) → IsFixedAt w.shelf w.rows true r.parts (string_bytes r.path) f →
+      IsPlacedIf w.breaks_links f.deed done → IsPlacedAgain w r done
+  left_out : (t : FixTrouble) → IsNotFixed w.shelf w.rows true r.parts (string_bytes r.path) t →
+      IsLeftOut t done → IsPlacedAgain w r done
 
 -- again, where the run has replaced it already, under another name maybe
-abbrev pub IsPlacedBy : Bool → Shelved → Rows → Replacement → Done → Type 0
-IsPlacedBy false s c r done = IsPlaced r done
-IsPlacedBy true s c r done = IsPlacedAgain s c r done
+abbrev pub IsPlacedBy : Bool → Setting → Replacement → Done → Type 0
+IsPlacedBy false w r done = IsPlaced w.breaks_links r done
+IsPlacedBy true w r done = IsPlacedAgain w r done
 
-abbrev pub IsDeedDone : Shelved → Rows → List Attempt → Deed → Done → Type 0
-IsDeedDone s c before deed.Nothing done = done ≡ nothing
-IsDeedDone s c before (deed.Put text) done = done ≡ writing text.items
-IsDeedDone s c before (deed.Replace r) done = IsPlacedBy (is_replaced before r.stamp) s c r done
+abbrev pub IsDeedDone : Setting → List Attempt → Deed → Done → Type 0
+IsDeedDone w before deed.Nothing done = done ≡ nothing
+IsDeedDone w before (deed.Put text) done = done ≡ writing text.items
+IsDeedDone w before (deed.Replace r) done = IsPlacedBy (is_replaced before r.stamp) w r done
 
 -- ---- a path
 
 -- what comes of a file is done, behind what was tried before; files that were left behind are told
 -- later
-abbrev pub IsEndDone : Shelved → Rows → List Attempt → FileEnd → Done → Type 0
-IsEndDone s c before (end.Fixed f) done = IsDeedDone s c before f.deed done
-IsEndDone s c before (end.LeftOut t) done = IsLeftOut t done
-IsEndDone s c before (end.LeftBehind n) done = done ≡ nothing
+abbrev pub IsEndDone : Setting → List Attempt → FileEnd → Done → Type 0
+IsEndDone w before (end.Fixed f) done = IsDeedDone w before f.deed done
+IsEndDone w before (end.LeftOut t) done = IsLeftOut t done
+IsEndDone w before (end.LeftBehind n) done = done ≡ nothing
 
 abbrev pub left_behind : FileEnd → List (String Global)
 left_behind (end.LeftBehind n) = n ∷ []
 left_behind _ = []
 
 -- so it is with each file, one behind the other
-pub data AreEndsDone (s : Shelved) (c : Rows) (before : List Attempt) :
-    List FileEnd → Done → Type 0 where
-  no_end : AreEndsDone s c before [] nothing
+pub data AreEndsDone (w : Setting) (before : List Attempt) : List FileEnd → Done → Type 0 where
+  no_end : AreEndsDone w before [] nothing
   then_end : (ends : List FileEnd) (e : FileEnd) (done own : Done) →
-      AreEndsDone s c before ends done → IsEndDone s c (before ++ done.tried) e own →
-      AreEndsDone s c before (ends ++ e ∷ []) (behind done own)
+      AreEndsDone w before ends done → IsEndDone w (before ++ done.tried) e own →
+      AreEndsDone w before (ends ++ e ∷ []) (behind done own)
 
 -- with each file of a path, and last it is told which were left behind below it
-pub record IsPathDone (s : Shelved) (c : Rows) (before : List Attempt) (p : PathEnd) (done : Done) :
+pub record IsPathDone (w : Setting) (before : List Attempt) (p : PathEnd) (done : Done) :
     Type 0 where
   pub files : Done
-  pub are_done : AreEndsDone s c before p.ends.items files
+  pub are_done : AreEndsDone w before p.ends.items files
   pub done_is : done ≡
       behind files (telling (map trouble.LeftBehind (flat_map left_behind p.ends.items)))
 
 -- so it is with each path
-pub data ArePathsDone (s : Shelved) (c : Rows) : List PathEnd → Done → Type 0 where
-  no_path : ArePathsDone s c [] nothing
+pub data ArePathsDone (w : Setting) : List PathEnd → Done → Type 0 where
+  no_path : ArePathsDone w [] nothing
   then_path : (paths : List PathEnd) (p : PathEnd) (done own : Done) →
-      ArePathsDone s c paths done → IsPathDone s c done.tried p own →
-      ArePathsDone s c (paths ++ p ∷ []) (behind done own)
+      ArePathsDone w paths done → IsPathDone w done.tried p own →
+      ArePathsDone w (paths ++ p ∷ []) (behind done own)
 
 -- ---- the command
 
@@ -185,82 +203,108 @@ pub record IsFix (s : Shelved) (inside : InsideBytes) (a : Request) (status : �
   pub run : Run
   pub is_run : IsRun s inside a run
   pub paths : Done
-  pub are_done : ArePathsDone s run.catalogue run.paths.items paths
+  pub are_done : ArePathsDone (setting s run.catalogue a.breaks_links) run.paths.items paths
   pub beside : List Trouble
   pub is_beside : IsBesideTold a.is_written s (map path_in a.paths.now) beside
   pub done_is : done ≡ behind paths (telling beside)
   pub status_is : status ≡ max (plan.status_of run) (worst done.told)
 
--- ---- why it stops or breaks off
+-- ---- what is done of a file at which it breaks off, of which nothing is told
 
--- the output has failed, or memory was refused; or a file can't be written, the last that was tried
-pub data IsBrokenOff (output : Told) (tried tried' : Account Attempt) : Trouble → Type 0 where
-  broken : (t : Trouble) → IsBroken output t → IsBrokenOff output tried tried' t
-  unwritten : (before : List Attempt) (path : String Global) (stamp : Stamp) (bytes : List ℕ)
-      (e : Error) → Hears tried tried'
-      (before ++ attempt (string_bytes path) stamp bytes (Err (obstacle.Failed e)) ∷ []) →
-      IsBrokenOff output tried tried' (trouble.Unwritable path e)
+-- its bytes were tried to put in its place
+pub record IsTried (breaks_links : Bool) (r : Replacement) (done : Done) : Type 0 where
+  pub answer : Result Loss Obstacle
+  pub done_is : done ≡ trying (noted (attempt_of breaks_links r answer))
 
--- at one thing it breaks off, of which nothing is told: a part of its text was written, or its bytes
--- were tried to put in the place of a file
-pub record BreaksAt (old new : Stand) : Type 0 where
-  pub part : List ℕ
-  pub last : List Attempt
-  pub writes : Appends old.output.bytes new.output.bytes part
-  pub tells_none : new.heard ≡ old.heard
-  pub tries : Hears old.tried new.tried last
+abbrev pub IsTriedIf : Bool → Deed → Done → Type 0
+IsTriedIf breaks_links (deed.Replace r) done = IsTried breaks_links r done
+IsTriedIf breaks_links _ done = ⊥
 
--- something was done of which this holds, and at one thing more it broke off
-pub record DidBefore (old new : Stand) (Is : Done → Type 0) : Type 0 where
-  pub done : Done
-  pub part : List ℕ
-  pub last : List Attempt
-  pub writes : Appends old.output.bytes new.output.bytes (done.text ++ part)
-  pub tells : Hears old.heard new.heard done.told
-  pub tries : Hears old.tried new.tried (done.tried ++ last)
-  pub is : Is done
+-- it was read and mended again, and these bytes were tried; or nothing was
+pub data IsTriedAgain (w : Setting) (r : Replacement) (done : Done) : Type 0 where
+  again : (f : Fixed) → IsFixedAt w.shelf w.rows true r.parts (string_bytes r.path) f →
+      IsTriedIf w.breaks_links f.deed done → IsTriedAgain w r done
+  untried : done ≡ nothing → IsTriedAgain w r done
 
--- what comes of the first files was done
-pub record AreEndsBegun (s : Shelved) (c : Rows) (before : List Attempt) (ends : List FileEnd)
+abbrev pub IsTriedBy : Bool → Setting → Replacement → Done → Type 0
+IsTriedBy false w r done = IsTried w.breaks_links r done
+IsTriedBy true w r done = IsTriedAgain w r done
+
+-- a beginning of the text was written
+pub record IsPut (text : List ℕ) (done : Done) : Type 0 where
+  pub begun : List ℕ
+  pub others : List ℕ
+  pub whole : text ≡ begun ++ others
+  pub done_is : done ≡ writing begun
+
+-- at a file of which nothing is to be done it doesn't break off
+abbrev pub IsDeedBegun : Setting → List Attempt → Deed → Done → Type 0
+IsDeedBegun w before deed.Nothing done = ⊥
+IsDeedBegun w before (deed.Put text) done = IsPut text.items done
+IsDeedBegun w before (deed.Replace r) done = IsTriedBy (is_replaced before r.stamp) w r done
+
+abbrev pub IsEndBegun : Setting → List Attempt → FileEnd → Done → Type 0
+IsEndBegun w before (end.Fixed f) done = IsDeedBegun w before f.deed done
+IsEndBegun w before _ done = done ≡ nothing
+
+-- ---- what is done where it breaks off
+
+-- what comes of the first files was done, and of the next one a beginning
+pub record AreEndsBegun (w : Setting) (before : List Attempt) (ends : List FileEnd)
     (done : Done) : Type 0 where
   pub first : List FileEnd
+  pub next : FileEnd
   pub others : List FileEnd
-  pub whole : ends ≡ first ++ others
-  pub are_done : AreEndsDone s c before first done
+  pub whole : ends ≡ first ++ next ∷ others
+  pub files : Done
+  pub own : Done
+  pub are_done : AreEndsDone w before first files
+  pub is_begun : IsEndBegun w (before ++ files.tried) next own
+  pub done_is : done ≡ behind files own
 
--- of a path: of its first files; or of all, and the first were told that were left behind below it
-pub data IsPathBegun (s : Shelved) (c : Rows) (before : List Attempt) (p : PathEnd) :
-    Done → Type 0 where
-  in_files : (done : Done) → AreEndsBegun s c before p.ends.items done →
-      IsPathBegun s c before p done
+-- of a path: of its files; or of all, and the first were told that were left behind below it
+pub data IsPathBegun (w : Setting) (before : List Attempt) (p : PathEnd) : Done → Type 0 where
+  in_files : (done : Done) → AreEndsBegun w before p.ends.items done →
+      IsPathBegun w before p done
   in_left : (files : Done) (first others : List Trouble) →
-      AreEndsDone s c before p.ends.items files →
+      AreEndsDone w before p.ends.items files →
       map trouble.LeftBehind (flat_map left_behind p.ends.items) ≡ first ++ others →
-      IsPathBegun s c before p (behind files (telling first))
+      IsPathBegun w before p (behind files (telling first))
 
 -- the first paths were done, and of the next one a beginning
-pub record ArePathsBegun (s : Shelved) (c : Rows) (paths : List PathEnd) (done : Done) :
-    Type 0 where
+pub record ArePathsBegun (w : Setting) (paths : List PathEnd) (done : Done) : Type 0 where
   pub first : List PathEnd
   pub next : PathEnd
   pub others : List PathEnd
   pub whole : paths ≡ first ++ next ∷ others
   pub before : Done
   pub own : Done
-  pub are_done : ArePathsDone s c first before
-  pub is_begun : IsPathBegun s c before.tried next own
+  pub are_done : ArePathsDone w first before
+  pub is_begun : IsPathBegun w before.tried next own
   pub done_is : done ≡ behind before own
 
 -- of a run: of its paths; or of all, and the first were told that stand beside them
 pub data IsFixBegun (s : Shelved) (inside : InsideBytes) (a : Request) : Done → Type 0 where
   in_paths : (run : Run) (done : Done) → IsRun s inside a run →
-      ArePathsBegun s run.catalogue run.paths.items done → IsFixBegun s inside a done
+      ArePathsBegun (setting s run.catalogue a.breaks_links) run.paths.items done →
+      IsFixBegun s inside a done
   behind_paths : (run : Run) (done : Done) → IsRun s inside a run →
-      ArePathsDone s run.catalogue run.paths.items done → IsFixBegun s inside a done
+      ArePathsDone (setting s run.catalogue a.breaks_links) run.paths.items done →
+      IsFixBegun s inside a done
   in_beside : (run : Run) (paths : Done) (first others : List Trouble) → IsRun s inside a run →
-      ArePathsDone s run.catalogue run.paths.items paths →
+      ArePathsDone (setting s run.catalogue a.breaks_links) run.paths.items paths →
       IsBesideTold a.is_written s (map path_in a.paths.now) (first ++ others) →
       IsFixBegun s inside a (behind paths (telling first))
+
+-- ---- why it stops or breaks off
+
+-- the output has failed, or memory was refused; or a file can't be written, the last that was tried
+pub data IsBrokenOff (output : Told) (tried tried' : Account Attempt) : Trouble → Type 0 where
+  broken : (t : Trouble) → IsBroken output t → IsBrokenOff output tried tried' t
+  unwritten : (before : List Attempt) (path : String Global) (stamp : Stamp) (breaks_links : Bool)
+      (bytes : List ℕ) (e : Error) → Hears tried tried' (before ++
+      attempt (string_bytes path) stamp breaks_links bytes (Err (obstacle.Failed e)) ∷ []) →
+      IsBrokenOff output tried tried' (trouble.Unwritable path e)
 
 -- the list isn't had, and nothing was written, told nor tried; or it breaks off behind a beginning
 pub data IsFixStopped (s : Shelved) (inside : InsideBytes) (a : Request) (old new : Stand) :
@@ -269,27 +313,25 @@ pub data IsFixStopped (s : Shelved) (inside : InsideBytes) (a : Request) (old ne
       new.output.bytes ≡ old.output.bytes → new.heard ≡ old.heard → new.tried ≡ old.tried →
       IsFixStopped s inside a old new (fix_fault_trouble cause)
   broken_off : (t : Trouble) → IsBrokenOff new.output old.tried new.tried t →
-      DidBefore old new (IsFixBegun s inside a) → IsFixStopped s inside a old new t
+      Did old new (IsFixBegun s inside a) → IsFixStopped s inside a old new t
 
 -- ---- laws
 
--- the file was read and mended, and is to hold what came of that; some expression in it was refused
-pub record IsNeeded (s : Shelved) (c : Rows) (a : Attempt) : Type 0 where
-  pub parts : Parts
-  pub old : List ℕ
-  pub outcome : Outcome
-  pub reads : IsRead s true a.path old
-  pub stamped : s.Stamps a.path a.stamp
-  pub mends : IsMended c parts (read_as true a.path) old outcome
-  pub bytes_are : bytes_in outcome.bytes ≡ Some a.bytes
-  pub refuses : Reads c parts (read_as true a.path) old → ⊥
-
--- so it is of all that was tried, by the list that is named
-pub record AreNeeded (s : Shelved) (inside : InsideBytes) (a : Request) (tried : List Attempt) :
+-- by the list that is named the file was read and mended, and it is to hold what came of that; some
+-- expression in it was refused
+pub record IsNeeded (s : Shelved) (inside : InsideBytes) (a : Request) (t : Attempt) :
     Type 0 where
   pub catalogue : Rows
   pub list_is : IsNamedList s inside (option_copied a.list) catalogue
-  pub each : All (IsNeeded s catalogue) tried
+  pub parts : Parts
+  pub old : List ℕ
+  pub outcome : Outcome
+  pub reads : IsRead s true t.path old
+  pub stamped : s.Stamps t.path t.stamp
+  pub mends : IsMended catalogue parts (read_as true t.path) old outcome
+  pub bytes_are : bytes_in outcome.bytes ≡ Some t.bytes
+  pub refuses : Reads catalogue parts (read_as true t.path) old → ⊥
+  pub links_are : t.breaks_links ≡ a.breaks_links
 
 -- it changes no status
 abbrev pub IsMere : Trouble → Type 0

@@ -7,16 +7,23 @@ use Rattle.spdx_commands.specs.declared.replacing.Obstacle.{Obstacle}
 use Rattle.spdx_commands.specs.declared.replacing.Obstacle.TheVariants as obstacle
 use Rattle.spdx_troubles.specs.Causes as causes
 
--- these bytes were to take the place of the file's, which was known by the stamp when it was read
+-- these bytes were to take the place of the file's, which was known by the stamp when it was read, be
+-- it that it has other names, which keep the old ones then, or only where it has none
 pub record Attempt : Type 0 where
   pub path : List ℕ
   pub stamp : Stamp
+  pub breaks_links : Bool
   pub bytes : List ℕ
   pub answer : Result Loss Obstacle
 
-abbrev pub attempt : List ℕ → Stamp → List ℕ → Result Loss Obstacle → Attempt
-attempt path stamp bytes answer =
-    record { path = path; stamp = stamp; bytes = bytes; answer = answer }
+abbrev pub attempt : List ℕ → Stamp → Bool → List ℕ → Result Loss Obstacle → Attempt
+attempt path stamp breaks_links bytes answer = record {
+  path = path;
+  stamp = stamp;
+  breaks_links = breaks_links;
+  bytes = bytes;
+  answer = answer;
+}
 
 -- memory was refused
 abbrev pub is_of_memory : Result Loss Obstacle → Bool

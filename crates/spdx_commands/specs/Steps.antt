@@ -2,9 +2,11 @@
 use Rattle.std.specs.Prelude.{◌≡◌, ◌⊎◌, ℕ, false, List, [], ◌∷◌, ◌++◌, String}
 use Rattle.std.specs.declared.alloc.Global.{Global}
 use Rattle.shelves.specs.declared.shelf.Stamp.{Stamp}
-use Rattle.spdx_commands.specs.Mend.{Done, worst}
+use Rattle.shelves.specs.Shelf.{Shelved}
+use Rattle.spdx_commands.specs.Mend.{Done, Setting, setting, worst}
 use Rattle.spdx_commands.specs.Nodes.{has_node}
 use Rattle.spdx_commands.specs.Replaced.{Attempt, is_replaced}
+use Rattle.spdx_commands.specs.declared.deeds.Means.{Means}
 use Rattle.spdx_commands.specs.declared.deeds.SoFar.{SoFar}
 use Rattle.spdx_commands.specs.declared.nodes.Nodes.{Nodes}
 use Rattle.spdx_commands.specs.declared.replacing.Obstacle.{Obstacle}
@@ -14,6 +16,10 @@ use Rattle.spdx_troubles.specs.Status.{status_of}
 use Rattle.spdx_troubles.specs.declared.trouble.Trouble.{Trouble}
 use Rattle.spdx_troubles.specs.declared.trouble.Trouble.TheVariants as trouble
 use Rattle.fix_program.specs.declared.trouble.FixTrouble.{FixTrouble}
+
+-- the shelf, by what it tells, and the list
+abbrev pub setting_of : {S : Type 0} → (S → Shelved) → Means S → Setting
+setting_of told m = setting (told m.shelf.now) m.catalogue.now m.breaks_links
 
 -- these are the files that hold new bytes already
 abbrev pub AreReplaced : Nodes → List Attempt → Type 0

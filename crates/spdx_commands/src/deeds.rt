@@ -5,20 +5,32 @@ ghost use Rattle.check_files.specs.Told.{Hears, Tells};
 ghost use Rattle.line_engine.specs.Device.{Told};
 ghost use Rattle.spdx_commands.specs.Mend as spec;
 ghost use Rattle.spdx_commands.specs.Mend.{
-  BreaksAt,
   Did,
   IsBrokenOff,
+  IsDeedBegun,
   IsDeedDone,
+  IsEndBegun,
   IsEndDone,
   IsPlaced,
   IsPlacedAgain,
   IsPlacedBy,
   IsPlacedIf,
+  IsTried,
+  IsTriedAgain,
+  IsTriedBy,
+  IsTriedIf,
   left_behind,
   stand,
 };
 ghost use Rattle.spdx_commands.specs.Replaced.{is_replaced};
-ghost use Rattle.spdx_commands.specs.Steps.{Comes, IsFresh, IsLeftOutTold, IsUnwritten};
+ghost use Rattle.spdx_commands.specs.Steps.{
+  Began,
+  Comes,
+  IsFresh,
+  IsLeftOutTold,
+  IsUnwritten,
+  setting_of,
+};
 ghost use Rattle.spdx_troubles.specs.Causes as causes;
 ghost use Rattle.spdx_troubles.specs.Status.{status_of};
 
@@ -33,6 +45,15 @@ use spdx_catalogue::Catalogue;
 use spdx_troubles::Trouble;
 use std::alloc::{AllocError, Global};
 use std::io::{self, ErrorKind};
+
+/// What a run mends by.
+#[derive(Drop)]
+pub(crate) struct Means<'m, S> {
+    pub(crate) shelf: &'m S,
+    pub(crate) catalogue: &'m Catalogue,
+    /// Whether a file that has other names is replaced too.
+    pub(crate) breaks_links: bool,
+}
 
 /// What a run has come to.
 #[derive(Drop)]
@@ -62,8 +83,7 @@ impl SoFar {
 /// The output fails, a file can't be written, or memory was refused.
 pub(crate) fn do_end<S: Shelf, R: Replacing, O: Sink, T: Listener>(
     alloc: Global,
-    shelf: &S,
-    catalogue: &Catalogue,
+    means: &Means<'_, S>,
     end: FileEnd,
     so_far: &mut SoFar,
     replacer: &mut R,
@@ -74,22 +94,22 @@ pub(crate) fn do_end<S: Shelf, R: Replacing, O: Sink, T: Listener>(
         Did (stand (O.told output.old) (T.heard listener.old) (R.tried replacer.old))
         (stand (O.told output.new) (T.heard listener.new) (R.tried replacer.new))
         (Comes so_far.old.replaced so_far.new.replaced status (λ before.
-        IsEndDone (S.told shelf.now) catalogue.now before end))) }
+        IsEndDone (setting_of S.told means.now) before end))) }
     ensures left { OnOk result (so_far.new.left.items
         ≡ so_far.old.left.items ++ left_behind end) }
     ensures err { IfErr result (IsBrokenOff (O.told output.new) (R.tried replacer.old)
         (R.tried replacer.new)) }
-    ensures begun { IfErr result (λ _. BreaksAt
+    ensures begun { IfErr result (λ _. Did
         (stand (O.told output.old) (T.heard listener.old) (R.tried replacer.old))
-        (stand (O.told output.new) (T.heard listener.new) (R.tried replacer.new))) }
+        (stand (O.told output.new) (T.heard listener.new) (R.tried replacer.new))
+        (Began so_far.old.replaced (λ before.
+        IsEndBegun (setting_of S.told means.now) before end))) }
 {
     match end {
         FileEnd::Fixed(fixed) => {
             let Fixed { deed, .. } = fixed;
             let replaced = &mut so_far.replaced;
-            do_deed(
-                alloc, shelf, catalogue, deed, replaced, replacer, output, listener,
-            )
+            do_deed(alloc, means, deed, replaced, replacer, output, listener)
         }
         FileEnd::LeftOut(trouble) => {
             let status = tell_left_out(alloc, trouble, listener)?;
@@ -104,8 +124,7 @@ pub(crate) fn do_end<S: Shelf, R: Replacing, O: Sink, T: Listener>(
 
 fn do_deed<S: Shelf, R: Replacing, O: Sink, T: Listener>(
     alloc: Global,
-    shelf: &S,
-    catalogue: &Catalogue,
+    means: &Means<'_, S>,
     deed: Deed,
     replaced: &mut Nodes,
     replacer: &mut R,
@@ -116,12 +135,14 @@ fn do_deed<S: Shelf, R: Replacing, O: Sink, T: Listener>(
         Did (stand (O.told output.old) (T.heard listener.old) (R.tried replacer.old))
         (stand (O.told output.new) (T.heard listener.new) (R.tried replacer.new))
         (Comes replaced.old replaced.new status (λ before.
-        IsDeedDone (S.told shelf.now) catalogue.now before deed))) }
+        IsDeedDone (setting_of S.told means.now) before deed))) }
     ensures err { IfErr result (IsBrokenOff (O.told output.new) (R.tried replacer.old)
         (R.tried replacer.new)) }
-    ensures begun { IfErr result (λ _. BreaksAt
+    ensures begun { IfErr result (λ _. Did
         (stand (O.told output.old) (T.heard listener.old) (R.tried replacer.old))
-        (stand (O.told output.new) (T.heard listener.new) (R.tried replacer.new))) }
+        (stand (O.told output.new) (T.heard listener.new) (R.tried replacer.new))
+        (Began replaced.old (λ before.
+        IsDeedBegun (setting_of S.told means.now) before deed))) }
 {
     match deed {
         Deed::Nothing => Ok(0),
@@ -129,17 +150,14 @@ fn do_deed<S: Shelf, R: Replacing, O: Sink, T: Listener>(
             write_all(output, &text)?;
             Ok(0)
         }
-        Deed::Replace(new) => {
-            do_replacement(alloc, shelf, catalogue, new, replaced, replacer, listener)
-        }
+        Deed::Replace(new) => { do_replacement(alloc, means, new, replaced, replacer, listener) }
     }
 }
 
 // Places the mended bytes; where the run has replaced the file already, those of the file as it is now.
 fn do_replacement<S: Shelf, R: Replacing, T: Listener>(
     alloc: Global,
-    shelf: &S,
-    catalogue: &Catalogue,
+    means: &Means<'_, S>,
     new: Replacement,
     replaced: &mut Nodes,
     replacer: &mut R,
@@ -149,25 +167,26 @@ fn do_replacement<S: Shelf, R: Replacing, T: Listener>(
         Did (stand output (T.heard listener.old) (R.tried replacer.old))
         (stand output (T.heard listener.new) (R.tried replacer.new))
         (Comes replaced.old replaced.new status (λ before.
-        IsPlacedBy (is_replaced before new.stamp) (S.told shelf.now) catalogue.now new))) }
+        IsPlacedBy (is_replaced before new.stamp) (setting_of S.told means.now) new))) }
     ensures err { IfErr result (λ trouble. (output : Told) → IsBrokenOff output
         (R.tried replacer.old) (R.tried replacer.new) trouble) }
-    ensures begun { IfErr result (λ _. (output : Told) → BreaksAt
+    ensures begun { IfErr result (λ _. (output : Told) → Did
         (stand output (T.heard listener.old) (R.tried replacer.old))
-        (stand output (T.heard listener.new) (R.tried replacer.new))) }
+        (stand output (T.heard listener.new) (R.tried replacer.new))
+        (Began replaced.old (λ before.
+        IsTriedBy (is_replaced before new.stamp) (setting_of S.told means.now) new))) }
 {
     if replaced.has(new.stamp) {
-        place_again(alloc, shelf, catalogue, new, replaced, replacer, listener)
+        place_again(alloc, means, new, replaced, replacer, listener)
     } else {
-        place(alloc, new, replaced, replacer, listener)
+        place(alloc, new, means.breaks_links, replaced, replacer, listener)
     }
 }
 
 // Mends the file as it is now.
 fn place_again<S: Shelf, R: Replacing, T: Listener>(
     alloc: Global,
-    shelf: &S,
-    catalogue: &Catalogue,
+    means: &Means<'_, S>,
     old: Replacement,
     replaced: &mut Nodes,
     replacer: &mut R,
@@ -177,21 +196,29 @@ fn place_again<S: Shelf, R: Replacing, T: Listener>(
         Did (stand output (T.heard listener.old) (R.tried replacer.old))
         (stand output (T.heard listener.new) (R.tried replacer.new))
         (Comes replaced.old replaced.new status (λ _.
-        IsPlacedAgain (S.told shelf.now) catalogue.now old))) }
+        IsPlacedAgain (setting_of S.told means.now) old))) }
     ensures err { IfErr result (λ trouble. (output : Told) → IsBrokenOff output
         (R.tried replacer.old) (R.tried replacer.new) trouble) }
-    ensures begun { IfErr result (λ _. (output : Told) → BreaksAt
+    ensures begun { IfErr result (λ _. (output : Told) → Did
         (stand output (T.heard listener.old) (R.tried replacer.old))
-        (stand output (T.heard listener.new) (R.tried replacer.new))) }
+        (stand output (T.heard listener.new) (R.tried replacer.new))
+        (IsTriedAgain (setting_of S.told means.now) old)) }
 {
     let manner = Manner {
-        catalogue,
+        catalogue: means.catalogue,
         is_written: true,
     };
-    match file_fixed(alloc, shelf, manner, old.parts, old.path.as_str()) {
+    match file_fixed(alloc, means.shelf, manner, old.parts, old.path.as_str()) {
         Ok(fixed) => {
             let Fixed { deed, .. } = fixed;
-            place_if(alloc, deed, replaced, replacer, listener)
+            place_if(
+                alloc,
+                deed,
+                means.breaks_links,
+                replaced,
+                replacer,
+                listener,
+            )
         }
         Err(trouble) => {
             let status = tell_left_out(alloc, trouble, listener)?;
@@ -203,6 +230,7 @@ fn place_again<S: Shelf, R: Replacing, T: Listener>(
 fn place_if<R: Replacing, T: Listener>(
     alloc: Global,
     deed: Deed,
+    breaks_links: bool,
     replaced: &mut Nodes,
     replacer: &mut R,
     listener: &mut T,
@@ -210,15 +238,16 @@ fn place_if<R: Replacing, T: Listener>(
     ensures ok { IfOk result (λ status. (output : Told) →
         Did (stand output (T.heard listener.old) (R.tried replacer.old))
         (stand output (T.heard listener.new) (R.tried replacer.new))
-        (Comes replaced.old replaced.new status (λ _. IsPlacedIf deed))) }
+        (Comes replaced.old replaced.new status (λ _. IsPlacedIf breaks_links deed))) }
     ensures err { IfErr result (λ trouble. (output : Told) → IsBrokenOff output
         (R.tried replacer.old) (R.tried replacer.new) trouble) }
-    ensures begun { IfErr result (λ _. (output : Told) → BreaksAt
+    ensures begun { IfErr result (λ _. (output : Told) → Did
         (stand output (T.heard listener.old) (R.tried replacer.old))
-        (stand output (T.heard listener.new) (R.tried replacer.new))) }
+        (stand output (T.heard listener.new) (R.tried replacer.new))
+        (IsTriedIf breaks_links deed)) }
 {
     match deed {
-        Deed::Replace(new) => place(alloc, new, replaced, replacer, listener),
+        Deed::Replace(new) => place(alloc, new, breaks_links, replaced, replacer, listener),
         Deed::Nothing => Ok(0),
         Deed::Put(_) => Ok(0),
     }
@@ -228,6 +257,7 @@ fn place_if<R: Replacing, T: Listener>(
 fn place<R: Replacing, T: Listener>(
     alloc: Global,
     new: Replacement,
+    breaks_links: bool,
     replaced: &mut Nodes,
     replacer: &mut R,
     listener: &mut T,
@@ -235,12 +265,13 @@ fn place<R: Replacing, T: Listener>(
     ensures ok { IfOk result (λ status. (output : Told) →
         Did (stand output (T.heard listener.old) (R.tried replacer.old))
         (stand output (T.heard listener.new) (R.tried replacer.new))
-        (Comes replaced.old replaced.new status (λ _. IsPlaced new))) }
+        (Comes replaced.old replaced.new status (λ _. IsPlaced breaks_links new))) }
     ensures err { IfErr result (λ trouble. (output : Told) → IsBrokenOff output
         (R.tried replacer.old) (R.tried replacer.new) trouble) }
-    ensures begun { IfErr result (λ _. (output : Told) → BreaksAt
+    ensures begun { IfErr result (λ _. (output : Told) → Did
         (stand output (T.heard listener.old) (R.tried replacer.old))
-        (stand output (T.heard listener.new) (R.tried replacer.new))) }
+        (stand output (T.heard listener.new) (R.tried replacer.new))
+        (IsTried breaks_links new)) }
 {
     let Replacement {
         path,
@@ -248,7 +279,7 @@ fn place<R: Replacing, T: Listener>(
         bytes,
         ..
     } = new;
-    match replacer.replace(alloc, path.as_str(), stamp, &bytes) {
+    match replacer.replace(alloc, path.as_str(), stamp, breaks_links, &bytes) {
         Ok(loss) => {
             replaced.add(stamp)?;
             tell_loss(alloc, path, loss, listener)?;

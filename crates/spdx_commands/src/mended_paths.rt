@@ -7,23 +7,28 @@ ghost use Rattle.spdx_commands.specs.Mend.{
   ArePathsBegun,
   ArePathsDone,
   Did,
-  DidBefore,
   IsBrokenOff,
   IsPathBegun,
   IsPathDone,
   left_behind,
   stand,
 };
-ghost use Rattle.spdx_commands.specs.Steps.{Began, BeganPath, Comes, ComesOfPath, IsWorst};
+ghost use Rattle.spdx_commands.specs.Steps.{
+  Began,
+  BeganPath,
+  Comes,
+  ComesOfPath,
+  IsWorst,
+  setting_of,
+};
 
 use crate::beside::tell_left;
-use crate::deeds::{SoFar, do_end};
+use crate::deeds::{Means, SoFar, do_end};
 use crate::listener::Listener;
 use crate::replacing::Replacing;
 use fix_program::{FileEnd, PathEnd};
 use line_engine::device::Sink;
 use shelves::Shelf;
-use spdx_catalogue::Catalogue;
 use spdx_troubles::Trouble;
 use std::alloc::Global;
 use std::mem;
@@ -35,8 +40,7 @@ use std::mem;
 /// The output fails, a file can't be written, or memory was refused: it breaks off there.
 pub(crate) fn do_paths<S: Shelf, R: Replacing, O: Sink, T: Listener>(
     alloc: Global,
-    shelf: &S,
-    catalogue: &Catalogue,
+    means: &Means<'_, S>,
     paths: Vec<PathEnd>,
     replacer: &mut R,
     output: &mut O,
@@ -45,27 +49,18 @@ pub(crate) fn do_paths<S: Shelf, R: Replacing, O: Sink, T: Listener>(
     ensures ok { IfOk result (λ status.
         Did (stand (O.told output.old) (T.heard listener.old) (R.tried replacer.old))
         (stand (O.told output.new) (T.heard listener.new) (R.tried replacer.new))
-        (IsWorst status (ArePathsDone (S.told shelf.now) catalogue.now paths.items))) }
+        (IsWorst status (ArePathsDone (setting_of S.told means.now) paths.items))) }
     ensures err { IfErr result (IsBrokenOff (O.told output.new) (R.tried replacer.old)
         (R.tried replacer.new)) }
-    ensures begun { IfErr result (λ _. DidBefore
+    ensures begun { IfErr result (λ _. Did
         (stand (O.told output.old) (T.heard listener.old) (R.tried replacer.old))
         (stand (O.told output.new) (T.heard listener.new) (R.tried replacer.new))
-        (ArePathsBegun (S.told shelf.now) catalogue.now paths.items)) }
+        (ArePathsBegun (setting_of S.told means.now) paths.items)) }
 {
     let mut so_far = SoFar::new(alloc);
     let mut worst = 0;
     for path in paths {
-        let status = do_path(
-            alloc,
-            shelf,
-            catalogue,
-            path,
-            &mut so_far,
-            replacer,
-            output,
-            listener,
-        )?;
+        let status = do_path(alloc, means, path, &mut so_far, replacer, output, listener)?;
         worst = greater(status, worst);
     }
     Ok(worst)
@@ -74,8 +69,7 @@ pub(crate) fn do_paths<S: Shelf, R: Replacing, O: Sink, T: Listener>(
 // Does what comes of a path, and tells last what runs that were killed left below it.
 fn do_path<S: Shelf, R: Replacing, O: Sink, T: Listener>(
     alloc: Global,
-    shelf: &S,
-    catalogue: &Catalogue,
+    means: &Means<'_, S>,
     path: PathEnd,
     so_far: &mut SoFar,
     replacer: &mut R,
@@ -86,20 +80,18 @@ fn do_path<S: Shelf, R: Replacing, O: Sink, T: Listener>(
         Did (stand (O.told output.old) (T.heard listener.old) (R.tried replacer.old))
         (stand (O.told output.new) (T.heard listener.new) (R.tried replacer.new))
         (ComesOfPath so_far.old so_far.new status (λ before.
-        IsPathDone (S.told shelf.now) catalogue.now before path))) }
+        IsPathDone (setting_of S.told means.now) before path))) }
     ensures left { OnOk result (so_far.new.left.items ≡ []) }
     ensures err { IfErr result (IsBrokenOff (O.told output.new) (R.tried replacer.old)
         (R.tried replacer.new)) }
-    ensures begun { IfErr result (λ _. DidBefore
+    ensures begun { IfErr result (λ _. Did
         (stand (O.told output.old) (T.heard listener.old) (R.tried replacer.old))
         (stand (O.told output.new) (T.heard listener.new) (R.tried replacer.new))
         (BeganPath so_far.old (λ before.
-        IsPathBegun (S.told shelf.now) catalogue.now before path))) }
+        IsPathBegun (setting_of S.told means.now) before path))) }
 {
     let PathEnd { ends } = path;
-    let status = do_ends(
-        alloc, shelf, catalogue, ends, so_far, replacer, output, listener,
-    )?;
+    let status = do_ends(alloc, means, ends, so_far, replacer, output, listener)?;
     let left = mem::replace(&mut so_far.left, Vec::new(alloc));
     tell_left(alloc, left, listener)?;
     Ok(status)
@@ -108,8 +100,7 @@ fn do_path<S: Shelf, R: Replacing, O: Sink, T: Listener>(
 // Does what comes of each file.
 fn do_ends<S: Shelf, R: Replacing, O: Sink, T: Listener>(
     alloc: Global,
-    shelf: &S,
-    catalogue: &Catalogue,
+    means: &Means<'_, S>,
     ends: Vec<FileEnd>,
     so_far: &mut SoFar,
     replacer: &mut R,
@@ -120,22 +111,20 @@ fn do_ends<S: Shelf, R: Replacing, O: Sink, T: Listener>(
         Did (stand (O.told output.old) (T.heard listener.old) (R.tried replacer.old))
         (stand (O.told output.new) (T.heard listener.new) (R.tried replacer.new))
         (Comes so_far.old.replaced so_far.new.replaced status (λ before.
-        AreEndsDone (S.told shelf.now) catalogue.now before ends.items))) }
+        AreEndsDone (setting_of S.told means.now) before ends.items))) }
     ensures left { OnOk result (so_far.new.left.items
         ≡ so_far.old.left.items ++ flat_map left_behind ends.items) }
     ensures err { IfErr result (IsBrokenOff (O.told output.new) (R.tried replacer.old)
         (R.tried replacer.new)) }
-    ensures begun { IfErr result (λ _. DidBefore
+    ensures begun { IfErr result (λ _. Did
         (stand (O.told output.old) (T.heard listener.old) (R.tried replacer.old))
         (stand (O.told output.new) (T.heard listener.new) (R.tried replacer.new))
         (Began so_far.old.replaced (λ before.
-        AreEndsBegun (S.told shelf.now) catalogue.now before ends.items))) }
+        AreEndsBegun (setting_of S.told means.now) before ends.items))) }
 {
     let mut worst = 0;
     for end in ends {
-        let status = do_end(
-            alloc, shelf, catalogue, end, so_far, replacer, output, listener,
-        )?;
+        let status = do_end(alloc, means, end, so_far, replacer, output, listener)?;
         worst = greater(status, worst);
     }
     Ok(worst)

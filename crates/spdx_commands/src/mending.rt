@@ -1,21 +1,22 @@
 // The command `fix`.
 
-ghost use Rattle.std.specs.Prelude.{◌≡◌, ◌<◌, [], All, IfErr, IfOk, OnOk, false, map};
+ghost use Rattle.std.specs.Prelude.{◌≡◌, ◌<◌, [], All, IfErr, IfOk, false, map};
 ghost use Rattle.check_files.specs.Told.{Hears, Tells};
 ghost use Rattle.fix_program.specs.Passing.{AreAllAccepted};
 ghost use Rattle.fix_program.specs.Runs.{path_in};
 ghost use Rattle.list_program.specs.Named.{inside_of};
 ghost use Rattle.spdx_commands.specs.Beside.{IsBesideTold};
 ghost use Rattle.spdx_commands.specs.Mend.{
-  AreNeeded,
   Did,
   IsFix,
   IsFixStopped,
   IsMere,
+  IsNeeded,
   stand,
 };
 
 use crate::beside::tell_left_beside;
+use crate::deeds::Means;
 use crate::follower::Follower;
 use crate::mended_paths::{do_paths, greater};
 use crate::replacing::Replacing;
@@ -59,16 +60,21 @@ pub fn fix<S: Shelf, R: Replacing, O: Sink, T: Follower>(
         (inside_of inside.entry.list.now inside.entry.extras.now) request.entry) }
     ensures quiet { IfOk result (λ status. status < 1 →
         Tells (T.heard listener.old) (T.heard listener.new) (All IsMere)) }
-    ensures kept { OnOk result (request.entry.is_written ≡ false →
-        Hears (R.tried replacer.old) (R.tried replacer.new) []) }
-    ensures mended { OnOk result (Tells (R.tried replacer.old) (R.tried replacer.new)
-        (AreNeeded (S.told shelf.now)
-        (inside_of inside.entry.list.now inside.entry.extras.now) request.entry)) }
+    ensures kept { request.entry.is_written ≡ false →
+        Hears (R.tried replacer.old) (R.tried replacer.new) [] }
+    ensures mended { Tells (R.tried replacer.old) (R.tried replacer.new) (All
+        (IsNeeded (S.told shelf.now) (inside_of inside.entry.list.now inside.entry.extras.now)
+        request.entry)) }
 {
     let run = fix_program::fix(alloc, shelf, inside, request, listener)?;
     let planned = run.status();
     let Run { catalogue, paths } = run;
-    let told = do_paths(alloc, shelf, &catalogue, paths, replacer, output, listener)?;
+    let means = Means {
+        shelf,
+        catalogue: &catalogue,
+        breaks_links: request.breaks_links,
+    };
+    let told = do_paths(alloc, &means, paths, replacer, output, listener)?;
     let beside = beside(alloc, shelf, request)?;
     tell_each(alloc, beside, listener)?;
     Ok(greater(planned, told))

@@ -43,7 +43,8 @@ pub trait Replacing {
     // What it keeps of what it tried, and of what came of that.
     ghost tried: { Self → Account Attempt };
 
-    /// Puts the bytes in the place of what the file at the path held when it was read, which the stamp tells.
+    /// Puts the bytes in the place of what the file at the path held when it was read, which the stamp tells. A file that has
+    /// other names is `Linked`, unless `breaks_links`: these keep the old bytes then.
     ///
     /// # Errors
     ///
@@ -53,8 +54,9 @@ pub trait Replacing {
         alloc: Global,
         path: &str,
         read: Stamp,
+        breaks_links: bool,
         bytes: &[u8],
     ) -> Result<Loss, Obstacle>
         ensures { Hears (tried self.old) (tried self.new)
-            (noted (attempt path.now read bytes.now result)) };
+            (noted (attempt path.now read breaks_links bytes.now result)) };
 }

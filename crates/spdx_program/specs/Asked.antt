@@ -18,8 +18,8 @@ use Rattle.meaning_program.specs.declared.files.Request as simplified
 use Rattle.notice_forms.specs.declared.pages.Format as pages
 use Rattle.notice_forms.specs.declared.pages.Format.TheVariants as page
 use Rattle.notice_program.specs.declared.end.Request as notice
-use Rattle.own_texts.specs.declared.home.OwnTexts as owned
-use Rattle.own_texts.specs.declared.home.OwnTexts.TheVariants as own
+use Rattle.owed_texts.specs.declared.home.OwnTexts as owned
+use Rattle.owed_texts.specs.declared.home.OwnTexts.TheVariants as own
 use Rattle.package_changes.specs.declared.forms.Format as differences
 use Rattle.package_changes.specs.declared.forms.Format.TheVariants as difference
 use Rattle.package_commands.specs.declared.differences.AskedDiff.{AskedDiff}
@@ -29,8 +29,8 @@ use Rattle.package_files.specs.declared.listed.Source.TheVariants as source
 use Rattle.package_files.specs.declared.listed.Wanted as packages
 use Rattle.package_sources.specs.declared.form.Form.{Form}
 use Rattle.package_sources.specs.declared.form.Form.TheVariants as form
-use Rattle.policy_choices.specs.declared.acceptance.Accepted.{Accepted}
-use Rattle.policy_choices.specs.declared.acceptance.Accepted.TheVariants as accepted
+use Rattle.choice_program.specs.declared.acceptance.Accepted.{Accepted}
+use Rattle.choice_program.specs.declared.acceptance.Accepted.TheVariants as accepted
 use Rattle.source_trees.specs.declared.reading.Wanted as trees
 use Rattle.source_trees.specs.declared.reading.Wanted.TheVariants as wanted
 use Rattle.spdx_words.specs.declared.packages_request.Accepted as said_accepted
@@ -118,6 +118,7 @@ fix_of r paths =
       list = r.list;
       wanted = wanted_by r.wanted;
       is_written = r.write;
+      breaks_links = r.break_links;
       paths = paths;
     }
 

@@ -157,8 +157,3 @@ pub record IsPerformed (w : World) (colours : Bool) (r : Request) (x y : Side)
 abbrev pub writes_files : Request → Bool
 writes_files (request.Fix r) = r.write
 writes_files _ = false
-
--- files that have other names are replaced, too
-abbrev pub breaks_links : Request → Bool
-breaks_links (request.Fix r) = r.break_links
-breaks_links _ = false

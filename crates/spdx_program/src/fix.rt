@@ -76,6 +76,7 @@ fn asked<'r>(request: &'r FixRequest<'r>) -> Request<'r>
         list: request.list,
         wanted: readings::asked(request.wanted),
         is_written: request.write,
+        breaks_links: request.break_links,
         paths: paths_or_input(&request.paths),
     }
 }
@@ -96,6 +97,7 @@ impl Replacing for Nobody {
         _alloc: Global,
         _path: &str,
         _read: Stamp,
+        _breaks_links: bool,
         _bytes: &[u8],
     ) -> Result<Loss, Obstacle> {
         Err(Obstacle::Failed(io::Error::from(ErrorKind::OutOfMemory)))

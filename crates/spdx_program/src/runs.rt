@@ -4,7 +4,6 @@ ghost use Rattle.std.specs.Prelude.{◌≡◌, ◌<◌, false};
 ghost use Rattle.check_files.specs.Told.{unkept};
 ghost use Rattle.shelves.specs.Shelf.{silent};
 ghost use Rattle.spdx_program.specs.Ends.{world};
-ghost use Rattle.spdx_program.specs.Requests as spec;
 ghost use Rattle.spdx_program.specs.Requests.{writes_files};
 ghost use Rattle.spdx_program.specs.Served.{IsServed, outcome};
 
@@ -61,7 +60,7 @@ pub fn run<R: System, O: Sink, F: Sink + Drop>(
         (outcome (O.told output.new) (F.told teller.new.faults) unkept) result }
     ensures low { result < 4 }
 {
-    let mut places = Places::new(rt, breaks_links(request));
+    let mut places = Places::new(rt);
     serve(
         rt.alloc(),
         &OpenSystem::new(rt),
@@ -71,14 +70,4 @@ pub fn run<R: System, O: Sink, F: Sink + Drop>(
         output,
         teller,
     )
-}
-
-// Whether files that have other names are replaced.
-fn breaks_links(request: &Request<'_>) -> bool
-    ensures { result ≡ spec.breaks_links request.now }
-{
-    match request {
-        Request::Fix(request) => request.break_links,
-        _ => false,
-    }
 }

@@ -1,7 +1,7 @@
 //! Lists as lines: which catalogue they are, and that the list inside is the same so as in JSON.
 
 use crate::made::shown::{Rows, rows_text};
-use list_lines::{LinesFault, catalogue_in_lines, day_in_lines};
+use list_program::{LinesFault, catalogue_in_lines, day_in_lines};
 use spdx_catalogue::Catalogue;
 use spdx_known::LINES;
 use spdx_requirement::failure::Failure;

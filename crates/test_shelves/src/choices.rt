@@ -8,12 +8,11 @@
 // something to readers.
 
 use crate::shelf::{HEIRS, inside, shelf_of};
-use choice_program::{ChoiceTrouble, Chosen, Why};
+use choice_program::{Accepted, ChoiceTrouble, Chosen, Why, choose};
 use gate_program::PolicyTrouble;
 use list_program::named_list;
 use package_choices::RequirementTexts;
 use package_sources::{License, Package, Spot};
-use policy_choices::{Accepted, choose};
 use shelves::Held;
 use spdx_catalogue::Catalogue;
 use spdx_lexer::token::ParseMode;

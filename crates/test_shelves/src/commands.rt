@@ -71,7 +71,7 @@ fn push_words(alloc: Global, words: &mut Vec<String>, part: &str) -> Result<(), 
 
 fn told_of(alloc: Global, shelf: &Held, request: &Request<'_>) -> Result<String, AllocError> {
     let desk = Desk::new(alloc, shelf);
-    let mut places = Places::new(&desk, breaks_links(request));
+    let mut places = Places::new(&desk);
     let mut written = Output::new(Vec::new(alloc));
     let mut teller = Teller {
         faults: Output::new(Vec::new(alloc)),
@@ -105,13 +105,6 @@ fn put_lines(alloc: Global, said: &mut String, text: &[u8]) -> Result<(), AllocE
         said.push_str(format!(in alloc; " [{line}]")?.as_str())?;
     }
     Ok(())
-}
-
-fn breaks_links(request: &Request<'_>) -> bool {
-    match request {
-        Request::Fix(request) => request.break_links,
-        _ => false,
-    }
 }
 
 fn put_written(

@@ -67,6 +67,7 @@ pub(crate) fn request<'w>(words: &'w [&'w str]) -> Option<Request<'w>> {
         list: if *list == "-" { None } else { Some(*list) },
         wanted: wanted_by(*wanted),
         is_written: *how != "diff",
+        breaks_links: *how == "break",
         paths,
     })
 }

@@ -22,12 +22,11 @@ use test_rows::Tally;
 #[derive(Drop)]
 pub(crate) struct Places<'d> {
     desk: &'d Desk<'d>,
-    breaks_links: bool,
 }
 
 impl<'d> Places<'d> {
-    pub(crate) fn new(desk: &'d Desk<'d>, breaks_links: bool) -> Places<'d> {
-        Places { desk, breaks_links }
+    pub(crate) fn new(desk: &'d Desk<'d>) -> Places<'d> {
+        Places { desk }
     }
 }
 
@@ -41,9 +40,10 @@ impl Replacing for Places<'_> {
         alloc: Global,
         path: &str,
         read: Stamp,
+        breaks_links: bool,
         bytes: &[u8],
     ) -> Result<Loss, Obstacle> {
-        if let Some(obstacle) = obstacle(path, self.breaks_links) {
+        if let Some(obstacle) = obstacle(path, breaks_links) {
             return Err(obstacle);
         }
         let Stamped { stamp, .. } = self.desk.read_stamped(alloc, path)?;
@@ -102,7 +102,7 @@ fn answer(alloc: Global, shelf: &Held, given: &str) -> Result<String, AllocError
     let desk = Desk::new(alloc, shelf);
     let mut written = Output::new(Vec::new(alloc));
     let mut told = Told::new(alloc);
-    let status = status_of(alloc, &desk, &words, request, &mut written, &mut told)?;
+    let status = status_of(alloc, &desk, request, &mut written, &mut told)?;
     let mut answer = format!(in alloc; "{status} ")?;
     put_quoted(&mut answer, &written.into_inner())?;
     put_places(&mut answer, desk)?;
@@ -114,12 +114,11 @@ fn answer(alloc: Global, shelf: &Held, given: &str) -> Result<String, AllocError
 fn status_of(
     alloc: Global,
     desk: &Desk<'_>,
-    words: &[&str],
     request: Request<'_>,
     written: &mut Output<Vec<u8>>,
     told: &mut Told,
 ) -> Result<u8, AllocError> {
-    let mut places = Places::new(desk, words.first() == Some(&"break"));
+    let mut places = Places::new(desk);
     match fix(alloc, desk, inside(), request, &mut places, written, told) {
         Ok(status) => Ok(status),
         Err(trouble) => told.hear_last(alloc, trouble),

@@ -8,12 +8,12 @@
 // with which the form of the files is guessed. A line that begins with `#` says something to readers.
 
 use crate::shelf::{HEIRS, inside, shelf_of, told_faults};
+use choice_program::Accepted;
 use notice_forms::Format;
 use notice_program::{End, NoticeTrouble, Request, Run, ToldPage, notice};
-use own_texts::{Folders, OwnTexts};
+use owed_texts::{Folders, OwnTexts};
 use package_files::{Source, Wanted};
 use package_sources::Form;
-use policy_choices::Accepted;
 use shelves::Held;
 use spdx_lexer::token::ParseMode;
 use std::alloc::{AllocError, Global};

@@ -1,7 +1,7 @@
 //! What files of texts hold, over a shelf: those alone that stand within a folder, links followed; and how a text is shown.
 //!
 //! ```rust
-//! // crates/general_texts/src/held.rt
+//! // crates/owed_texts/src/held.rt
 //! match bytes_within(alloc, shelf, name, inside(folder), path.as_str()) {
 //! ```
 //!

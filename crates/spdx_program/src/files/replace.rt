@@ -23,13 +23,11 @@ const SET_ID: u32 = 0o6000;
 #[derive(Clone, Copy)]
 pub(crate) struct Places<'r, R> {
     rt: &'r R,
-    // whether a file that has other names is replaced, which keep the old bytes then
-    breaks_links: bool,
 }
 
 impl<'r, R: System> Places<'r, R> {
-    pub(crate) fn new(rt: &'r R, breaks_links: bool) -> Places<'r, R> {
-        Places { rt, breaks_links }
+    pub(crate) fn new(rt: &'r R) -> Places<'r, R> {
+        Places { rt }
     }
 }
 
@@ -41,9 +39,10 @@ impl<R: System> Replacing for Places<'_, R> {
         _alloc: Global,
         path: &str,
         read: Stamp,
+        breaks_links: bool,
         bytes: &[u8],
     ) -> Result<Loss, Obstacle> {
-        replace(self.rt, path, read, self.breaks_links, bytes)
+        replace(self.rt, path, read, breaks_links, bytes)
     }
 }
 

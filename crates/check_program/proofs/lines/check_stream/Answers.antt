@@ -1,4 +1,4 @@
-use Rattle.std.proofs.Common.{Err, Result, subst}
+use Rattle.std.proofs.Common.{Err, Result, subst, refl}
 use Rattle.line_engine.specs.Device.{devices}
 use Rattle.line_engine.specs.declared.lines.RunFault.{RunFault}
 use Rattle.spdx_check.specs.declared.lines.Checked.{Checked}
@@ -6,6 +6,9 @@ use Rattle.spdx_check.specs.Checking.{ChecksLines}
 use Rattle.check_files.specs.Tally.{tally_of}
 use Rattle.check_files.proofs.Steps.{on_ok}
 use Rattle.check_program.proofs.Streams.{broken, whole}
+use Rattle.line_engine.specs.declared.lines.RunFault.TheVariants.{Read}
+use Rattle.check_files.proofs.Begun.{on_err}
+use Rattle.check_program.proofs.Begun.{lines_begun}
 use Rattle.check_program.proofs.lines.check_stream.Goals as goal
 
 pub returns-in-Ok-clause-ok : goal.returns-in-Ok-clause-ok
@@ -31,3 +34,40 @@ returns-in-Err-Read-clause-ok g c =
     (broken c.args.check.now c.is_clean.result c.args.name.now t t' out out' (g.T.Telling.told c.args.teller.now) (g.T.Telling.told c.pass_broken.new.teller) (tally_of c.args.sums.now)
     (tally_of c.pass_broken.new.sums) c.is_clean.ensures broke)
     c.pass_broken.ensures.ok
+
+pub returns-in-Err-Read-clause-begun : goal.returns-in-Err-Read-clause-begun
+returns-in-Err-Read-clause-begun g c =
+    let t = g.I.Source.told c.args.input in
+    let t' = g.I.Source.told c.check_lines.new.input in
+    let out = g.O.Sink.told c.args.output.now in
+    let out' = g.O.Sink.told c.check_lines.new.output in
+    let h =
+    subst (λ (r : Result Checked RunFault). ChecksLines c.args.check.now c.is_clean.result c.args.name.now (devices t t' out out') r) c.in-Err-Read.is c.check_lines.ensures in
+    let broke =
+    subst (λ (f : RunFault). ChecksLines c.args.check.now c.is_clean.result c.args.name.now (devices t t' out out') (Err f)) c.in-Err-Read.field-0-is h in
+    on_err c.pass_broken.result _ _
+    (lines_begun c.args.check.now c.is_clean.result c.args.name.now t t' out out' (g.T.Telling.told c.args.teller.now) (g.T.Telling.told c.pass_broken.new.teller) (tally_of c.args.sums.now) Read
+    c.is_clean.ensures broke)
+    c.pass_broken.ensures.memory
+
+pub returns-in-Err-Write-clause-begun : goal.returns-in-Err-Write-clause-begun
+returns-in-Err-Write-clause-begun g c =
+    let t = g.I.Source.told c.args.input in
+    let t' = g.I.Source.told c.check_lines.new.input in
+    let out = g.O.Sink.told c.args.output.now in
+    let out' = g.O.Sink.told c.check_lines.new.output in
+    let h =
+    subst (λ (r : Result Checked RunFault). ChecksLines c.args.check.now c.is_clean.result c.args.name.now (devices t t' out out') r) c.in-Err-Write.is c.check_lines.ensures in
+    lines_begun c.args.check.now c.is_clean.result c.args.name.now t t' out out' (g.T.Telling.told c.args.teller.now) (g.T.Telling.told c.args.teller.now) (tally_of c.args.sums.now) _
+    c.is_clean.ensures h refl
+
+pub returns-clause-begun : goal.returns-clause-begun
+returns-clause-begun g c =
+    let t = g.I.Source.told c.args.input in
+    let t' = g.I.Source.told c.check_lines.new.input in
+    let out = g.O.Sink.told c.args.output.now in
+    let out' = g.O.Sink.told c.check_lines.new.output in
+    let h =
+    subst (λ (r : Result Checked RunFault). ChecksLines c.args.check.now c.is_clean.result c.args.name.now (devices t t' out out') r) c.in-Err-Memory.is c.check_lines.ensures in
+    lines_begun c.args.check.now c.is_clean.result c.args.name.now t t' out out' (g.T.Telling.told c.args.teller.now) (g.T.Telling.told c.args.teller.now) (tally_of c.args.sums.now) _
+    c.is_clean.ensures h refl

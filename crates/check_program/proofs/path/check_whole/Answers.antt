@@ -6,6 +6,10 @@ use Rattle.check_program.specs.Lines.{Gives}
 use Rattle.check_program.specs.Paths.{IsPartChecked}
 use Rattle.check_program.specs.Unread.{PassesUnread}
 use Rattle.check_program.proofs.Wholes.{read, unread}
+use Rattle.check_files.specs.Begun.{IsBeginning}
+use Rattle.check_files.proofs.Begun.{on_err}
+use Rattle.check_program.specs.Begun.{IsPartText}
+use Rattle.check_program.proofs.Begun.{part_begun, part_unread}
 use Rattle.check_program.proofs.path.check_whole.Goals as goal
 
 pub returns-in-Ok-clause-ok : goal.returns-in-Ok-clause-ok
@@ -33,3 +37,23 @@ returns-in-Err-clause-ok g c =
     unread (g.S.Shelf.told c.args.shelf.now) c.args.check.now c.args.form c.args.path.now c.in-Err.error (g.O.Sink.told c.args.output.now) k l old new c.in-Err.ensures.err
     (subst (λ (name : List ℕ). PassesUnread name c.in-Err.error k l old new) c.name_at-name.ensures p))
     c.pass_unread.ensures.ok
+
+pub returns-in-Ok-clause-begun : goal.returns-in-Ok-clause-begun
+returns-in-Ok-clause-begun g c =
+    let s = g.S.Shelf.told c.args.shelf.now in
+    let out = g.O.Sink.told c.args.output.now in
+    let out' = g.O.Sink.told c.check_part.new.output in
+    let old = tally_of c.args.sums.now in
+    on_err c.check_part.result _ _
+    (λ w.
+    part_begun s c.args.check.now c.args.form c.args.path.now old c.deref.result.now out out' (g.T.Telling.told c.args.teller.now)
+    (subst (λ (bytes : List ℕ). Gives s c.args.path.now bytes) (sym c.deref.ensures.value) c.in-Ok.ensures.ok)
+    (subst (λ (name : List ℕ). Writes out out' (IsBeginning (IsPartText c.args.check.now c.args.form name c.deref.result.now old))) c.name_at-name.ensures w))
+    c.check_part.ensures.begun
+
+pub returns-in-Err-clause-begun : goal.returns-in-Err-clause-begun
+returns-in-Err-clause-begun g c =
+    on_err c.pass_unread.result _ _
+    (part_unread (g.S.Shelf.told c.args.shelf.now) c.args.check.now c.args.form c.args.path.now (tally_of c.args.sums.now) (g.O.Sink.told c.args.output.now) (g.T.Telling.told c.args.teller.now)
+    (g.T.Telling.told c.pass_unread.new.teller))
+    c.pass_unread.ensures.memory

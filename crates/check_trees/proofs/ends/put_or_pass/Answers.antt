@@ -7,6 +7,10 @@ use Rattle.check_files.proofs.Steps.{on_ok}
 use Rattle.check_told.specs.Owed.{owed_by, whole_names}
 use Rattle.check_trees.specs.Ends.{AreWholes, are_none}
 use Rattle.check_trees.proofs.Ending.{owed_passed, owed_put}
+use Rattle.check_files.specs.Begun.{IsBeginning}
+use Rattle.check_files.proofs.Begun.{on_err}
+use Rattle.check_trees.specs.Begun.{IsWholesText}
+use Rattle.check_trees.proofs.Begun.{owed_told, owed_written}
 use Rattle.check_trees.proofs.ends.put_or_pass.Goals as goal
 
 pub returns-then-are_none-clause-ok : goal.returns-then-are_none-clause-ok
@@ -31,3 +35,25 @@ returns-clause-ok g c =
     (g.T.Telling.told c.args.teller.now) (g.T.Telling.told c.pass_all.new.teller) (tally_of c.args.sums.now) (tally_of c.pass_all.new.sums)
     (subst (λ (ts : List CheckTrouble). are_none ts ≡ false) c.deref.ensures.value (sym c.are_none.ensures ∙ c.if-are_none.false)))
     c.pass_all.ensures.ok
+
+pub returns-then-are_none-clause-begun : goal.returns-then-are_none-clause-begun
+returns-then-are_none-clause-begun g c =
+    let out = g.O.Sink.told c.args.output.now in
+    let out' = g.O.Sink.told c.put_owed.new.output in
+    let used = map string_bytes c.args.used.now in
+    let old = tally_of c.args.sums.now in
+    on_err c.put_owed.result _ _
+    (λ w.
+    owed_written c.args.check.now c.args.folder.now used (map string_bytes c.args.texts.files.items) c.args.texts.troubles.items out out' (g.T.Telling.told c.args.teller.now) old
+    (subst (λ (ts : List CheckTrouble). are_none ts ≡ true) c.deref.ensures.value (sym c.are_none.ensures ∙ c.if-are_none.true))
+    (subst (λ (files : List (String Global)). Writes out out' (IsBeginning (IsWholesText c.args.check.now (owed_by c.args.folder.now used (whole_names (map string_bytes files))) old)))
+    c.deref-then-are_none.ensures.value w))
+    c.put_owed.ensures.begun
+
+pub returns-clause-begun : goal.returns-clause-begun
+returns-clause-begun g c =
+    on_err c.pass_all.result _ _
+    (owed_told c.args.check.now c.args.folder.now (map string_bytes c.args.used.now) (map string_bytes c.args.texts.files.items) c.args.texts.troubles.items (g.O.Sink.told c.args.output.now)
+    (g.T.Telling.told c.args.teller.now) (g.T.Telling.told c.pass_all.new.teller) (tally_of c.args.sums.now)
+    (subst (λ (ts : List CheckTrouble). are_none ts ≡ false) c.deref.ensures.value (sym c.are_none.ensures ∙ c.if-are_none.false)))
+    c.pass_all.ensures.begun

@@ -2,7 +2,7 @@ use Rattle.std.proofs.Common.{List, map, rules, subst}
 use Rattle.std.specs.Prelude.{IsPermutation}
 use Rattle.std.proofs.lemmas.Fn.{always_returns_same}
 use Rattle.std.proofs.lemmas.List.Sorted.{IsPermutation-map}
-use Rattle.general_texts.specs.Held.{Text}
+use Rattle.owed_texts.specs.Held.{Text}
 use Rattle.notice_told.specs.declared.lacks.GeneralText.{GeneralText}
 use Rattle.notice_program.specs.Noted.{text_by}
 use Rattle.notice_program.proofs.noted.all_general.Goals as goal

@@ -1,5 +1,5 @@
 use Rattle.std.proofs.Common.{◌≡◌, map, take}
-use Rattle.own_texts.specs.All.{reads_in}
+use Rattle.owed_texts.specs.All.{reads_in}
 use Rattle.notice_program.specs.Noted.{owns_by}
 use Rattle.notice_program.proofs.noted.all_owns.Given as goal
 

@@ -1,5 +1,5 @@
 use Rattle.std.proofs.Common.{◌≡◌, map, take}
-use Rattle.general_texts.specs.Held.{held_of}
+use Rattle.owed_texts.specs.Held.{held_of}
 use Rattle.notice_program.specs.Noted.{text_by}
 use Rattle.notice_program.proofs.noted.general_of.Given as goal
 

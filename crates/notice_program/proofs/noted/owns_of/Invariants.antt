@@ -1,5 +1,5 @@
 use Rattle.std.proofs.Common.{◌≡◌, map, take}
-use Rattle.own_texts.specs.Own.{read_of}
+use Rattle.owed_texts.specs.Own.{read_of}
 use Rattle.notice_program.specs.Noted.{own_by}
 use Rattle.notice_program.proofs.noted.owns_of.Given as goal
 

@@ -1,7 +1,7 @@
 use Rattle.std.proofs.Common.{map, subst, sym}
 use Rattle.std.specs.Prelude.{String}
 use Rattle.std.specs.declared.alloc.Global.{Global}
-use Rattle.general_texts.specs.Held.{held_of}
+use Rattle.owed_texts.specs.Held.{held_of}
 use Rattle.notice_told.specs.declared.page.NoticeFault.{NoticeFault}
 use Rattle.notice_told.specs.Page.{IsNoticeFault}
 use Rattle.notice_program.specs.declared.end.End.TheVariants as end

@@ -1,7 +1,7 @@
 use Rattle.std.proofs.Common.{sym, ◌∙◌, map, subst, List}
 use Rattle.std.proofs.lemmas.Result.{IfOk-weaker}
-use Rattle.general_texts.specs.declared.held.HeldText.{HeldText}
-use Rattle.general_texts.specs.Held.{held_of}
+use Rattle.owed_texts.specs.declared.held.HeldText.{HeldText}
+use Rattle.owed_texts.specs.Held.{held_of}
 use Rattle.notice_program.specs.Page.{IsHeldEnd, IsPackagesEnd, no_general, page}
 use Rattle.notice_program.proofs.Ending.{general_had, none_are, some_are}
 use Rattle.notice_program.proofs.page.noted_end.Goals as goal

@@ -2,8 +2,8 @@ use Rattle.std.proofs.Common.{sym, ◌∙◌, ap, map, subst, List}
 use Rattle.std.specs.Global.{Vec}
 use Rattle.std.proofs.lemmas.Result.{IfOk-weaker}
 use Rattle.text_files.specs.declared.trouble.TextTrouble.{TextTrouble}
-use Rattle.own_texts.specs.declared.own.ReadFile.{ReadFile}
-use Rattle.own_texts.specs.All.{AreAllOwn, reads_in}
+use Rattle.owed_texts.specs.declared.own.ReadFile.{ReadFile}
+use Rattle.owed_texts.specs.All.{AreAllOwn, reads_in}
 use Rattle.notice_program.specs.Noted.{noted_in}
 use Rattle.notice_program.specs.Page.{IsNotedEnd, IsPlacedEnd, no_own, noted, reading_of}
 use Rattle.notice_program.specs.Taken.{owner, taken_by}

@@ -1,8 +1,8 @@
 use Rattle.std.proofs.Common.{ap, ◌∙◌, map, List}
 use Rattle.std.specs.List.{zip}
 use Rattle.std.proofs.lemmas.Result.{IfOk-weaker}
-use Rattle.own_texts.specs.All.{reads_in}
-use Rattle.own_texts.specs.Own.{Read}
+use Rattle.owed_texts.specs.All.{reads_in}
+use Rattle.owed_texts.specs.Own.{Read}
 use Rattle.notice_program.specs.Noted.{noted, noted_by, noted_in, owns_by}
 use Rattle.notice_program.specs.Page.{IsNotedEnd, IsPackagesEnd}
 use Rattle.notice_program.specs.Taken.{taken_by}

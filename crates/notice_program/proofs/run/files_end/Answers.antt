@@ -3,7 +3,7 @@ use Rattle.std.specs.List.{zip}
 use Rattle.std.proofs.lemmas.Result.{IfOk-weaker}
 use Rattle.package_items.specs.declared.package.Package.{Package}
 use Rattle.gate_program.specs.Asked.{lent}
-use Rattle.policy_choices.specs.Chosen.{IsChosen, IsNoChoice}
+use Rattle.choice_program.specs.Chosen.{IsChosen, IsNoChoice}
 use Rattle.notice_program.specs.declared.end.End.{End}
 use Rattle.notice_program.specs.Page.{IsChosenEnd}
 use Rattle.notice_program.specs.Run.{IsFilesEnd, IsUnchosen, chosen, no_choice}

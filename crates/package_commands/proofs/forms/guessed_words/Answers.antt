@@ -1,5 +1,5 @@
 use Rattle.std.proofs.Common.{map}
-use Rattle.general_texts.specs.Held.{name_in}
+use Rattle.owed_texts.specs.Held.{name_in}
 use Rattle.package_commands.proofs.Steps.{words_more}
 use Rattle.package_commands.proofs.forms.guessed_words.Goals as goal
 

@@ -1,5 +1,5 @@
 use Rattle.std.proofs.Common.{◌≡◌, map, take}
-use Rattle.general_texts.specs.Held.{each_first, name_in}
+use Rattle.owed_texts.specs.Held.{each_first, name_in}
 use Rattle.package_commands.specs.Forms.{words_in}
 use Rattle.package_commands.proofs.forms.guessed_words.Given as goal
 

@@ -1,7 +1,7 @@
 use Rattle.std.proofs.Common.{◌∙◌, sym}
 use Rattle.std.specs.Prelude.{bytes_eq}
-use Rattle.general_texts.specs.Held.{name_in}
-use Rattle.general_texts.proofs.Firsts.{any_in_map}
+use Rattle.owed_texts.specs.Held.{name_in}
+use Rattle.owed_texts.proofs.Firsts.{any_in_map}
 use Rattle.package_commands.proofs.forms.is_among.Goals as goal
 
 pub returns : goal.returns

@@ -1,6 +1,6 @@
 use Rattle.std.proofs.Common.{map}
 use Rattle.check_files.specs.Told.{Tells}
-use Rattle.general_texts.specs.Held.{name_in}
+use Rattle.owed_texts.specs.Held.{name_in}
 use Rattle.package_commands.specs.Forms.{AreWordsTold}
 use Rattle.package_commands.proofs.forms.tell_words.Given as goal
 

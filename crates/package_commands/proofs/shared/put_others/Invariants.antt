@@ -1,5 +1,5 @@
 use Rattle.std.proofs.Common.{◌≡◌, ◌++◌, map, string_bytes, take}
-use Rattle.general_texts.specs.Held.{name_in}
+use Rattle.owed_texts.specs.Held.{name_in}
 use Rattle.package_commands.specs.Shared.{other_names}
 use Rattle.package_commands.proofs.shared.put_others.Given as goal
 

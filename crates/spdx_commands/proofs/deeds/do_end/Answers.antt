@@ -1,17 +1,16 @@
-use Rattle.spdx_commands.proofs.Breaking.{at_none, at_silence, broke}
-use Rattle.spdx_commands.specs.Mend.{stand}
+use Rattle.spdx_commands.proofs.Breaking.{at_none, at_silence, begun_of, broke}
+use Rattle.spdx_commands.specs.Steps.{Began, setting_of}
 use Rattle.std.proofs.Common.{◌≡◌, ◌++◌, append-nil, refl, subst, sym}
 use Rattle.fix_program.specs.declared.ends.FileEnd.{FileEnd}
-use Rattle.spdx_commands.specs.Mend.{IsDeedDone, IsEndDone, IsLeftOut, left_behind, nothing, stand}
+use Rattle.spdx_commands.specs.Mend.{IsDeedBegun, IsDeedDone, IsEndBegun, IsEndDone, IsLeftOut, left_behind, nothing, stand}
 use Rattle.spdx_commands.proofs.Doings.{idle, known, left_out_told, memory_at, on_ok, result_of}
 use Rattle.spdx_commands.proofs.deeds.do_end.Goals as goal
 
 pub returns-in-Fixed-clause-ok : goal.returns-in-Fixed-clause-ok
 returns-in-Fixed-clause-ok g c =
-    let s = g.S.Shelf.told c.args.shelf.now in
-    let cat = c.args.catalogue.now in
-    result_of c.args.so_far.now.replaced c.do_deed.new.replaced (λ before. IsDeedDone s cat before c.in-Fixed.fixed.deed) (λ before. IsEndDone s cat before c.args.end)
-    (λ before knows d is. subst (λ (e : FileEnd). IsEndDone s cat before e d) (sym c.in-Fixed.is) is)
+    let w = setting_of g.S.Shelf.told c.args.means.now in
+    result_of c.args.so_far.now.replaced c.do_deed.new.replaced (λ before. IsDeedDone w before c.in-Fixed.fixed.deed) (λ before. IsEndDone w before c.args.end)
+    (λ before knows d is. subst (λ (e : FileEnd). IsEndDone w before e d) (sym c.in-Fixed.is) is)
     (stand (g.O.Sink.told c.args.output.now) (g.T.Listener.heard c.args.listener.now) (g.R.Replacing.tried c.args.replacer.now))
     (stand (g.O.Sink.told c.do_deed.new.output) (g.T.Listener.heard c.do_deed.new.listener) (g.R.Replacing.tried c.do_deed.new.replacer)) c.do_deed.result c.do_deed.ensures.ok
 
@@ -26,15 +25,14 @@ returns-in_err-status-in-LeftOut-clause-err g c =
 
 pub returns-in_ok-status-in-LeftOut-clause-ok : goal.returns-in_ok-status-in-LeftOut-clause-ok
 returns-in_ok-status-in-LeftOut-clause-ok g c =
-    let s = g.S.Shelf.told c.args.shelf.now in
-    let cat = c.args.catalogue.now in
+    let w = setting_of g.S.Shelf.told c.args.means.now in
     let nodes = c.args.so_far.now.replaced in
     let out = g.O.Sink.told c.args.output.now in
     let h = g.T.Listener.heard c.args.listener.now in
     let l = g.T.Listener.heard c.tell_left_out.new.listener in
     let k = g.R.Replacing.tried c.args.replacer.now in
     let status = c.in_ok-status-in-LeftOut.status in
-    known nodes nodes (λ _. IsLeftOut c.in-LeftOut.trouble) (λ before. IsEndDone s cat before c.args.end) (λ before knows d is. subst (λ (e : FileEnd). IsEndDone s cat before e d) (sym c.in-LeftOut.is) is)
+    known nodes nodes (λ _. IsLeftOut c.in-LeftOut.trouble) (λ before. IsEndDone w before c.args.end) (λ before knows d is. subst (λ (e : FileEnd). IsEndDone w before e d) (sym c.in-LeftOut.is) is)
     (stand out h k) (stand out l k) status (left_out_told out h l k nodes c.in-LeftOut.trouble status c.in_ok-status-in-LeftOut.ensures.ok)
 
 pub returns-in_ok-status-in-LeftOut-clause-left : goal.returns-in_ok-status-in-LeftOut-clause-left
@@ -48,17 +46,30 @@ returns-in_err-push-in-LeftBehind-clause-err g c =
 
 pub returns-in_ok-push-in-LeftBehind-clause-ok : goal.returns-in_ok-push-in-LeftBehind-clause-ok
 returns-in_ok-push-in-LeftBehind-clause-ok g c =
-    let s = g.S.Shelf.told c.args.shelf.now in
-    let cat = c.args.catalogue.now in
-    idle (stand (g.O.Sink.told c.args.output.now) (g.T.Listener.heard c.args.listener.now) (g.R.Replacing.tried c.args.replacer.now)) c.args.so_far.now.replaced (λ before. IsEndDone s cat before c.args.end)
-    (λ before. subst (λ (e : FileEnd). IsEndDone s cat before e nothing) (sym c.in-LeftBehind.is) refl)
+    let w = setting_of g.S.Shelf.told c.args.means.now in
+    idle (stand (g.O.Sink.told c.args.output.now) (g.T.Listener.heard c.args.listener.now) (g.R.Replacing.tried c.args.replacer.now)) c.args.so_far.now.replaced (λ before. IsEndDone w before c.args.end)
+    (λ before. subst (λ (e : FileEnd). IsEndDone w before e nothing) (sym c.in-LeftBehind.is) refl)
+
+pub returns-in-Fixed-clause-begun : goal.returns-in-Fixed-clause-begun
+returns-in-Fixed-clause-begun g c =
+    let w = setting_of g.S.Shelf.told c.args.means.now in
+    let known = c.args.so_far.now.replaced in
+    begun_of (Began known (λ before. IsDeedBegun w before c.in-Fixed.fixed.deed)) (Began known (λ before. IsEndBegun w before c.args.end))
+    (λ d is before knows. subst (λ (e : FileEnd). IsEndBegun w before e d) (sym c.in-Fixed.is) (is before knows))
+    (stand (g.O.Sink.told c.args.output.now) (g.T.Listener.heard c.args.listener.now) (g.R.Replacing.tried c.args.replacer.now))
+    (stand (g.O.Sink.told c.do_deed.new.output) (g.T.Listener.heard c.do_deed.new.listener) (g.R.Replacing.tried c.do_deed.new.replacer)) c.do_deed.result c.do_deed.ensures.begun
 
 pub returns-in_err-status-in-LeftOut-clause-begun : goal.returns-in_err-status-in-LeftOut-clause-begun
 returns-in_err-status-in-LeftOut-clause-begun g c =
+    let w = setting_of g.S.Shelf.told c.args.means.now in
     broke c.from_residual.result _
     (at_silence (g.O.Sink.told c.args.output.now) (g.T.Listener.heard c.args.listener.now) (g.T.Listener.heard c.tell_left_out.new.listener) (g.R.Replacing.tried c.args.replacer.now)
-    c.in_err-status-in-LeftOut.ensures.memory)
+    (Began c.args.so_far.now.replaced (λ before. IsEndBegun w before c.args.end)) c.in_err-status-in-LeftOut.ensures.memory
+    (λ before knows. subst (λ (e : FileEnd). IsEndBegun w before e nothing) (sym c.in-LeftOut.is) refl))
 
 pub returns-in_err-push-in-LeftBehind-clause-begun : goal.returns-in_err-push-in-LeftBehind-clause-begun
 returns-in_err-push-in-LeftBehind-clause-begun g c =
-    broke _ _ (at_none (stand (g.O.Sink.told c.args.output.now) (g.T.Listener.heard c.args.listener.now) (g.R.Replacing.tried c.args.replacer.now)))
+    let w = setting_of g.S.Shelf.told c.args.means.now in
+    broke _ _
+    (at_none (stand (g.O.Sink.told c.args.output.now) (g.T.Listener.heard c.args.listener.now) (g.R.Replacing.tried c.args.replacer.now))
+    (Began c.args.so_far.now.replaced (λ before. IsEndBegun w before c.args.end)) (λ before knows. subst (λ (e : FileEnd). IsEndBegun w before e nothing) (sym c.in-LeftBehind.is) refl))

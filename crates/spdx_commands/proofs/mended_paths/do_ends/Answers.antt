@@ -4,7 +4,7 @@ use Rattle.std.proofs.lemmas.Iterator.Consumers.{YieldsList-end, YieldsList-so_f
 use Rattle.std.proofs.lemmas.List.{map-id}
 use Rattle.fix_program.specs.declared.ends.FileEnd.{FileEnd}
 use Rattle.spdx_commands.specs.Mend.{AreEndsDone, Did, stand}
-use Rattle.spdx_commands.specs.Steps.{Comes}
+use Rattle.spdx_commands.specs.Steps.{Comes, setting_of}
 use Rattle.spdx_commands.proofs.Breaking.{broke, ends_broken}
 use Rattle.spdx_commands.proofs.Saying.{at_one}
 use Rattle.spdx_commands.proofs.Doings.{end_more, left_more, none_done, part_off}
@@ -12,14 +12,14 @@ use Rattle.spdx_commands.proofs.mended_paths.do_ends.Goals as goal
 
 pub loop-end-init : goal.loop-end-init
 loop-end-init g c = (
-  none_done (g.S.Shelf.told c.args.shelf.now) c.args.catalogue.now
+  none_done (setting_of g.S.Shelf.told c.args.means.now)
       (stand (g.O.Sink.told c.args.output.now) (g.T.Listener.heard c.args.listener.now) (g.R.Replacing.tried c.args.replacer.now)) c.args.so_far.now.replaced,
   sym (append-nil c.args.so_far.now.left.items),
 )
 
 pub loop-end-preserved : goal.loop-end-preserved
 loop-end-preserved g c = (
-  end_more (g.S.Shelf.told c.args.shelf.now) c.args.catalogue.now
+  end_more (setting_of g.S.Shelf.told c.args.means.now)
       (stand (g.O.Sink.told c.args.output.now) (g.T.Listener.heard c.args.listener.now) (g.R.Replacing.tried c.args.replacer.now))
       (stand (g.O.Sink.told c.loop-end.output) (g.T.Listener.heard c.loop-end.listener) (g.R.Replacing.tried c.loop-end.replacer))
       (stand (g.O.Sink.told c.do_end.new.output) (g.T.Listener.heard c.do_end.new.listener) (g.R.Replacing.tried c.do_end.new.replacer))
@@ -42,7 +42,7 @@ returns-clause-ok g c =
     (λ (es : List FileEnd).
     Did (stand (g.O.Sink.told c.args.output.now) (g.T.Listener.heard c.args.listener.now) (g.R.Replacing.tried c.args.replacer.now))
     (stand (g.O.Sink.told c.loop-end.output) (g.T.Listener.heard c.loop-end.listener) (g.R.Replacing.tried c.loop-end.replacer))
-    (Comes c.args.so_far.now.replaced c.loop-end.so_far.replaced c.loop-end.worst (λ before. AreEndsDone (g.S.Shelf.told c.args.shelf.now) c.args.catalogue.now before es)))
+    (Comes c.args.so_far.now.replaced c.loop-end.so_far.replaced c.loop-end.worst (λ before. AreEndsDone (setting_of g.S.Shelf.told c.args.means.now) before es)))
     all c.loop-end.invariant.0
 
 pub returns-in_err-status-clause-begun : goal.returns-in_err-status-clause-begun
@@ -54,5 +54,5 @@ returns-in_err-status-clause-begun g c =
     let y = stand (g.O.Sink.told c.loop-end.output) (g.T.Listener.heard c.loop-end.listener) (g.R.Replacing.tried c.loop-end.replacer) in
     let z = stand (g.O.Sink.told c.do_end.new.output) (g.T.Listener.heard c.do_end.new.listener) (g.R.Replacing.tried c.do_end.new.replacer) in
     broke c.from_residual.result _
-    (ends_broken (g.S.Shelf.told c.args.shelf.now) c.args.catalogue.now x y z c.args.so_far.now.replaced c.loop-end.so_far.replaced c.loop-end.worst c.args.ends.items c.loop-end.yielded _
+    (ends_broken (setting_of g.S.Shelf.told c.args.means.now) x y z c.args.so_far.now.replaced c.loop-end.so_far.replaced c.loop-end.worst c.args.ends.items c.loop-end.yielded _ c.in-Some.end
     c.loop-end.invariant.0 c.in_err-status.ensures.begun (at_one c.args.ends.items c.loop-end.yielded c.in-Some.end front turn.0 turn.1))

@@ -4,7 +4,7 @@ use Rattle.std.proofs.lemmas.Iterator.Consumers.{YieldsList-end, YieldsList-so_f
 use Rattle.std.proofs.lemmas.List.{map-id}
 use Rattle.fix_program.specs.declared.run.PathEnd.{PathEnd}
 use Rattle.spdx_commands.specs.Mend.{ArePathsDone, Did, stand}
-use Rattle.spdx_commands.specs.Steps.{IsWorst}
+use Rattle.spdx_commands.specs.Steps.{IsWorst, setting_of}
 use Rattle.spdx_commands.proofs.Breaking.{broke, paths_broken}
 use Rattle.spdx_commands.proofs.Saying.{at_one}
 use Rattle.spdx_commands.proofs.Doings.{part_off, path_more, paths_begun, paths_done}
@@ -12,14 +12,14 @@ use Rattle.spdx_commands.proofs.mended_paths.do_paths.Goals as goal
 
 pub loop-path-init : goal.loop-path-init
 loop-path-init g c = (
-  paths_begun (g.S.Shelf.told c.args.shelf.now) c.args.catalogue.now
+  paths_begun (setting_of g.S.Shelf.told c.args.means.now)
       (stand (g.O.Sink.told c.args.output.now) (g.T.Listener.heard c.args.listener.now) (g.R.Replacing.tried c.args.replacer.now)) c.new-so_far.result.replaced c.new-so_far.ensures.replaced,
   c.new-so_far.ensures.none_left,
 )
 
 pub loop-path-preserved : goal.loop-path-preserved
 loop-path-preserved g c = (
-  path_more (g.S.Shelf.told c.args.shelf.now) c.args.catalogue.now
+  path_more (setting_of g.S.Shelf.told c.args.means.now)
       (stand (g.O.Sink.told c.args.output.now) (g.T.Listener.heard c.args.listener.now) (g.R.Replacing.tried c.args.replacer.now))
       (stand (g.O.Sink.told c.loop-path.output) (g.T.Listener.heard c.loop-path.listener) (g.R.Replacing.tried c.loop-path.replacer))
       (stand (g.O.Sink.told c.do_path.new.output) (g.T.Listener.heard c.do_path.new.listener) (g.R.Replacing.tried c.do_path.new.replacer))
@@ -40,8 +40,8 @@ returns-clause-ok g c =
     let all : c.loop-path.yielded ≡ c.args.paths.items = sym (map-id c.loop-path.yielded) ∙ t.0 in
     let x = stand (g.O.Sink.told c.args.output.now) (g.T.Listener.heard c.args.listener.now) (g.R.Replacing.tried c.args.replacer.now) in
     let y = stand (g.O.Sink.told c.loop-path.output) (g.T.Listener.heard c.loop-path.listener) (g.R.Replacing.tried c.loop-path.replacer) in
-    subst (λ (ps : List PathEnd). Did x y (IsWorst c.loop-path.worst (ArePathsDone (g.S.Shelf.told c.args.shelf.now) c.args.catalogue.now ps))) all
-    (paths_done (g.S.Shelf.told c.args.shelf.now) c.args.catalogue.now x y c.loop-path.so_far.replaced c.loop-path.worst c.loop-path.yielded c.loop-path.invariant.0)
+    subst (λ (ps : List PathEnd). Did x y (IsWorst c.loop-path.worst (ArePathsDone (setting_of g.S.Shelf.told c.args.means.now) ps))) all
+    (paths_done (setting_of g.S.Shelf.told c.args.means.now) x y c.loop-path.so_far.replaced c.loop-path.worst c.loop-path.yielded c.loop-path.invariant.0)
 
 pub returns-in_err-status-clause-begun : goal.returns-in_err-status-clause-begun
 returns-in_err-status-clause-begun g c =
@@ -52,5 +52,5 @@ returns-in_err-status-clause-begun g c =
     let y = stand (g.O.Sink.told c.loop-path.output) (g.T.Listener.heard c.loop-path.listener) (g.R.Replacing.tried c.loop-path.replacer) in
     let z = stand (g.O.Sink.told c.do_path.new.output) (g.T.Listener.heard c.do_path.new.listener) (g.R.Replacing.tried c.do_path.new.replacer) in
     broke c.from_residual.result _
-    (paths_broken (g.S.Shelf.told c.args.shelf.now) c.args.catalogue.now x y z c.loop-path.so_far c.loop-path.worst c.args.paths.items c.loop-path.yielded _ c.in-Some.path
+    (paths_broken (setting_of g.S.Shelf.told c.args.means.now) x y z c.loop-path.so_far c.loop-path.worst c.args.paths.items c.loop-path.yielded _ c.in-Some.path
     c.loop-path.invariant.0 c.loop-path.invariant.1 c.in_err-status.ensures.begun (at_one c.args.paths.items c.loop-path.yielded c.in-Some.path front turn.0 turn.1))

@@ -3,7 +3,8 @@ use Rattle.std.proofs.Common.{◌∙◌, ap}
 use Rattle.std.specs.Prelude.{max}
 use Rattle.spdx_commands.specs.Mend.{stand}
 use Rattle.spdx_commands.proofs.Breaking.{run_alone, run_begun, run_beside}
-use Rattle.spdx_commands.proofs.Fixes.{fix_done, kept, low_run, memory_broken, needed, not_begun, part_broken, quiet}
+use Rattle.spdx_commands.proofs.Fixes.{fix_done, low_run, memory_broken, not_begun, part_broken, quiet}
+use Rattle.spdx_commands.proofs.Needs.{done_tries, kept, needed, stopped_tries}
 use Rattle.spdx_commands.proofs.mending.fix.Goals as goal
 
 pub returns-in_err-run-clause-err : goal.returns-in_err-run-clause-err
@@ -65,14 +66,90 @@ returns-clause-quiet g c =
     (stand (g.O.Sink.told c.args.output.now) (g.T.Listener.heard c.args.listener.now) (g.R.Replacing.tried c.args.replacer.now))
     (stand (g.O.Sink.told c.do_paths.new.output) (g.T.Listener.heard c.tell_each.new.listener) (g.R.Replacing.tried c.do_paths.new.replacer)) c.greater.result (returns-clause-ok g c)
 
+pub returns-in_err-run-clause-kept : goal.returns-in_err-run-clause-kept
+returns-in_err-run-clause-kept g c =
+    let s = g.S.Shelf.told c.args.shelf.now in
+    let inside = inside_of c.args.inside.list.now c.args.inside.extras.now in
+    let x = stand (g.O.Sink.told c.args.output.now) (g.T.Listener.heard c.args.listener.now) (g.R.Replacing.tried c.args.replacer.now) in
+    let y = stand x.output (g.T.Listener.heard c.fix.new.progress) x.tried in
+    kept s inside c.args.request x.tried y.tried
+    (stopped_tries s inside c.args.request x y c.from_residual.result _ c.from_residual.ensures.1 (returns-in_err-run-clause-err g c))
+
+pub returns-in_err-run-clause-mended : goal.returns-in_err-run-clause-mended
+returns-in_err-run-clause-mended g c =
+    let s = g.S.Shelf.told c.args.shelf.now in
+    let inside = inside_of c.args.inside.list.now c.args.inside.extras.now in
+    let x = stand (g.O.Sink.told c.args.output.now) (g.T.Listener.heard c.args.listener.now) (g.R.Replacing.tried c.args.replacer.now) in
+    let y = stand x.output (g.T.Listener.heard c.fix.new.progress) x.tried in
+    needed s inside c.args.request x.tried y.tried
+    (stopped_tries s inside c.args.request x y c.from_residual.result _ c.from_residual.ensures.1 (returns-in_err-run-clause-err g c))
+
+pub returns-in_err-told-clause-kept : goal.returns-in_err-told-clause-kept
+returns-in_err-told-clause-kept g c =
+    let s = g.S.Shelf.told c.args.shelf.now in
+    let inside = inside_of c.args.inside.list.now c.args.inside.extras.now in
+    let x = stand (g.O.Sink.told c.args.output.now) (g.T.Listener.heard c.args.listener.now) (g.R.Replacing.tried c.args.replacer.now) in
+    let y = stand (g.O.Sink.told c.do_paths.new.output) (g.T.Listener.heard c.do_paths.new.listener) (g.R.Replacing.tried c.do_paths.new.replacer) in
+    kept s inside c.args.request x.tried y.tried
+    (stopped_tries s inside c.args.request x y c.from_residual-in_err-told.result _ c.from_residual-in_err-told.ensures.1 (returns-in_err-told-clause-err g c))
+
+pub returns-in_err-told-clause-mended : goal.returns-in_err-told-clause-mended
+returns-in_err-told-clause-mended g c =
+    let s = g.S.Shelf.told c.args.shelf.now in
+    let inside = inside_of c.args.inside.list.now c.args.inside.extras.now in
+    let x = stand (g.O.Sink.told c.args.output.now) (g.T.Listener.heard c.args.listener.now) (g.R.Replacing.tried c.args.replacer.now) in
+    let y = stand (g.O.Sink.told c.do_paths.new.output) (g.T.Listener.heard c.do_paths.new.listener) (g.R.Replacing.tried c.do_paths.new.replacer) in
+    needed s inside c.args.request x.tried y.tried
+    (stopped_tries s inside c.args.request x y c.from_residual-in_err-told.result _ c.from_residual-in_err-told.ensures.1 (returns-in_err-told-clause-err g c))
+
+pub returns-in_err-beside-clause-kept : goal.returns-in_err-beside-clause-kept
+returns-in_err-beside-clause-kept g c =
+    let s = g.S.Shelf.told c.args.shelf.now in
+    let inside = inside_of c.args.inside.list.now c.args.inside.extras.now in
+    let x = stand (g.O.Sink.told c.args.output.now) (g.T.Listener.heard c.args.listener.now) (g.R.Replacing.tried c.args.replacer.now) in
+    let y = stand (g.O.Sink.told c.do_paths.new.output) (g.T.Listener.heard c.do_paths.new.listener) (g.R.Replacing.tried c.do_paths.new.replacer) in
+    kept s inside c.args.request x.tried y.tried
+    (stopped_tries s inside c.args.request x y c.from_residual-in_err-beside.result _ c.from_residual-in_err-beside.ensures.1 (returns-in_err-beside-clause-err g c))
+
+pub returns-in_err-beside-clause-mended : goal.returns-in_err-beside-clause-mended
+returns-in_err-beside-clause-mended g c =
+    let s = g.S.Shelf.told c.args.shelf.now in
+    let inside = inside_of c.args.inside.list.now c.args.inside.extras.now in
+    let x = stand (g.O.Sink.told c.args.output.now) (g.T.Listener.heard c.args.listener.now) (g.R.Replacing.tried c.args.replacer.now) in
+    let y = stand (g.O.Sink.told c.do_paths.new.output) (g.T.Listener.heard c.do_paths.new.listener) (g.R.Replacing.tried c.do_paths.new.replacer) in
+    needed s inside c.args.request x.tried y.tried
+    (stopped_tries s inside c.args.request x y c.from_residual-in_err-beside.result _ c.from_residual-in_err-beside.ensures.1 (returns-in_err-beside-clause-err g c))
+
+pub returns-in_err-tell_each-clause-kept : goal.returns-in_err-tell_each-clause-kept
+returns-in_err-tell_each-clause-kept g c =
+    let s = g.S.Shelf.told c.args.shelf.now in
+    let inside = inside_of c.args.inside.list.now c.args.inside.extras.now in
+    let x = stand (g.O.Sink.told c.args.output.now) (g.T.Listener.heard c.args.listener.now) (g.R.Replacing.tried c.args.replacer.now) in
+    let y = stand (g.O.Sink.told c.do_paths.new.output) (g.T.Listener.heard c.tell_each.new.listener) (g.R.Replacing.tried c.do_paths.new.replacer) in
+    kept s inside c.args.request x.tried y.tried
+    (stopped_tries s inside c.args.request x y c.from_residual-in_err-tell_each.result _ c.from_residual-in_err-tell_each.ensures.1 (returns-in_err-tell_each-clause-err g c))
+
+pub returns-in_err-tell_each-clause-mended : goal.returns-in_err-tell_each-clause-mended
+returns-in_err-tell_each-clause-mended g c =
+    let s = g.S.Shelf.told c.args.shelf.now in
+    let inside = inside_of c.args.inside.list.now c.args.inside.extras.now in
+    let x = stand (g.O.Sink.told c.args.output.now) (g.T.Listener.heard c.args.listener.now) (g.R.Replacing.tried c.args.replacer.now) in
+    let y = stand (g.O.Sink.told c.do_paths.new.output) (g.T.Listener.heard c.tell_each.new.listener) (g.R.Replacing.tried c.do_paths.new.replacer) in
+    needed s inside c.args.request x.tried y.tried
+    (stopped_tries s inside c.args.request x y c.from_residual-in_err-tell_each.result _ c.from_residual-in_err-tell_each.ensures.1 (returns-in_err-tell_each-clause-err g c))
+
 pub returns-clause-kept : goal.returns-clause-kept
 returns-clause-kept g c =
-    kept (g.S.Shelf.told c.args.shelf.now) (inside_of c.args.inside.list.now c.args.inside.extras.now) c.args.request
-    (stand (g.O.Sink.told c.args.output.now) (g.T.Listener.heard c.args.listener.now) (g.R.Replacing.tried c.args.replacer.now))
-    (stand (g.O.Sink.told c.do_paths.new.output) (g.T.Listener.heard c.tell_each.new.listener) (g.R.Replacing.tried c.do_paths.new.replacer)) c.greater.result (returns-clause-ok g c)
+    let s = g.S.Shelf.told c.args.shelf.now in
+    let inside = inside_of c.args.inside.list.now c.args.inside.extras.now in
+    let x = stand (g.O.Sink.told c.args.output.now) (g.T.Listener.heard c.args.listener.now) (g.R.Replacing.tried c.args.replacer.now) in
+    let y = stand (g.O.Sink.told c.do_paths.new.output) (g.T.Listener.heard c.tell_each.new.listener) (g.R.Replacing.tried c.do_paths.new.replacer) in
+    kept s inside c.args.request x.tried y.tried (done_tries s inside c.args.request x y c.greater.result (returns-clause-ok g c))
 
 pub returns-clause-mended : goal.returns-clause-mended
 returns-clause-mended g c =
-    needed (g.S.Shelf.told c.args.shelf.now) (inside_of c.args.inside.list.now c.args.inside.extras.now) c.args.request
-    (stand (g.O.Sink.told c.args.output.now) (g.T.Listener.heard c.args.listener.now) (g.R.Replacing.tried c.args.replacer.now))
-    (stand (g.O.Sink.told c.do_paths.new.output) (g.T.Listener.heard c.tell_each.new.listener) (g.R.Replacing.tried c.do_paths.new.replacer)) c.greater.result (returns-clause-ok g c)
+    let s = g.S.Shelf.told c.args.shelf.now in
+    let inside = inside_of c.args.inside.list.now c.args.inside.extras.now in
+    let x = stand (g.O.Sink.told c.args.output.now) (g.T.Listener.heard c.args.listener.now) (g.R.Replacing.tried c.args.replacer.now) in
+    let y = stand (g.O.Sink.told c.do_paths.new.output) (g.T.Listener.heard c.tell_each.new.listener) (g.R.Replacing.tried c.do_paths.new.replacer) in
+    needed s inside c.args.request x.tried y.tried (done_tries s inside c.args.request x y c.greater.result (returns-clause-ok g c))

@@ -1,3 +1,0 @@
-pub mod Mending
-pub mod Spans
-pub mod Fixing

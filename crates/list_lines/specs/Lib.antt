@@ -1,4 +1,0 @@
-pub mod Cells
-pub mod Lines
-pub mod Reading
-pub mod Rows

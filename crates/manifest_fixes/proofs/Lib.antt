@@ -1,4 +1,0 @@
-pub mod Laws
-pub mod Settled
-pub mod Slashed
-pub mod SoFar

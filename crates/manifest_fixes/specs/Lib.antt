@@ -1,3 +1,0 @@
-pub mod Fixing
-pub mod Needs
-pub mod Progress

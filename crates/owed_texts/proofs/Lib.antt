@@ -1,0 +1,5 @@
+pub mod Firsts
+pub mod Texts
+pub mod Zips
+pub mod FilesRead
+pub mod AllRead

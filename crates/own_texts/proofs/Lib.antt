@@ -1,3 +1,0 @@
-pub mod Zips
-pub mod FilesRead
-pub mod AllRead

@@ -1,5 +1,0 @@
-pub mod Home
-pub mod LicenseFiles
-pub mod Names
-pub mod Own
-pub mod All

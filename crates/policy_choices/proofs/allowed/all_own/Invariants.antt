@@ -1,5 +1,0 @@
-use Rattle.policy_choices.proofs.Owning.{AreOwnUpTo}
-use Rattle.policy_choices.proofs.allowed.all_own.Given as goal
-
-abbrev pub invariant-loop-number : goal.invariant-loop-number
-invariant-loop-number l = AreOwnUpTo l.report l.packages l.number l.all

@@ -1,6 +1,0 @@
-use Rattle.std.proofs.Common.{rules}
-use Rattle.told_at_once.proofs.Each.{whole_of}
-use Rattle.policy_choices.proofs.allowed.own_by.Goals as goal
-
-pub returns-then-is_empty-clause-ok : goal.returns-then-is_empty-clause-ok
-returns-then-is_empty-clause-ok c d p on = whole_of (c.in_ok-all.ensures d p on) (search rules)

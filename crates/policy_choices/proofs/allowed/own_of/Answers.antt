@@ -1,4 +1,0 @@
-use Rattle.policy_choices.proofs.allowed.own_of.Goals as goal
-
-pub returns-in-Ok-clause-ok : goal.returns-in-Ok-clause-ok
-returns-in-Ok-clause-ok c d p h = c.in-Ok.ensures.ok d p c.args.listed.now h

@@ -1,7 +1,0 @@
-use Rattle.std.proofs.Common.{◌≡◌, map, take}
-use Rattle.choice_program.specs.Named.{named, shown_all}
-use Rattle.policy_choices.specs.Picked.{pick_of, requirements_of}
-use Rattle.policy_choices.proofs.picked.all_own.Given as goal
-
-abbrev pub invariant-loop-one : goal.invariant-loop-one
-invariant-loop-one l = shown_all l.all.items ≡ map (map named) (map requirements_of (map pick_of (take l.one-index l.own)))

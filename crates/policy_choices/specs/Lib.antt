@@ -1,5 +1,0 @@
-pub mod Judged
-pub mod Picked
-pub mod Allowed
-pub mod Agreed
-pub mod Chosen
