@@ -50,7 +50,7 @@ module _ (s : Shelved) (check : Check) (t : Taken) (folder : Option (List ℕ)) 
       (λ text told p. record {
         first = far.all;
         now = now;
-        leads = far.leads;
+        came = far.came;
         found = text;
         found_told = told;
         between = between;
@@ -73,7 +73,7 @@ module _ (s : Shelved) (check : Check) (t : Taken) (folder : Option (List ℕ)) 
       (λ text told own own_told p q. record {
         first = far.all;
         now = now;
-        leads = far.leads;
+        came = far.came;
         found = text;
         found_told = told;
         between = between;

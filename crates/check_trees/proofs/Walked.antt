@@ -1,13 +1,14 @@
 -- What is done with all that a walk comes to, one after the other.
-use Rattle.std.proofs.Common.{ℕ, List, [], ◌∷◌, ◌++◌, Option, Some, None, subst, sym, append_assoc}
+use Rattle.std.proofs.Common.{ℕ, List, [], ◌∷◌, ◌++◌, Option, Some, None, subst}
 use Rattle.std.proofs.lemmas.List.{append-nil}
 use Rattle.line_engine.specs.Device.{Told}
 use Rattle.shelves.specs.Shelf.{Shelved}
 use Rattle.source_trees.specs.declared.stops.Stop.{Stop}
 use Rattle.source_trees.specs.declared.reading.Taken.{Taken}
 use Rattle.source_trees.specs.declared.walk.Seen.{Seen}
-use Rattle.source_trees.specs.Walks.{AreSeen, IsNext}
+use Rattle.source_trees.specs.Walks.{IsNext}
 use Rattle.source_trees.specs.Walks as walk
+use Rattle.source_trees.proofs.AllBelow.{finished}
 use Rattle.spdx_check.specs.declared.check.Check.{Check}
 use Rattle.check_files.specs.declared.trouble.CheckTrouble.{CheckTrouble}
 use Rattle.check_files.specs.Noted.{Notes}
@@ -31,7 +32,7 @@ module _ (s : Shelved) (check : Check) (t : Taken) (folder : Option (List ℕ)) 
   pub begun : (stops : List Stop) (old : Tally) (noted : Notes) (out : Told) (heard : Account CheckTrouble) → IsSoFar s check t folder stops stops old noted out out heard heard old noted
   begun stops old noted out heard = record {
     all = [];
-    leads = λ rest h. h;
+    came = walk.nothing_taken;
     does = nothing out heard (λ text told. AreSteps s check t folder [] old noted text told old noted) steps.none;
   }
 
@@ -41,7 +42,7 @@ module _ (s : Shelved) (check : Check) (t : Taken) (folder : Option (List ℕ)) 
       → Does b c l m (λ text told. IsSeenStep s check t folder x between notes text told new noted') → IsSoFar s check t folder stops after old noted a c h m new noted'
   further stops now after x old between new noted notes noted' a b c h k l m far is silent d = record {
     all = far.all ++ x ∷ [];
-    leads = λ rest g. subst (λ (xs : List Seen). AreSeen s stops xs) (sym (append_assoc far.all (x ∷ []) rest)) (far.leads (x ∷ rest) (is rest g));
+    came = walk.then_taken x far.came is;
     does =
         both a b c h k m
         (λ text told. AreSteps s check t folder far.all old noted text told between notes)
@@ -56,6 +57,6 @@ module _ (s : Shelved) (check : Check) (t : Taken) (folder : Option (List ℕ)) 
       → IsSoFar s check t folder stops now old noted a b h k new noted' → IsNext s now None after → Hears k l [] → IsWalked s check t folder stops old noted a b h l new noted'
   ended stops now after old new noted noted' a b h k l far is silent = record {
     all = far.all;
-    sees = subst (λ (xs : List Seen). AreSeen s stops xs) (append-nil far.all) (far.leads [] (subst (λ (ss : List Stop). AreSeen s ss []) (sym is) walk.none));
+    sees = finished s stops now far.all far.came is;
     does = before_silence a b h k l (λ text told. AreSteps s check t folder far.all old noted text told new noted') far.does silent;
   }

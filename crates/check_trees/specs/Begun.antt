@@ -7,7 +7,7 @@ use Rattle.source_trees.specs.declared.reading.Taken.{Taken}
 use Rattle.source_trees.specs.declared.stops.Stop.{Stop}
 use Rattle.source_trees.specs.declared.walk.Seen.{Seen}
 use Rattle.source_trees.specs.declared.walk.Seen.TheVariants as seen
-use Rattle.source_trees.specs.Walks.{AreBelow, AreSeen, IsBegun, IsNext}
+use Rattle.source_trees.specs.Walks.{AreBelow, AreTaken, IsBegun, IsNext}
 use Rattle.spdx_check.specs.declared.check.Check.{Check}
 use Rattle.check_told.specs.Owed.{Whole, bare_at, owed_by, whole_names, wholes_text}
 use Rattle.check_files.specs.Begun.{IsBeginning, IsFileBegun}
@@ -35,14 +35,13 @@ IsNextBegun s check t folder now old noted text told = ((text ≡ []) × (told �
     ⊎ ((x : Seen) × (after : List Stop) × IsNext s now (Some x) after
     × IsSeenBegun s check t folder x old noted text told)
 
--- all was done with what a walk came to first, behind which all that it had yet to come to would be
--- seen; and of what came next a beginning
+-- all was done with what a walk came to first, and of what came next a beginning
 pub record IsWalkBegun (s : Shelved) (check : Check) (t : Taken) (folder : Option (List ℕ))
     (stops : List Stop) (old : Tally) (noted : Notes) (text : List ℕ)
     (told : List CheckTrouble) : Type 0 where
   pub first : List Seen
   pub now : List Stop
-  pub leads : (rest : List Seen) → AreSeen s now rest → AreSeen s stops (first ++ rest)
+  pub came : AreTaken s stops first now
   pub found : List ℕ
   pub found_told : List CheckTrouble
   pub between : Tally

@@ -8,7 +8,7 @@ use Rattle.source_trees.specs.declared.reading.Taken.{Taken}
 use Rattle.source_trees.specs.declared.stops.Stop.{Stop}
 use Rattle.source_trees.specs.declared.walk.Seen.{Seen}
 use Rattle.source_trees.specs.declared.walk.Seen.TheVariants as seen
-use Rattle.source_trees.specs.Walks.{AreSeen}
+use Rattle.source_trees.specs.Walks.{AreSeen, AreTaken}
 use Rattle.spdx_check.specs.declared.check.Check.{Check}
 use Rattle.check_files.specs.declared.trouble.CheckTrouble.{CheckTrouble}
 use Rattle.check_files.specs.declared.trouble.CheckTrouble.TheVariants as trouble
@@ -98,11 +98,11 @@ pub record IsWalked (s : Shelved) (check : Check) (t : Taken) (folder : Option (
   pub does : Does out out' heard heard' (λ text told.
       AreSteps s check t folder all old noted text told new noted')
 
--- what a walk came to, behind which all that it has yet to come to is seen
+-- what a walk came to, and what it has yet to come to
 pub record IsSoFar (s : Shelved) (check : Check) (t : Taken) (folder : Option (List ℕ))
     (begun now : List Stop) (old : Tally) (noted : Notes) (out out' : Told)
     (heard heard' : Account CheckTrouble) (new : Tally) (noted' : Notes) : Type 0 where
   pub all : List Seen
-  pub leads : (rest : List Seen) → AreSeen s now rest → AreSeen s begun (all ++ rest)
+  pub came : AreTaken s begun all now
   pub does : Does out out' heard heard' (λ text told.
       AreSteps s check t folder all old noted text told new noted')

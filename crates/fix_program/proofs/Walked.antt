@@ -5,7 +5,8 @@ use Rattle.shelves.specs.Shelf.{Shelved}
 use Rattle.source_trees.specs.declared.stops.Stop.{Stop}
 use Rattle.source_trees.specs.declared.reading.Taken.{Taken}
 use Rattle.source_trees.specs.declared.walk.Seen.{Seen}
-use Rattle.source_trees.specs.Walks.{AreSeen, IsNext, none}
+use Rattle.source_trees.specs.Walks.{AreTaken, IsNext, nothing_taken, then_taken}
+use Rattle.source_trees.proofs.AllBelow.{finished}
 use Rattle.spdx_requirement.specs.Rows.{Rows}
 use Rattle.fix_program.specs.declared.ends.FileEnd.{FileEnd}
 use Rattle.fix_program.specs.Trees as tree
@@ -21,7 +22,7 @@ module _ (s : Shelved) (c : Rows) (w : Bool) (t : Taken) where
   pub begun : (stops now : List Stop) (ends : List FileEnd) → now ≡ stops → ends ≡ [] → AreSoFar s c w t stops now ends
   begun stops now ends same none_yet = record {
     all = [];
-    leads = λ rest h. subst (λ (ss : List Stop). AreSeen s ss rest) same h;
+    came = subst (λ (ss : List Stop). AreTaken s stops [] ss) (sym same) nothing_taken;
     are = subst (λ (es : List FileEnd). AreEnds s c w t [] es) (sym none_yet) tree.none;
   }
 
@@ -29,7 +30,7 @@ module _ (s : Shelved) (c : Rows) (w : Bool) (t : Taken) where
   pub further : (stops now after : List Stop) (x : Seen) (ends new : List FileEnd) → AreSoFar s c w t stops now ends → IsNext s now (Some x) after → AddsEnds s c w t x ends new → AreSoFar s c w t stops after new
   further stops now after x ends new far is adds = record {
     all = far.all ++ x ∷ [];
-    leads = λ rest h. subst (λ (xs : List Seen). AreSeen s stops xs) (sym (append_assoc far.all (x ∷ []) rest)) (far.leads (x ∷ rest) (is rest h));
+    came = then_taken x far.came is;
     are = subst (λ (es : List FileEnd). AreEnds s c w t (far.all ++ x ∷ []) es) (sym adds.2) (behind x adds.0 far.are adds.1);
   }
 
@@ -37,6 +38,6 @@ module _ (s : Shelved) (c : Rows) (w : Bool) (t : Taken) where
   pub ended : (stops now after : List Stop) (ends : List FileEnd) → AreSoFar s c w t stops now ends → IsNext s now None after → AreWalkEnds s c w t stops ends
   ended stops now after ends far is = (
     far.all,
-    subst (λ (xs : List Seen). AreSeen s stops xs) (append-nil far.all) (far.leads [] (subst (λ (ss : List Stop). AreSeen s ss []) (sym is) none)),
+    finished s stops now far.all far.came is,
     far.are,
   )

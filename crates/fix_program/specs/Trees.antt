@@ -9,7 +9,7 @@ use Rattle.source_trees.specs.Readings.{form_below}
 use Rattle.source_trees.specs.declared.reading.Taken.{Taken}
 use Rattle.source_trees.specs.declared.walk.Seen.{Seen}
 use Rattle.source_trees.specs.declared.walk.Seen.TheVariants as seen
-use Rattle.source_trees.specs.Walks.{AreSeen, IsBegun}
+use Rattle.source_trees.specs.Walks.{AreSeen, AreTaken, IsBegun}
 use Rattle.spdx_requirement.specs.Rows.{Rows}
 use Rattle.fix_program.specs.declared.ends.FileEnd.{FileEnd}
 use Rattle.fix_program.specs.declared.ends.FileEnd.TheVariants as end
@@ -100,9 +100,9 @@ abbrev pub AddsEnds : Shelved → Rows → Bool → Taken → Seen → List File
 AddsEnds s c w t x old new =
     (own : List FileEnd) × AreEndsOf s c w t x own × (new ≡ old ++ own)
 
--- the ends of what a walk came to, behind which all that it has yet to come to is seen
+-- the ends of what a walk came to, and what it has yet to come to
 pub record AreSoFar (s : Shelved) (c : Rows) (w : Bool) (t : Taken) (begun now : List Stop)
     (ends : List FileEnd) : Type 0 where
   pub all : List Seen
-  pub leads : (rest : List Seen) → AreSeen s now rest → AreSeen s begun (all ++ rest)
+  pub came : AreTaken s begun all now
   pub are : AreEnds s c w t all ends

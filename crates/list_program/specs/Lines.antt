@@ -34,7 +34,7 @@ rows_from row index (line ∷ lines) =
     (row index line)
 
 abbrev pub rows_in : {A : Type 0} → (ℕ → List ℕ → Option A) → List ℕ → Option (List A)
-rows_in row text = rows_from row 0 (lines text)
+rows_in one text = rows_from one 0 (lines text)
 
 abbrev pub front_or : Option (List ℕ × List ℕ) → List ℕ → List ℕ
 front_or (Some cells) line = cells.0

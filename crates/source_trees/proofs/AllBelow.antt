@@ -10,15 +10,24 @@ use Rattle.source_trees.specs.declared.walk.Seen.{Seen}
 use Rattle.source_trees.specs.declared.walk.Seen.TheVariants as seen
 use Rattle.source_trees.specs.Stops.{AreStopsIn, Stopped, below, has_cargo, looked_at, shown_stop, stop_at, stop_in}
 use Rattle.source_trees.specs.Visits.{visit_of}
-use Rattle.source_trees.specs.Walks.{AreAllBelow, AreBelow, AreSeen, IsBelow, inside, itself, path_of, none, file, left_out, left_behind, folder, unread}
+use Rattle.source_trees.specs.Walks.{AreAllBelow, AreBelow, AreSeen, AreTaken, IsBelow, IsTaken, inside, itself, path_of, none, file, left_out, left_behind, folder, unread, nothing_taken, then_taken}
+use Rattle.source_trees.proofs.Steps.{all_seen_behind}
+
+-- at the beginning nothing was taken
+pub begun : (s : Shelved) (stops : List Stop) → AreTaken s stops [] stops
+begun s stops = nothing_taken
+
+-- what comes next is taken too
+pub further : (s : Shelved) (stops now after : List Stop) (all : List Seen) (x : Seen)
+    → AreTaken s stops all now → IsTaken s now x after → AreTaken s stops (all ++ x ∷ []) after
+further s stops now after all x far is = then_taken x far is
 
 -- where nothing is yet to come, all is seen
 pub finished : (s : Shelved) (stops now : List Stop) (all : List Seen)
-    → ((after : List Seen) → AreSeen s now after → AreSeen s stops (all ++ after))
-    → now ≡ [] → AreSeen s stops all
-finished s stops now all h is =
+    → AreTaken s stops all now → now ≡ [] → AreSeen s stops all
+finished s stops now all far is =
     subst (λ xs. AreSeen s stops xs) (append-nil all)
-    (h [] (subst (λ xs. AreSeen s xs []) (sym is) none))
+    (all_seen_behind s [] far (subst (λ xs. AreSeen s xs []) (sym is) none))
 
 abbrev paths : List Stop → List (List ℕ)
 paths stops = map (λ (x : Stopped). x.path) (map shown_stop stops)

@@ -9,7 +9,7 @@ use Rattle.source_trees.specs.declared.stops.Visit.TheVariants as visit
 use Rattle.source_trees.specs.declared.walk.Seen.{Seen}
 use Rattle.source_trees.specs.declared.walk.Seen.TheVariants as seen
 use Rattle.source_trees.specs.Stops.{AreStopsIn}
-use Rattle.source_trees.specs.Walks.{AreSeen, IsAlone, IsOpened, IsStep, root_visit, none, file, left_out, left_behind, folder, unread}
+use Rattle.source_trees.specs.Walks.{AreSeen, AreTaken, IsAlone, IsOpened, IsStep, IsTaken, root_visit, none, file, left_out, left_behind, folder, unread, a_file, a_left_out, a_left_behind, a_folder, an_unread, nothing_taken, then_taken}
 
 -- what is seen of some stops, and then of the others
 record Parted (s : Shelved) (stops others : List Stop) (all : List Seen) : Type 0 where
@@ -69,18 +69,36 @@ parted s (stop ∷ stops) others all (unread {stops = _} {after} _ e is fails x)
       both = ap (λ r. seen.Unread stop.path e ∷ r) p.both;
     }
 
+-- what is seen behind this, is seen behind it from the beginning
+pub seen_behind : (s : Shelved) (before after : List Stop) (x : Seen) (rest : List Seen)
+    → IsTaken s before x after → AreSeen s after rest → AreSeen s before (x ∷ rest)
+seen_behind s _ _ _ rest (a_file stop is) h = file stop is h
+seen_behind s _ _ _ rest (a_left_out stop is) h = left_out stop is h
+seen_behind s _ _ _ rest (a_left_behind stop is) h = left_behind stop is h
+seen_behind s _ _ _ rest (a_folder {stops} stop inside n children is lists are) h =
+    let p = parted s children stops rest h in
+    subst (λ (all : List Seen). AreSeen s (stop ∷ stops) (seen.Folder stop.path n ∷ all)) p.both
+    (folder stop inside n children is lists are p.seen_within p.seen_after)
+seen_behind s _ _ _ rest (an_unread stop e is fails) h = unread stop e is fails h
+
+-- the same of all that a walk came to
+pub all_seen_behind : (s : Shelved) {begun now : List Stop} {all : List Seen} (rest : List Seen)
+    → AreTaken s begun all now → AreSeen s now rest → AreSeen s begun (all ++ rest)
+all_seen_behind s rest nothing_taken h = h
+all_seen_behind s {begun} rest (then_taken {all} {before} {after} x far is) h =
+    subst (λ (xs : List Seen). AreSeen s begun xs) (sym (append_assoc all (x ∷ []) rest))
+    (all_seen_behind s (x ∷ rest) far (seen_behind s before after x rest is h))
+
 -- a folder that lists these, whose stops come before all others now, was opened
 pub opened : (s : Shelved) (before after children : List Stop) (path : String Global) (inside : List Named) (n : ℕ)
     → s.Lists (string_bytes path) inside n → AreStopsIn (string_bytes path) inside children
     → after ≡ children ++ before → IsOpened s before path after (seen.Folder path n)
-opened s before after children path inside n lists are is stop at visits all x =
-    let y = subst (λ stops. AreSeen s stops all) is x in
-    let p = parted s children before all y in
+opened s before after children path inside n lists are is stop at visits =
     let lists_it = subst (λ q. s.Lists (string_bytes q) inside n) (sym at) lists in
     let are_its = subst (λ q. AreStopsIn (string_bytes q) inside children) (sym at) are in
-    subst (λ q. AreSeen s (stop ∷ before) (seen.Folder q n ∷ all)) at
-    (subst (λ r. AreSeen s (stop ∷ before) (seen.Folder stop.path n ∷ r)) p.both
-    (folder stop inside n children visits lists_it are_its p.seen_within p.seen_after))
+    subst (λ q. IsTaken s (stop ∷ before) (seen.Folder q n) after) at
+    (subst (λ stops. IsTaken s (stop ∷ before) (seen.Folder stop.path n) stops) (sym is)
+    (a_folder stop inside n children visits lists_it are_its))
 
 -- the stops that were put at the end of the stack, last one first, come before all others
 pub on_top : (old children : List Stop)
@@ -91,10 +109,11 @@ on_top old children =
 -- a folder that isn't read has nothing behind it
 pub not_opened : (s : Shelved) (before after : List Stop) (path : String Global) (e : Error)
     → s.Fails (string_bytes path) e → after ≡ before → IsOpened s before path after (seen.Unread path e)
-not_opened s before after path e fails is stop at visits all x =
+not_opened s before after path e fails is stop at visits =
     let fails_it = subst (λ q. s.Fails (string_bytes q) e) (sym at) fails in
-    subst (λ q. AreSeen s (stop ∷ before) (seen.Unread q e ∷ all)) at
-    (unread stop e visits fails_it (subst (λ stops. AreSeen s stops all) is x))
+    subst (λ q. IsTaken s (stop ∷ before) (seen.Unread q e) after) at
+    (subst (λ stops. IsTaken s (stop ∷ before) (seen.Unread stop.path e) stops) (sym is)
+    (an_unread stop e visits fails_it))
 
 -- what was the last of the stack was the first of what was yet to come
 pub taken : (stops : List Stop) (stop : Stop) → reverse (stops ++ stop ∷ []) ≡ stop ∷ reverse stops
@@ -103,15 +122,15 @@ taken stops stop = reverse-append stops (stop ∷ [])
 -- what is seen at a stop, by what is done there
 pub at_file : (s : Shelved) (stops : List Stop) (stop : Stop)
     → stop.visit ≡ visit.File → IsStep s stops stop stops (seen.File stop.path)
-at_file s stops stop is all x = file stop is x
+at_file s stops stop is = a_file stop is
 
 pub at_left_out : (s : Shelved) (stops : List Stop) (stop : Stop)
     → stop.visit ≡ visit.LeftOut → IsStep s stops stop stops (seen.LeftOut stop.path)
-at_left_out s stops stop is all x = left_out stop is x
+at_left_out s stops stop is = a_left_out stop is
 
 pub at_left_behind : (s : Shelved) (stops : List Stop) (stop : Stop)
     → stop.visit ≡ visit.LeftBehind → IsStep s stops stop stops (seen.LeftBehind stop.path)
-at_left_behind s stops stop is all x = left_behind stop is x
+at_left_behind s stops stop is = a_left_behind stop is
 
 -- one stop alone is the first and the last
 pub alone : (stops : List Stop) (stop : Stop) (path : List ℕ) (is_folder : Bool)

@@ -51,11 +51,35 @@ pub record IsAlone (path : List ℕ) (is_folder : Bool) (stops : List Stop) : Ty
 abbrev pub IsBegun : Shelved → List ℕ → List Stop → Type 0
 IsBegun s path stops = (is : Bool) × s.IsFolder path is × IsAlone path is stops
 
--- this comes next: all that is seen behind it is seen then; at the end there is nothing
+-- before this is seen that is yet to come, and after it the other: a file is itself, and of a folder
+-- what is in it comes next, by ascending paths
+pub data IsTaken (s : Shelved) : List Stop → Seen → List Stop → Type 0 where
+  a_file : {stops : List Stop} (stop : Stop) → stop.visit ≡ visit.File →
+      IsTaken s (stop ∷ stops) (seen.File stop.path) stops
+  a_left_out : {stops : List Stop} (stop : Stop) → stop.visit ≡ visit.LeftOut →
+      IsTaken s (stop ∷ stops) (seen.LeftOut stop.path) stops
+  a_left_behind : {stops : List Stop} (stop : Stop) → stop.visit ≡ visit.LeftBehind →
+      IsTaken s (stop ∷ stops) (seen.LeftBehind stop.path) stops
+  a_folder : {stops : List Stop} (stop : Stop) (inside : List Named) (unnamed : ℕ)
+      (children : List Stop) → stop.visit ≡ visit.Folder →
+      s.Lists (string_bytes stop.path) inside unnamed →
+      AreStopsIn (string_bytes stop.path) inside children →
+      IsTaken s (stop ∷ stops) (seen.Folder stop.path unnamed) (children ++ stops)
+  an_unread : {stops : List Stop} (stop : Stop) (e : Error) → stop.visit ≡ visit.Folder →
+      s.Fails (string_bytes stop.path) e →
+      IsTaken s (stop ∷ stops) (seen.Unread stop.path e) stops
+
+-- these are seen one after the other, behind which that is yet to come
+pub data AreTaken (s : Shelved) (begun : List Stop) : List Seen → List Stop → Type 0 where
+  nothing_taken : AreTaken s begun [] begun
+  then_taken : {all : List Seen} {before after : List Stop} (x : Seen) →
+      AreTaken s begun all before → IsTaken s before x after →
+      AreTaken s begun (all ++ x ∷ []) after
+
+-- this comes next; at the end there is nothing
 abbrev pub IsNext : Shelved → List Stop → Option Seen → List Stop → Type 0
 IsNext s before None after = before ≡ []
-IsNext s before (Some x) after =
-    (seen : List Seen) → AreSeen s after seen → AreSeen s before (x ∷ seen)
+IsNext s before (Some x) after = IsTaken s before x after
 
 -- the first of what is yet to come is taken
 abbrev pub IsPopped : List Stop → Option Stop → List Stop → Type 0
@@ -64,8 +88,7 @@ IsPopped before (Some stop) after = before ≡ stop ∷ after
 
 -- this is seen where a walk comes to the stop, before which that was yet to come
 abbrev pub IsStep : Shelved → List Stop → Stop → List Stop → Seen → Type 0
-IsStep s before stop after x =
-    (seen : List Seen) → AreSeen s after seen → AreSeen s (stop ∷ before) (x ∷ seen)
+IsStep s before stop after x = IsTaken s (stop ∷ before) x after
 
 -- the same of a folder at this path
 abbrev pub IsOpened : Shelved → List Stop → String Global → List Stop → Seen → Type 0

@@ -27,7 +27,7 @@ pub fn all_seen<S: Shelf>(alloc: Global, shelf: &S, path: &str) -> io::Result<Ve
 }
 
 // All that the walk has yet to come to.
-#[tactic(auto, using(crate::proofs::AllBelow::finished))]
+#[tactic(auto, using(crate::proofs::AllBelow::begun, crate::proofs::AllBelow::further, crate::proofs::AllBelow::finished))]
 fn walked<S: Shelf>(alloc: Global, shelf: &S, walk: Walk) -> Result<Vec<Seen>, AllocError>
     ensures { IfOk result (λ all. IsWalked (S.told shelf.now) (waiting walk) all.items) }
 {
