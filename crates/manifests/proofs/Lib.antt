@@ -1,1 +1,3 @@
+pub mod Apart
+pub mod ApartToml
 pub mod Marks

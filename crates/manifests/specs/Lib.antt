@@ -2,4 +2,5 @@ pub mod Json
 pub mod Names
 pub mod OldTable
 pub mod Sites
+pub mod Steps
 pub mod Toml

@@ -1,5 +1,5 @@
 -- The expressions of a manifest, each at its place.
-use Rattle.std.specs.Prelude.{◌≡◌, nat_eq, ℕ, Bool, true, false, not, ◌||◌, bytes_eq, List, [], ◌∷◌, codes, Some, None, map, All, filter, slice_get, ⊤}
+use Rattle.std.specs.Prelude.{◌≡◌, nat_eq, ℕ, Bool, true, false, not, ◌||◌, bytes_eq, List, [], ◌∷◌, codes, Option, Some, None, map, All, filter, slice_get, ⊤}
 use Rattle.std.specs.Str.{IsUtf8}
 use Rattle.std.specs.List.{starts_with}
 use Rattle.serde_json.specs.Data.{Data}
@@ -25,8 +25,9 @@ use Rattle.manifests.specs.declared.site.Site.{Site}
 use Rattle.plain_manifests.specs.declared.form.PlainForm.{PlainForm}
 use Rattle.plain_manifests.specs.declared.sites.PlainSite.{PlainSite}
 use Rattle.plain_manifests.specs.Sites.{ArePlainSites, MendsPlain, StaysPlain}
-use Rattle.manifests.specs.Json.{license_texts}
-use Rattle.manifests.specs.Toml.{cargo_texts, pyproject_texts, reuse_texts}
+use Rattle.manifests.specs.Json.{license_paths, license_texts}
+use Rattle.manifests.specs.Steps.{Step, of_json, of_toml}
+use Rattle.manifests.specs.Toml.{cargo_paths, cargo_texts, pyproject_paths, pyproject_texts, reuse_paths, reuse_texts}
 
 -- npm's words for a license that is told elsewhere, or that nobody is given
 abbrev pub is_word_of_npm : List ℕ → Bool
@@ -39,12 +40,13 @@ is_expression Npm text = not (is_word_of_npm text)
 is_expression Composer text = not (bytes_eq text (codes "proprietary"))
 is_expression form text = true
 
--- the site is the literal of the text that the document has at some path, and its number is that of
--- its text among these
+-- of these texts of a document and the ways to them, the site is the literal of the text of its
+-- number, at the very member to which the way of that number leads
 pub record IsInJson (bytes : List ℕ) (document : Data) (texts : List (List ℕ))
-    (site : Site) : Type 0 where
+    (paths : List (List Step)) (site : Site) : Type 0 where
   pub number : slice_get texts site.number ≡ Some site.text.items
   pub steps : List json.Step
+  pub path : slice_get paths site.number ≡ Some (map of_json steps)
   pub text : json_paths.text_at steps document ≡ Some site.text.items
   pub stands : json_places.Stands bytes document steps site.span
 
@@ -55,7 +57,7 @@ pub record AreSitesOfJson (form : Form) (bytes : List ℕ) (sites : List Site) :
   pub reads : read bytes ≡ Some document
   pub texts : map (λ (s : Site). s.text.items) sites ≡ filter (is_expression form)
       (license_texts document)
-  pub places : All (IsInJson bytes document (license_texts document)) sites
+  pub places : All (IsInJson bytes document (license_texts document) (license_paths document)) sites
 
 -- what the document of a form declares
 abbrev pub texts_of_toml : Form → Members → List (List ℕ)
@@ -63,11 +65,18 @@ texts_of_toml Cargo document = cargo_texts document
 texts_of_toml Pyproject document = pyproject_texts document
 texts_of_toml form document = reuse_texts document
 
+-- and the ways to it
+abbrev pub paths_of_toml : Form → Members → List (List Step)
+paths_of_toml Cargo document = cargo_paths document
+paths_of_toml Pyproject document = pyproject_paths document
+paths_of_toml form document = reuse_paths document
+
 -- the same of TOML
 pub record IsInToml (bytes : List ℕ) (document : Members) (texts : List (List ℕ))
-    (site : Site) : Type 0 where
+    (paths : List (List Step)) (site : Site) : Type 0 where
   pub number : slice_get texts site.number ≡ Some site.text.items
   pub steps : List toml.Step
+  pub path : slice_get paths site.number ≡ Some (map of_toml steps)
   pub text : toml_paths.text_at steps document ≡ Some site.text.items
   pub stands : toml_places.Stands bytes document steps site.span
 
@@ -76,7 +85,8 @@ pub record AreSitesOfToml (form : Form) (bytes : List ℕ) (sites : List Site) :
   pub document : Members
   pub reads : parse_document bytes ≡ Some document
   pub texts : map (λ (s : Site). s.text.items) sites ≡ texts_of_toml form document
-  pub places : All (IsInToml bytes document (texts_of_toml form document)) sites
+  pub places : All (IsInToml bytes document (texts_of_toml form document)
+      (paths_of_toml form document)) sites
 
 -- the site is the one of a file of fields or elements, which has no quotes in its place
 pub record IsPlain (found : PlainSite) (site : Site) : Type 0 where
@@ -145,12 +155,14 @@ abbrev pub IsRefusedFor : Form → List ℕ → ManifestError → Type 0
 IsRefusedFor (Plain form) bytes error = IsMarked bytes error
 IsRefusedFor form bytes error = ⊤
 
--- the literal of a text that the document has is replaced by the new text in quotes, every other
--- byte stays, and what is read is the document with the new text where the old one stood, and every
--- other value as before
-pub record ChangesJson (bytes : List ℕ) (document : Data) (old new mended : List ℕ) : Type 0 where
+-- the literal of the text to which this way leads is replaced by the new text in quotes, every
+-- other byte stays, and what is read is the document with the new text where the old one stood, and
+-- every other value as before
+pub record ChangesJson (bytes : List ℕ) (document : Data) (way : Option (List Step))
+    (old new mended : List ℕ) : Type 0 where
   pub steps : List json.Step
   pub span : Span
+  pub path : way ≡ Some (map of_json steps)
   pub text : json_paths.text_at steps document ≡ Some old
   pub stands : json_places.Stands bytes document steps span
   pub mends : json_mended.IsMended bytes document steps span new mended
@@ -161,13 +173,15 @@ pub record MendsJson (bytes : List ℕ) (number : ℕ) (new mended : List ℕ) :
   pub reads : read bytes ≡ Some document
   pub old : List ℕ
   pub declared : slice_get (license_texts document) number ≡ Some old
-  pub changes : ChangesJson bytes document old new mended
+  pub changes : ChangesJson bytes document (slice_get (license_paths document) number)
+      old new mended
 
 -- the same of TOML
-pub record ChangesToml (bytes : List ℕ) (document : Members)
+pub record ChangesToml (bytes : List ℕ) (document : Members) (way : Option (List Step))
     (old new mended : List ℕ) : Type 0 where
   pub steps : List toml.Step
   pub span : Span
+  pub path : way ≡ Some (map of_toml steps)
   pub text : toml_paths.text_at steps document ≡ Some old
   pub stands : toml_places.Stands bytes document steps span
   pub mends : toml_mended.IsMended bytes document steps span new mended
@@ -179,7 +193,8 @@ pub record MendsToml (form : Form) (bytes : List ℕ) (number : ℕ)
   pub reads : parse_document bytes ≡ Some document
   pub old : List ℕ
   pub declared : slice_get (texts_of_toml form document) number ≡ Some old
-  pub changes : ChangesToml bytes document old new mended
+  pub changes : ChangesToml bytes document (slice_get (paths_of_toml form document) number)
+      old new mended
 
 -- the manifest, with one of its literals replaced
 abbrev pub Mends : Form → List ℕ → ℕ → List ℕ → List ℕ → Type 0

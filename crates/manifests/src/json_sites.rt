@@ -5,6 +5,7 @@ ghost use Rattle.serde_json.specs.Read.{read};
 ghost use Rattle.serde_json.specs.View.{view};
 ghost use Rattle.json_places.specs.Places.{ArePlaces};
 ghost use Rattle.json_places.specs.Paths.{text_at as json_text_at};
+ghost use Rattle.manifests.specs.Steps.{json_steps};
 ghost use Rattle.manifests.specs.Sites.{AreSitesOfJson, IsInJson, is_expression};
 ghost use Rattle.manifests.specs.Sites as spec;
 ghost use Rattle.manifests.specs.declared.site.Site.{Site};
@@ -94,7 +95,7 @@ fn site_at(
     ensures text { IfOk result (λ found. IfSome found (λ site. site.text.items ≡ text.now)) }
     ensures place { IfOk result (λ found. IfSome found
         (IsInJson placed.now.bytes.now (view placed.now.document.now)
-        (map (λ t. t.now) texts.now))) }
+        (map (λ t. t.now) texts.now) (map json_steps placed.now.paths.now))) }
 {
     let Some((path, span)) = place_at(placed, number) else {
         return Ok(None);
@@ -136,7 +137,7 @@ fn sites_of(
     ensures err { IfErr result (spec.IsError placed.now.bytes.now) }
     ensures places { IfOk result (λ sites.
         All (IsInJson placed.now.bytes.now (view placed.now.document.now)
-        (map (λ t. t.now) texts.now)) sites.items) }
+        (map (λ t. t.now) texts.now) (map json_steps placed.now.paths.now)) sites.items) }
 {
     let mut sites = Vec::new(alloc);
     for (number, text) in texts.iter().enumerate() {
@@ -211,8 +212,9 @@ fn changed_at(
     requires { ArePlaces placed.now.bytes.now (view placed.now.document.now)
         placed.now.paths.now placed.now.spans.now }
     ensures { IfOk result (λ answer. IfSome answer (λ mended.
-        spec.ChangesJson placed.now.bytes.now (view placed.now.document.now) old.now
-        new.now mended.items)) }
+        spec.ChangesJson placed.now.bytes.now (view placed.now.document.now)
+        (slice_get (map json_steps placed.now.paths.now) number)
+        old.now new.now mended.items)) }
 {
     let Some((path, span)) = place_at(placed, number) else {
         return Ok(None);

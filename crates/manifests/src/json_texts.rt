@@ -4,6 +4,7 @@ ghost use Rattle.std.specs.Prelude.{◌≡◌, ◌++◌, IfOk, OnOk, codes, map,
 ghost use Rattle.std.specs.Option.{option_copied, option_to_list};
 ghost use Rattle.serde_json.specs.View.{items_view, view};
 ghost use Rattle.manifests.specs.Json as spec;
+ghost use Rattle.manifests.specs.Steps.{json_steps};
 
 use json_places::{Path, Step};
 use serde_json::Value;
@@ -26,19 +27,28 @@ fn text_in<'d>(value: &'d Value) -> Option<&'d str>
     }
 }
 
+fn is_text(value: &Value) -> bool
+    ensures { result ≡ spec.is_text (view value.now) }
+{
+    matches!(value, Value::String(_))
+}
+
 // The way to the text in a value that is at an item of a member, or at the member itself.
 fn path_to(
     alloc: Global,
     key: &'static str,
     item: Option<usize>,
     value: &Value,
-) -> Result<Path<'static>, AllocError> {
+) -> Result<Path<'static>, AllocError>
+    ensures { IfOk result (λ path.
+        json_steps path ≡ spec.way_in (spec.steps_to key.now item) (view value.now)) }
+{
     let mut steps = Vec::new(alloc);
     steps.push(Step::Key(key))?;
     if let Some(index) = item {
         steps.push(Step::Item(index))?;
     }
-    if !matches!(value, Value::String(_)) {
+    if !is_text(value) {
         steps.push(Step::Key("type"))?;
     }
     Ok(Path { steps })
@@ -52,8 +62,11 @@ fn push_text<'d>(
     item: Option<usize>,
     value: &'d Value,
 ) -> Result<(), AllocError>
-    ensures { OnOk result (map (λ t. t.now) found.new.texts.items ≡
+    ensures texts { OnOk result (map (λ t. t.now) found.new.texts.items ≡
         map (λ t. t.now) found.old.texts.items ++ option_to_list (spec.text_in (view value.now))) }
+    ensures paths { OnOk result (map json_steps found.new.paths.items ≡
+        map json_steps found.old.paths.items
+        ++ option_to_list (spec.path_in (spec.steps_to key.now item) (view value.now))) }
 {
     if let Some(text) = text_in(value) {
         found.texts.push(text)?;
@@ -69,8 +82,11 @@ fn push_items<'d>(
     key: &'static str,
     items: &'d Vec<Value>,
 ) -> Result<(), AllocError>
-    ensures { OnOk result (map (λ t. t.now) found.new.texts.items ≡
+    ensures texts { OnOk result (map (λ t. t.now) found.new.texts.items ≡
         map (λ t. t.now) found.old.texts.items ++ spec.texts_among (items_view items.now.items)) }
+    ensures paths { OnOk result (map json_steps found.new.paths.items ≡
+        map json_steps found.old.paths.items
+        ++ spec.paths_among key.now 0 (items_view items.now.items)) }
 {
     for (index, item) in items.iter().enumerate() {
         push_text(alloc, found, key, Some(index), item)?;
@@ -85,8 +101,10 @@ fn push_member<'d>(
     key: &'static str,
     document: &'d Value,
 ) -> Result<(), AllocError>
-    ensures { OnOk result (map (λ t. t.now) found.new.texts.items ≡
+    ensures texts { OnOk result (map (λ t. t.now) found.new.texts.items ≡
         map (λ t. t.now) found.old.texts.items ++ spec.texts_at key.now (view document.now)) }
+    ensures paths { OnOk result (map json_steps found.new.paths.items ≡
+        map json_steps found.old.paths.items ++ spec.paths_at key.now (view document.now)) }
 {
     match document.get(key) {
         None => Ok(()),
@@ -100,8 +118,10 @@ pub(crate) fn license_texts<'d>(
     alloc: Global,
     document: &'d Value,
 ) -> Result<JsonTexts<'d>, AllocError>
-    ensures { IfOk result (λ found.
+    ensures texts { IfOk result (λ found.
         map (λ t. t.now) found.texts.items ≡ spec.license_texts (view document.now)) }
+    ensures paths { IfOk result (λ found.
+        map json_steps found.paths.items ≡ spec.license_paths (view document.now)) }
 {
     let mut found = JsonTexts {
         texts: Vec::new(alloc),

@@ -5,7 +5,8 @@ ghost use Rattle.toml.specs.Parse.{parse_document};
 ghost use Rattle.toml.specs.View.{table_view};
 ghost use Rattle.toml_places.specs.Places.{ArePlaces};
 ghost use Rattle.toml_places.specs.Paths.{text_at as toml_text_at};
-ghost use Rattle.manifests.specs.Sites.{AreSitesOfToml, IsInToml, texts_of_toml};
+ghost use Rattle.manifests.specs.Steps.{toml_steps};
+ghost use Rattle.manifests.specs.Sites.{AreSitesOfToml, IsInToml, paths_of_toml, texts_of_toml};
 ghost use Rattle.manifests.specs.Sites as spec;
 ghost use Rattle.manifests.specs.declared.site.Site.{Site};
 
@@ -96,7 +97,7 @@ fn site_at(
     ensures text { IfOk result (λ found. IfSome found (λ site. site.text.items ≡ text.now)) }
     ensures place { IfOk result (λ found. IfSome found
         (IsInToml placed.now.text.now (table_view placed.now.document.now)
-        (map (λ t. t.now) texts.now))) }
+        (map (λ t. t.now) texts.now) (map toml_steps placed.now.paths.now))) }
 {
     let Some((path, span)) = place_at(placed, number) else {
         return Ok(None);
@@ -133,7 +134,7 @@ fn sites_of(alloc: Global, placed: &Placed<'_>, texts: &[&str]) -> Result<Vec<Si
     ensures err { IfErr result (spec.IsError placed.now.text.now) }
     ensures places { IfOk result (λ sites.
         All (IsInToml placed.now.text.now (table_view placed.now.document.now)
-        (map (λ t. t.now) texts.now)) sites.items) }
+        (map (λ t. t.now) texts.now) (map toml_steps placed.now.paths.now)) sites.items) }
 {
     let mut sites = Vec::new(alloc);
     for (number, text) in texts.iter().enumerate() {
@@ -151,8 +152,10 @@ fn declared_by<'d>(
     form: Form,
     document: &'d Table,
 ) -> Result<TomlTexts<'d>, AllocError>
-    ensures { IfOk result (λ found.
+    ensures texts { IfOk result (λ found.
         map (λ t. t.now) found.texts.items ≡ texts_of_toml form (table_view document.now)) }
+    ensures paths { IfOk result (λ found.
+        map toml_steps found.paths.items ≡ paths_of_toml form (table_view document.now)) }
 {
     match form {
         Form::Cargo => cargo_texts(alloc, document),
@@ -225,8 +228,9 @@ fn changed_at(
     requires { ArePlaces placed.now.text.now (table_view placed.now.document.now)
         placed.now.paths.now placed.now.spans.now }
     ensures { IfOk result (λ answer. IfSome answer (λ mended.
-        spec.ChangesToml placed.now.text.now (table_view placed.now.document.now) old.now
-        new.now mended.items)) }
+        spec.ChangesToml placed.now.text.now (table_view placed.now.document.now)
+        (slice_get (map toml_steps placed.now.paths.now) number)
+        old.now new.now mended.items)) }
 {
     let Some((path, span)) = place_at(placed, number) else {
         return Ok(None);

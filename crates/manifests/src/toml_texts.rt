@@ -1,9 +1,10 @@
 // The expressions that a manifest of TOML declares.
 
-ghost use Rattle.std.specs.Prelude.{◌≡◌, [], ◌++◌, IfOk, OnOk, codes, map, option_map};
+ghost use Rattle.std.specs.Prelude.{◌≡◌, [], ◌∷◌, ◌++◌, IfOk, OnOk, codes, map, option_map};
 ghost use Rattle.std.specs.Option.{option_copied, option_to_list};
 ghost use Rattle.toml.specs.Data.{as_str, get_member};
 ghost use Rattle.toml.specs.View.{items_view, table_view, view};
+ghost use Rattle.manifests.specs.Steps.{Key, toml_steps};
 ghost use Rattle.manifests.specs.Toml as spec;
 
 use std::alloc::{AllocError, Global};
@@ -21,7 +22,10 @@ fn path_to(
     alloc: Global,
     key: &'static str,
     keys: &[&'static str],
-) -> Result<Path<'static>, AllocError> {
+) -> Result<Path<'static>, AllocError>
+    ensures { IfOk result (λ path.
+        toml_steps path ≡ Key key.now ∷ map Key (map (λ k. k.now) keys.now)) }
+{
     let mut steps = Vec::new(alloc);
     steps.push(Step::Key(key))?;
     for key in keys {
@@ -65,9 +69,12 @@ fn push_behind<'d>(
     key: &'static str,
     keys: &[&'static str],
 ) -> Result<(), AllocError>
-    ensures { OnOk result (map (λ t. t.now) found.new.texts.items ≡
+    ensures texts { OnOk result (map (λ t. t.now) found.new.texts.items ≡
         map (λ t. t.now) found.old.texts.items
         ++ spec.text_behind key.now (map (λ k. k.now) keys.now) (table_view document.now)) }
+    ensures paths { OnOk result (map toml_steps found.new.paths.items ≡
+        map toml_steps found.old.paths.items
+        ++ spec.path_behind key.now (map (λ k. k.now) keys.now) (table_view document.now)) }
 {
     if let Some(text) = text_behind(document, key, keys) {
         found.texts.push(text)?;
@@ -77,7 +84,8 @@ fn push_behind<'d>(
 }
 
 fn nothing<'d>(alloc: Global) -> TomlTexts<'d>
-    ensures { result.texts.items ≡ [] }
+    ensures texts { result.texts.items ≡ [] }
+    ensures paths { result.paths.items ≡ [] }
 {
     TomlTexts {
         texts: Vec::new(alloc),
@@ -90,8 +98,10 @@ pub(crate) fn cargo_texts<'d>(
     alloc: Global,
     document: &'d Table,
 ) -> Result<TomlTexts<'d>, AllocError>
-    ensures { IfOk result (λ found.
+    ensures texts { IfOk result (λ found.
         map (λ t. t.now) found.texts.items ≡ spec.cargo_texts (table_view document.now)) }
+    ensures paths { IfOk result (λ found.
+        map toml_steps found.paths.items ≡ spec.cargo_paths (table_view document.now)) }
 {
     let mut found = nothing(alloc);
     push_behind(alloc, &mut found, document, "package", &["license"])?;
@@ -111,8 +121,10 @@ fn push_of_poetry<'d>(
     found: &mut TomlTexts<'d>,
     document: &'d Table,
 ) -> Result<(), AllocError>
-    ensures { OnOk result (map (λ t. t.now) found.new.texts.items ≡
+    ensures texts { OnOk result (map (λ t. t.now) found.new.texts.items ≡
         map (λ t. t.now) found.old.texts.items ++ spec.poetry_texts (table_view document.now)) }
+    ensures paths { OnOk result (map toml_steps found.new.paths.items ≡
+        map toml_steps found.old.paths.items ++ spec.poetry_paths (table_view document.now)) }
 {
     if text_behind(document, "tool", &["poetry", "license"]) == Some("Proprietary") {
         return Ok(());
@@ -125,8 +137,10 @@ pub(crate) fn pyproject_texts<'d>(
     alloc: Global,
     document: &'d Table,
 ) -> Result<TomlTexts<'d>, AllocError>
-    ensures { IfOk result (λ found.
+    ensures texts { IfOk result (λ found.
         map (λ t. t.now) found.texts.items ≡ spec.pyproject_texts (table_view document.now)) }
+    ensures paths { IfOk result (λ found.
+        map toml_steps found.paths.items ≡ spec.pyproject_paths (table_view document.now)) }
 {
     let mut found = nothing(alloc);
     push_behind(alloc, &mut found, document, "project", &["license"])?;
@@ -139,7 +153,9 @@ fn annotation_path(
     alloc: Global,
     annotation: usize,
     item: Option<usize>,
-) -> Result<Path<'static>, AllocError> {
+) -> Result<Path<'static>, AllocError>
+    ensures { IfOk result (λ path. toml_steps path ≡ spec.steps_to annotation item) }
+{
     let mut steps = Vec::new(alloc);
     steps.push(Step::Key("annotations"))?;
     steps.push(Step::Item(annotation))?;
@@ -158,8 +174,11 @@ fn push_said<'d>(
     item: Option<usize>,
     value: &'d Value,
 ) -> Result<(), AllocError>
-    ensures { OnOk result (map (λ t. t.now) found.new.texts.items ≡
+    ensures texts { OnOk result (map (λ t. t.now) found.new.texts.items ≡
         map (λ t. t.now) found.old.texts.items ++ option_to_list (as_str (view value.now))) }
+    ensures paths { OnOk result (map toml_steps found.new.paths.items ≡
+        map toml_steps found.old.paths.items
+        ++ option_to_list (spec.path_in annotation item (view value.now))) }
 {
     if let Some(text) = value.as_str() {
         found.texts.push(text)?;
@@ -175,8 +194,11 @@ fn push_items<'d>(
     annotation: usize,
     items: &'d Vec<Value>,
 ) -> Result<(), AllocError>
-    ensures { OnOk result (map (λ t. t.now) found.new.texts.items ≡
+    ensures texts { OnOk result (map (λ t. t.now) found.new.texts.items ≡
         map (λ t. t.now) found.old.texts.items ++ spec.texts_among (items_view items.now.items)) }
+    ensures paths { OnOk result (map toml_steps found.new.paths.items ≡
+        map toml_steps found.old.paths.items
+        ++ spec.paths_among annotation 0 (items_view items.now.items)) }
 {
     for (index, item) in items.iter().enumerate() {
         push_said(alloc, found, annotation, Some(index), item)?;
@@ -191,8 +213,11 @@ fn push_annotation<'d>(
     number: usize,
     annotation: &'d Value,
 ) -> Result<(), AllocError>
-    ensures { OnOk result (map (λ t. t.now) found.new.texts.items ≡
+    ensures texts { OnOk result (map (λ t. t.now) found.new.texts.items ≡
         map (λ t. t.now) found.old.texts.items ++ spec.annotation_texts (view annotation.now)) }
+    ensures paths { OnOk result (map toml_steps found.new.paths.items ≡
+        map toml_steps found.old.paths.items
+        ++ spec.annotation_paths number (view annotation.now)) }
 {
     match annotation.get("SPDX-License-Identifier") {
         None => Ok(()),
@@ -207,9 +232,12 @@ fn push_annotations<'d>(
     found: &mut TomlTexts<'d>,
     annotations: &'d Vec<Value>,
 ) -> Result<(), AllocError>
-    ensures { OnOk result (map (λ t. t.now) found.new.texts.items ≡
+    ensures texts { OnOk result (map (λ t. t.now) found.new.texts.items ≡
         map (λ t. t.now) found.old.texts.items
         ++ spec.annotations_texts (items_view annotations.now.items)) }
+    ensures paths { OnOk result (map toml_steps found.new.paths.items ≡
+        map toml_steps found.old.paths.items
+        ++ spec.annotations_paths 0 (items_view annotations.now.items)) }
 {
     for (number, annotation) in annotations.iter().enumerate() {
         push_annotation(alloc, found, number, annotation)?;
@@ -222,8 +250,10 @@ pub(crate) fn reuse_texts<'d>(
     alloc: Global,
     document: &'d Table,
 ) -> Result<TomlTexts<'d>, AllocError>
-    ensures { IfOk result (λ found.
+    ensures texts { IfOk result (λ found.
         map (λ t. t.now) found.texts.items ≡ spec.reuse_texts (table_view document.now)) }
+    ensures paths { IfOk result (λ found.
+        map toml_steps found.paths.items ≡ spec.reuse_paths (table_view document.now)) }
 {
     let mut found = nothing(alloc);
     if let Some(Value::Array(annotations)) = member(document, "annotations") {

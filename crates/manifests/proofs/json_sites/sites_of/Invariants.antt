@@ -3,6 +3,7 @@ use Rattle.std.specs.Prelude.{All, filter}
 use Rattle.serde_json.specs.View.{view}
 use Rattle.manifests.specs.declared.site.Site.{Site}
 use Rattle.manifests.specs.Sites.{IsInJson, is_expression}
+use Rattle.manifests.specs.Steps.{json_steps}
 use Rattle.manifests.proofs.json_sites.sites_of.Given as goal
 
 abbrev pub invariant-loop-number : goal.invariant-loop-number
@@ -12,5 +13,5 @@ invariant-loop-number l =
     record {
       texts : filter (is_expression l.form) (map shown l.texts)
           ≡ map text l.sites.items ++ filter (is_expression l.form) (map shown (drop l.number l.texts));
-      places : All (IsInJson l.placed.bytes.now (view l.placed.document.now) (map shown l.texts)) l.sites.items;
+      places : All (IsInJson l.placed.bytes.now (view l.placed.document.now) (map shown l.texts) (map json_steps l.placed.paths.now)) l.sites.items;
     }

@@ -1,8 +1,11 @@
-use Rattle.std.proofs.Common.{arith, ◌≡◌, Some}
+use Rattle.std.proofs.Common.{arith, ◌≡◌, Some, ap, ◌∙◌}
+use Rattle.std.proofs.lemmas.Option.{slice_get-map}
+use Rattle.std.specs.Prelude.{option_map}
 use Rattle.std.proofs.lemmas.Grind.{common_steps}
 use Rattle.toml.specs.View.{table_view}
 use Rattle.toml_places.specs.Paths.{text_at}
 use Rattle.toml_places.proofs.Placed.{ArePlaces-at}
+use Rattle.manifests.specs.Steps.{toml_steps}
 use Rattle.manifests.proofs.toml_sites.site_at.Goals as goal
 
 pub returns-clause-place : goal.returns-clause-place
@@ -13,6 +16,7 @@ returns-clause-place c =
     record {
       number = rw bytes c.requires.number;
       steps = c.in-Some.path.now.steps.items;
+      path = slice_get-map toml_steps c.args.placed.now.paths.now c.args.number ∙ ap (option_map toml_steps) c.in-Some.ensures.path;
       text = rw bytes says;
       stands = ArePlaces-at _ _ _ _ c.args.number c.in-Some.path.now c.in-Some.span c.requires.places c.in-Some.ensures.path c.in-Some.ensures.span;
     }

@@ -3,6 +3,7 @@ use Rattle.std.specs.Prelude.{All}
 use Rattle.toml.specs.View.{table_view}
 use Rattle.manifests.specs.declared.site.Site.{Site}
 use Rattle.manifests.specs.Sites.{IsInToml}
+use Rattle.manifests.specs.Steps.{toml_steps}
 use Rattle.manifests.proofs.toml_sites.sites_of.Given as goal
 
 abbrev pub invariant-loop-number : goal.invariant-loop-number
@@ -12,5 +13,5 @@ invariant-loop-number l =
     record {
       texts : map shown l.texts
           ≡ map text l.sites.items ++ map shown (drop l.number l.texts);
-      places : All (IsInToml l.placed.text.now (table_view l.placed.document.now) (map shown l.texts)) l.sites.items;
+      places : All (IsInToml l.placed.text.now (table_view l.placed.document.now) (map shown l.texts) (map toml_steps l.placed.paths.now)) l.sites.items;
     }

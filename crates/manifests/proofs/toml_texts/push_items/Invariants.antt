@@ -1,10 +1,15 @@
 use Rattle.std.proofs.Common.{◌≡◌, ◌++◌, map, drop, List, ℕ, Bor}
 use Rattle.toml.specs.View.{items_view}
-use Rattle.manifests.specs.Toml.{texts_among}
+use Rattle.manifests.specs.Toml.{paths_among, texts_among}
+use Rattle.manifests.specs.Steps.{toml_steps}
 use Rattle.manifests.proofs.toml_texts.push_items.Given as goal
 
 abbrev pub invariant-loop-index : goal.invariant-loop-index
 invariant-loop-index l =
     let shown : Bor (List ℕ) → List ℕ = λ x. x.now in
-    map shown l.fn.found.texts.items ++ texts_among (items_view l.item-items)
-    ≡ map shown l.found.texts.items ++ texts_among (items_view (drop l.index l.item-items))
+    record {
+      texts : map shown l.fn.found.texts.items ++ texts_among (items_view l.item-items)
+          ≡ map shown l.found.texts.items ++ texts_among (items_view (drop l.index l.item-items));
+      paths : map toml_steps l.fn.found.paths.items ++ paths_among l.annotation 0 (items_view l.item-items)
+          ≡ map toml_steps l.found.paths.items ++ paths_among l.annotation l.index (items_view (drop l.index l.item-items));
+    }
