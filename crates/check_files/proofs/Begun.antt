@@ -5,6 +5,7 @@ use Rattle.line_engine.specs.Device.{Told}
 use Rattle.line_engine.specs.Progress.{AppendsBeginning}
 use Rattle.line_engine.specs.declared.lines.Summary.{Summary}
 use Rattle.manifests.specs.declared.form.Form.{Form}
+use Rattle.manifests.specs.declared.site.Site.{Site}
 use Rattle.shelves.specs.Shelf.{Shelved}
 use Rattle.source_trees.specs.Readings.{form_below}
 use Rattle.source_trees.specs.declared.reading.Taken.{Taken}
@@ -56,12 +57,13 @@ module _ {A : Type 0} where
 
 -- ---- the parts of a file
 
-pub manifest_text : (check : Check) (form : Form) (source : Source) (old : Tally) (first : Bool) (found text : List ℕ) (summary : Summary)
-    → first ≡ is_clean old → ChecksManifest check first form source found summary → text ≡ written summary found → IsManifestText check form source old text
-manifest_text check form source old first found text summary clean finds is = record {
+pub manifest_text : (check : Check) (form : Form) (source : Source) (old : Tally) (first : Bool) (sites : Option (List Site)) (found text : List ℕ) (summary : Summary)
+    → first ≡ is_clean old → ChecksManifest check first form source sites found summary → text ≡ written summary found → IsManifestText check form source old text
+manifest_text check form source old first sites found text summary clean finds is = record {
+  sites = sites;
   found = found;
   summary = summary;
-  finds = subst (λ (b : Bool). ChecksManifest check b form source found summary) clean finds;
+  finds = subst (λ (b : Bool). ChecksManifest check b form source sites found summary) clean finds;
   text_is = is;
 }
 
@@ -74,9 +76,9 @@ tag_text check source old first found text summary clean finds is = record {
   text_is = is;
 }
 
-manifest_checked : (check : Check) (form : Form) (source : Source) (old new : Tally) (text : List ℕ) (count : ℕ) → IsManifestChecked check form source old text count new
-    → IsManifestText check form source old text
-manifest_checked check form source old new text count h = record { found = h.found; summary = h.summary; finds = h.finds; text_is = h.text_is }
+manifest_checked : (check : Check) (form : Form) (source : Source) (old new : Tally) (sites : Option (List Site)) (text : List ℕ) (count : ℕ)
+    → IsManifestChecked check form source old sites text count new → IsManifestText check form source old text
+manifest_checked check form source old new sites text count h = record { sites = sites; found = h.found; summary = h.summary; finds = h.finds; text_is = h.text_is }
 
 tags_checked : (check : Check) (source : Source) (old new : Tally) (text : List ℕ) (count : ℕ) → AreTagsChecked check source old text count new → IsTagText check source old text
 tags_checked check source old new text count h = record { found = h.found; summary = h.summary; finds = h.finds; text_is = h.text_is }
@@ -88,12 +90,12 @@ module _ (a b : Told) (check : Check) (o : Option Form) (form : Form) (path byte
       subst (λ (f : Option Form). Writes a b (IsBeginning (IsDeclaredText check f path bytes old))) (sym is)
       (subst (λ (bs : List ℕ). Writes a b (IsBeginning (IsManifestText check form (source_at path bs) old))) without w)
 
-  pub declared_whole : (new : Tally) (count : ℕ) → Writes a b (λ text. IsManifestChecked check form (source_at path marked) old text count new)
+  pub declared_whole : (new : Tally) (sites : Option (List Site)) (count : ℕ) → Writes a b (λ text. IsManifestChecked check form (source_at path marked) old sites text count new)
       → Writes a b (IsBeginning (IsDeclaredText check o path bytes old))
-  declared_whole new count w =
+  declared_whole new sites count w =
       declared_begun
-      (all_of_text a b (λ text. IsManifestChecked check form (source_at path marked) old text count new) (IsManifestText check form (source_at path marked) old) w
-      (λ text h. manifest_checked check form (source_at path marked) old new text count h))
+      (all_of_text a b (λ text. IsManifestChecked check form (source_at path marked) old sites text count new) (IsManifestText check form (source_at path marked) old) w
+      (λ text h. manifest_checked check form (source_at path marked) old new sites text count h))
 
 -- its tags are taken
 module _ (a b : Told) (check : Check) (taken : Bool) (path bytes text : List ℕ) (old : Tally) (are : taken ≡ true) (is : text ≡ source_bytes bytes) where

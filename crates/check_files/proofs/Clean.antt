@@ -21,14 +21,14 @@ use Rattle.spdx_check.specs.Checking.{heirs_in}
 use Rattle.spdx_check.specs.Finding.{IsFinding, IsTheFinding, Wrong, is_accepted, is_no_text, is_refused}
 use Rattle.spdx_check.specs.Totals.{with_file}
 use Rattle.check_sources.specs.Findings.{ChecksWritten, Source, refused_count}
-use Rattle.check_sources.specs.Manifests.{ChecksManifest, check_in, declared_at, declares, is_none}
+use Rattle.check_sources.specs.Manifests.{ChecksManifest, check_in, declared_at}
 use Rattle.check_sources.specs.Tags.{tagged}
 use Rattle.check_sources.specs.Written.{Written}
 use Rattle.check_told.specs.Decoding.{source_bytes, without_mark}
 use Rattle.check_files.specs.declared.trouble.CheckTrouble.{CheckTrouble}
-use Rattle.check_files.specs.Clean.{AreTagsClean, Declares, DeclaresClean, HasTags, IsAccepted, IsCleanBy, IsDeclaredUse, IsFileClean, IsFileLicensed, IsFileUse, IsFileUseBy, IsLicensedBy, IsManifestClean, IsPassing, IsReadClean, IsReadLicensed, IsReadUse, IsTaggedUse, IsWrittenAccepted, TagsClean}
+use Rattle.check_files.specs.Clean.{AreTagsClean, Declares, DeclaresClean, HasTags, IsAccepted, IsCleanBy, IsDeclaredUse, IsFileClean, IsFileLicensed, IsFileUse, IsFileUseBy, IsLicensedBy, IsManifestClean, IsManifestUse, IsPassing, IsReadClean, IsReadLicensed, IsReadUse, IsTaggedUse, IsWrittenAccepted, TagsClean}
 use Rattle.check_files.specs.Files.{DeclaresPart, IsFileChecked, IsFileStep, IsStepBy, NotesFile, TagsPart, has_both, is_wanted}
-use Rattle.check_files.specs.Noted.{Grows, IsBare, Notes, with_bare}
+use Rattle.check_files.specs.Noted.{Grows, IsBare, IsUseOfManifest, Notes, with_bare}
 use Rattle.check_files.specs.Parts.{AreTagsChecked, IsManifestChecked, source_at}
 use Rattle.check_files.specs.Tally.{Tally, is_clean, once, passed_over, status_of, with_found, with_table}
 
@@ -118,25 +118,31 @@ refused_whole s summary_is none =
     let one : ◌≡◌ {A = ℕ} 1 0 = subst (λ (x : Summary). nat_lt 0 x.lines ≡ true → x.refused ≡ 0) summary_is none refl in
     absurd (omega (arith, one))
 
-declared_clean : (check : Check) (first : Bool) (form : Form) (source : Source) (text : List ℕ) (s : Summary) → ChecksManifest check first form source text s
-    → (nat_lt 0 s.lines ≡ true → s.refused ≡ 0) → IsManifestClean check form source.bytes
-declared_clean check first form source text s (declares sites ordered are order finds) none = record {
-  sites = sites;
-  declares = are;
+declared_clean : (check : Check) (first : Bool) (form : Form) (source : Source) (sites : Option (List Site)) (text : List ℕ) (s : Summary)
+    → ChecksManifest check first form source sites text s → (nat_lt 0 s.lines ≡ true → s.refused ≡ 0) → IsManifestClean check form source.bytes
+declared_clean check first form source (Some ordered) text s h none = record {
+  sites = h.are.sites;
+  declares = h.are.are;
   accepted =
-      let each = written_clean (check_in form check) first source (map declared_at ordered) text s finds none in
+      let each = written_clean (check_in form check) first source (map declared_at ordered) text s h.finds none in
       let Accepted : Site → Type 0 = λ (site : Site). IsWrittenAccepted (check_in form check) (declared_at site) in
-      All-permutation Accepted ordered sites (IsPermutation-sym sites ordered order.same) (from_map (IsWrittenAccepted (check_in form check)) declared_at ordered each);
+      All-permutation Accepted ordered h.are.sites (IsPermutation-sym h.are.sites ordered h.are.order.same) (from_map (IsWrittenAccepted (check_in form check)) declared_at ordered each);
 }
-declared_clean check first form source text s (is_none fault why text_is summary_is) none = absurd (refused_whole s summary_is none)
+declared_clean check first form source None text s h none = absurd (refused_whole s h.summary_is none)
 
 -- ---- the parts of a file
 
-pub manifest_clean : (check : Check) (form : Form) (source : Source) (old : Tally) (text : List ℕ) (count : ℕ) (new : Tally) → IsManifestChecked check form source old text count new
-    → IsPassing new → IsPassing old × IsManifestClean check form source.bytes
-manifest_clean check form source old text count new h passes =
-    let counted = found_none h.summary old (table_none h.counts.0 source.path (with_found h.summary old) (subst IsPassing h.counts.2 passes)) in
-    (counted.0, declared_clean check (is_clean old) form source h.found h.summary h.finds counted.1)
+-- nothing was found before, nor in the manifest
+manifest_none : (check : Check) (form : Form) (source : Source) (old : Tally) (sites : Option (List Site)) (text : List ℕ) (count : ℕ) (new : Tally)
+    (h : IsManifestChecked check form source old sites text count new) → IsPassing new → IsPassing old × (nat_lt 0 h.summary.lines ≡ true → h.summary.refused ≡ 0)
+manifest_none check form source old sites text count new h passes =
+    found_none h.summary old (table_none h.counts.0 source.path (with_found h.summary old) (subst IsPassing h.counts.2 passes))
+
+pub manifest_clean : (check : Check) (form : Form) (source : Source) (old : Tally) (sites : Option (List Site)) (text : List ℕ) (count : ℕ) (new : Tally)
+    → IsManifestChecked check form source old sites text count new → IsPassing new → IsPassing old × IsManifestClean check form source.bytes
+manifest_clean check form source old sites text count new h passes =
+    let counted = manifest_none check form source old sites text count new h passes in
+    (counted.0, declared_clean check (is_clean old) form source sites h.found h.summary h.finds counted.1)
 
 pub tags_clean : (check : Check) (source : Source) (old : Tally) (text : List ℕ) (count : ℕ) (new : Tally) → AreTagsChecked check source old text count new
     → IsPassing new → IsPassing old × AreTagsClean check source
@@ -150,7 +156,7 @@ declares_clean : (check : Check) (folder : Option (List ℕ)) (form : Option For
     (used' : List (List ℕ)) → DeclaresPart check folder form path bytes old used text count new used' → IsPassing new → IsPassing old × DeclaresClean check form bytes
 declares_clean check folder None path bytes old used text count new used' h passes = (subst IsPassing h.2 passes, tt)
 declares_clean check folder (Some form) path bytes old used text count new used' h passes =
-    manifest_clean check form (source_at path (without_mark bytes)) old text count new h.0 passes
+    manifest_clean check form (source_at path (without_mark bytes)) old h.sites text count new h.checks passes
 
 part_clean : (check : Check) (folder : Option (List ℕ)) (tags : Bool) (path bytes : List ℕ) (old : Tally) (used : List (List ℕ)) (text : List ℕ) (count : ℕ) (new : Tally)
     (used' : List (List ℕ)) → TagsPart check folder tags path bytes old used text count new used' → IsPassing new → IsPassing old × TagsClean check tags path bytes
@@ -159,6 +165,11 @@ part_clean check folder true path bytes old used text count new used' h passes =
     tags_clean check (source_at path (source_bytes bytes)) old text count new h.0 passes
 
 module _ (s : Shelved) (check : Check) (t : Taken) (folder : Option (List ℕ)) (path : List ℕ) (old : Tally) (noted : Notes) where
+  -- what a file declares passes, where all of it does
+  between_passes : (bytes text : List ℕ) (new : Tally) (noted' : Notes) (h : IsFileChecked s check t folder path bytes old noted text new noted') → IsPassing new → IsPassing h.between
+  between_passes bytes text new noted' h passes =
+      (part_clean check folder t.tags path bytes h.between h.used h.tagged h.tagged_count h.behind noted'.used h.tags (once_none (has_both h.declared_count h.tagged_count) h.behind (subst IsPassing h.counts passes))).0
+
   checked_clean : (bytes text : List ℕ) (new : Tally) (noted' : Notes) → s.Holds path bytes → IsFileChecked s check t folder path bytes old noted text new noted'
       → IsPassing new → IsPassing old × IsReadClean s check t path
   checked_clean bytes text new noted' holds h passes =
@@ -179,10 +190,21 @@ module _ (s : Shelved) (check : Check) (t : Taken) (folder : Option (List ℕ)) 
 
 -- ---- license texts
 
+-- what is refused as a whole is found, so these are the sites of a manifest
+sites_use : (check : Check) (folder : Option (List ℕ)) (first : Bool) (form : Form) (source : Source) (sites : Option (List Site)) (text : List ℕ) (s : Summary) (used used' : List (List ℕ))
+    → ChecksManifest check first form source sites text s → (nat_lt 0 s.lines ≡ true → s.refused ≡ 0) → Grows used used' (IsUseOfManifest check folder form sites)
+    → Grows used used' (IsManifestUse check folder form source.bytes)
+sites_use check folder first form source (Some sites) text s used used' h none notes = (notes.0, notes.1, record { sites = sites; declares = h.are; needs = notes.2 })
+sites_use check folder first form source None text s used used' h none notes = absurd (refused_whole s h.summary_is none)
+
 declared_use : (check : Check) (folder : Option (List ℕ)) (form : Option Form) (path bytes : List ℕ) (old : Tally) (used : List (List ℕ)) (text : List ℕ) (count : ℕ) (new : Tally)
-    (used' : List (List ℕ)) → DeclaresPart check folder form path bytes old used text count new used' → Grows used used' (IsDeclaredUse check folder form bytes)
-declared_use check folder None path bytes old used text count new used' h = ([], h.3 ∙ sym (append-nil used), refl)
-declared_use check folder (Some form) path bytes old used text count new used' h = h.1
+    (used' : List (List ℕ)) → DeclaresPart check folder form path bytes old used text count new used' → IsPassing new → Grows used used' (IsDeclaredUse check folder form bytes)
+declared_use check folder None path bytes old used text count new used' h passes = ([], h.3 ∙ sym (append-nil used), refl)
+declared_use check folder (Some form) path bytes old used text count new used' h passes =
+    let source = source_at path (without_mark bytes) in
+    let m = h.checks in
+    let counted = manifest_none check form source old h.sites text count new m passes in
+    sites_use check folder (is_clean old) form source h.sites m.found m.summary used used' m.finds counted.1 h.notes
 
 tagged_use : (check : Check) (folder : Option (List ℕ)) (tags : Bool) (path bytes : List ℕ) (old : Tally) (used : List (List ℕ)) (text : List ℕ) (count : ℕ) (new : Tally)
     (used' : List (List ℕ)) → TagsPart check folder tags path bytes old used text count new used' → Grows used used' (IsTaggedUse check folder tags path bytes)
@@ -191,9 +213,10 @@ tagged_use check folder true path bytes old used text count new used' h = h.1
 
 module _ (s : Shelved) (check : Check) (t : Taken) (folder : Option (List ℕ)) (path : List ℕ) (old : Tally) (noted : Notes) where
   checked_use : (bytes text : List ℕ) (new : Tally) (noted' : Notes) → s.Holds path bytes → IsFileChecked s check t folder path bytes old noted text new noted'
-      → Grows noted.used noted'.used (IsReadUse s check t folder path)
-  checked_use bytes text new noted' holds h =
-      let first = declared_use check folder (form_below t path) path bytes old noted.used h.declared h.declared_count h.between h.used h.declares in
+      → IsPassing new → Grows noted.used noted'.used (IsReadUse s check t folder path)
+  checked_use bytes text new noted' holds h passes =
+      let between = between_passes s check t folder path old noted bytes text new noted' h passes in
+      let first = declared_use check folder (form_below t path) path bytes old noted.used h.declared h.declared_count h.between h.used h.declares between in
       let second = tagged_use check folder t.tags path bytes h.between h.used h.tagged h.tagged_count h.behind noted'.used h.tags in (
         first.0 ++ second.0,
         second.1 ∙ ap (λ (names : List (List ℕ)). names ++ second.0) first.1 ∙ append_assoc noted.used first.0 second.0,
@@ -203,7 +226,7 @@ module _ (s : Shelved) (check : Check) (t : Taken) (folder : Option (List ℕ)) 
   step_use : (wanted : Bool) (text : List ℕ) (told : List CheckTrouble) (new : Tally) (noted' : Notes) → IsStepBy wanted s check t folder path old noted text told new noted'
       → IsPassing new → Grows noted.used noted'.used (IsFileUseBy wanted s check t folder path)
   step_use false text told new noted' h passes = ([], ap (λ (n : Notes). n.used) h.3 ∙ sym (append-nil noted.used), refl)
-  step_use true text told new noted' (inl h) passes = checked_use h.0 text new noted' h.1 h.2
+  step_use true text told new noted' (inl h) passes = checked_use h.0 text new noted' h.1 h.2 passes
   step_use true text told new noted' (inr h) passes = absurd (not_passed old new h.0.new_is passes)
 
   -- the names are added that its expressions need
@@ -220,23 +243,23 @@ none_long : {A : Type 0} (xs : List A) (count : ℕ) → count ≡ length xs →
 none_long {A} xs count many e none =
     not_counted count (many ∙ ap (λ (ys : List A). length ys) none) e
 
-declares_some : (check : Check) (first : Bool) (form : Form) (source : Source) (text : List ℕ) (s : Summary) → ChecksManifest check first form source text s
-    → (nat_lt 0 s.lines ≡ true → s.refused ≡ 0) → (s.lines == 0) ≡ false → (sites : List Site) × AreSites form source.bytes sites × (sites ≢ [])
-declares_some check first form source text s (declares sites ordered are order finds) none e = (
-  sites,
-  are,
-  none_long sites s.lines (finds.lines ∙ length-map ordered declared_at ∙ length_permutation sites ordered order.same) e,
+declares_some : (check : Check) (first : Bool) (form : Form) (source : Source) (sites : Option (List Site)) (text : List ℕ) (s : Summary) → ChecksManifest check first form source sites text s
+    → (nat_lt 0 s.lines ≡ true → s.refused ≡ 0) → (s.lines == 0) ≡ false → (found : List Site) × AreSites form source.bytes found × (found ≢ [])
+declares_some check first form source (Some ordered) text s h none e = (
+  h.are.sites,
+  h.are.are,
+  none_long h.are.sites s.lines (h.finds.lines ∙ length-map ordered declared_at ∙ length_permutation h.are.sites ordered h.are.order.same) e,
 )
-declares_some check first form source text s (is_none fault why text_is summary_is) none e = absurd (refused_whole s summary_is none)
+declares_some check first form source None text s h none e = absurd (refused_whole s h.summary_is none)
 
 some_declared : (check : Check) (folder : Option (List ℕ)) (form : Option Form) (path bytes : List ℕ) (old : Tally) (used : List (List ℕ)) (text : List ℕ) (count : ℕ) (new : Tally)
     (used' : List (List ℕ)) → DeclaresPart check folder form path bytes old used text count new used' → IsPassing new → (count == 0) ≡ false → Declares form bytes
 some_declared check folder None path bytes old used text count new used' h passes e = absurd (not_counted count h.1 e)
 some_declared check folder (Some form) path bytes old used text count new used' h passes e =
-    let m = h.0 in
+    let m = h.checks in
     let source = source_at path (without_mark bytes) in
-    let counted = found_none m.summary old (table_none m.counts.0 path (with_found m.summary old) (subst IsPassing m.counts.2 passes)) in
-    declares_some check (is_clean old) form source m.found m.summary m.finds counted.1 (subst (λ (n : ℕ). (n == 0) ≡ false) m.count_is e)
+    let counted = manifest_none check form source old h.sites text count new m passes in
+    declares_some check (is_clean old) form source h.sites m.found m.summary m.finds counted.1 (subst (λ (n : ℕ). (n == 0) ≡ false) m.count_is e)
 
 some_tagged : (check : Check) (folder : Option (List ℕ)) (tags : Bool) (path bytes : List ℕ) (old : Tally) (used : List (List ℕ)) (text : List ℕ) (count : ℕ) (new : Tally)
     (used' : List (List ℕ)) → TagsPart check folder tags path bytes old used text count new used' → (count == 0) ≡ false → HasTags tags path bytes
@@ -267,10 +290,10 @@ module _ (s : Shelved) (check : Check) (t : Taken) (folder : Option (List ℕ)) 
   checked_licensed : (bytes text : List ℕ) (new : Tally) (noted' : Notes) → s.Holds path bytes → IsFileChecked s check t folder path bytes old noted text new noted'
       → IsPassing new → noted'.untagged ≡ [] → (noted.untagged ≡ []) × IsReadLicensed s t folder path
   checked_licensed bytes text new noted' holds h passes none =
-      let behind = part_clean check folder t.tags path bytes h.between h.used h.tagged h.tagged_count h.behind noted'.used h.tags (once_none (has_both h.declared_count h.tagged_count) h.behind (subst IsPassing h.counts passes)) in
+      let between = between_passes s check t folder path old noted bytes text new noted' h passes in
       let parts =
       told_by (h.declared_count == 0) (h.tagged_count == 0) bytes noted'.untagged h.untagged none
-      (λ e. some_declared check folder (form_below t path) path bytes old noted.used h.declared h.declared_count h.between h.used h.declares behind.0 e)
+      (λ e. some_declared check folder (form_below t path) path bytes old noted.used h.declared h.declared_count h.between h.used h.declares between e)
       (λ e. some_tagged check folder t.tags path bytes h.between h.used h.tagged h.tagged_count h.behind noted'.used h.tags e) in
       (parts.0, record { bytes = bytes; holds = holds; tells = parts.1 })
 

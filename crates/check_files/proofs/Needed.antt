@@ -1,6 +1,7 @@
 -- What expressions need, one after the other.
-use Rattle.std.proofs.Common.{◌≡◌, ◌∙◌, sym, ap, ℕ, ◌+◌, ◌<◌, List, [], ◌∷◌, ◌++◌, get_or, length, map, take, subst, append_assoc, append-nil, Bool, true}
-use Rattle.std.specs.Prelude.{if◌then◌else◌}
+use Rattle.std.proofs.Common.{◌≡◌, ◌∙◌, sym, ap, ℕ, ◌+◌, ◌<◌, List, [], ◌∷◌, ◌++◌, get_or, length, map, take, subst, append_assoc, append-nil, Bool, true, Option, Some}
+use Rattle.std.specs.Prelude.{Vec, if◌then◌else◌}
+use Rattle.std.specs.declared.alloc.Global.{Global}
 use Rattle.std.proofs.lemmas.List.{map_more}
 use Rattle.spdx_lexer.specs.declared.token.ParseMode.{ParseMode}
 use Rattle.spdx_requirement.specs.Rows.{Rows}
@@ -8,11 +9,9 @@ use Rattle.license_tags.specs.Comments.{comment_of}
 use Rattle.license_tags.specs.Tags.{tags_of}
 use Rattle.check_sources.specs.Findings.{Source}
 use Rattle.check_sources.specs.Tags.{is_binary}
-use Rattle.check_files.specs.Noted.{AddsNeeded, AddsOne, Grows, NeedsDeclared, declares, is_none, none, more, site_text, tag_text, tag_texts}
-use Rattle.check_sources.specs.Manifests.{mode_in}
-use Rattle.manifests.specs.Sites.{AreSites, IsReason}
+use Rattle.check_sources.specs.Manifests.{mode_in, sites_in}
 use Rattle.manifests.specs.declared.form.Form.{Form}
-use Rattle.manifests.specs.declared.site.Fault.{Fault}
+use Rattle.check_files.specs.Noted.{AddsNeeded, AddsOne, Grows, NeedsDeclared, none, more, site_text, tag_text, tag_texts}
 use Rattle.manifests.specs.declared.site.Site.{Site}
 
 pub begun : (c : Rows) (m : ParseMode) (old : List (List ℕ)) → AddsNeeded c m [] old old
@@ -33,15 +32,12 @@ pub further_site : (c : Rows) (m : ParseMode) (xs : List Site) (i : ℕ) (d : Si
     → AddsNeeded c m (map site_text (take i xs)) old mid → text ≡ site_text (get_or xs i d) → AddsOne c m text mid new → AddsNeeded c m (map site_text (take (i + 1) xs)) old new
 further_site c m xs i d text old mid new lt h e k = further site_text c m xs i d text old mid new lt h e k
 
--- what a manifest declares is noted
-pub declared : (c : Rows) (m : ParseMode) (form : Form) (bytes : List ℕ) (sites : List Site) (old new : List (List ℕ)) → AreSites form bytes sites
-    → AddsNeeded c (mode_in form m) (map site_text sites) old new → Grows old new (NeedsDeclared c m form bytes)
-declared c m form bytes sites old new are h = (h.0, h.1, declares sites h.0 are h.2)
-
--- what is no manifest of its form needs nothing
-pub undeclared : (c : Rows) (m : ParseMode) (form : Form) (bytes : List ℕ) (fault : Fault) (old : List (List ℕ)) → IsReason bytes fault.reason
-    → Grows old old (NeedsDeclared c m form bytes)
-undeclared c m form bytes fault old is = ([], sym (append-nil old), is_none fault is)
+-- what the expressions need at the sites that are found in a manifest
+pub of_sites : (c : Rows) (m : ParseMode) (form : Form) (found : Option (Vec Site Global)) (vec : Vec Site Global) (sites : List Site) (old new : List (List ℕ)) → found ≡ Some vec → sites ≡ vec.items
+    → AddsNeeded c (mode_in form m) (map site_text sites) old new → Grows old new (NeedsDeclared c m form (sites_in found))
+of_sites c m form found vec sites old new is are h =
+    subst (λ (o : Option (Vec Site Global)). Grows old new (NeedsDeclared c m form (sites_in o))) (sym is)
+    (subst (λ (ss : List Site). AddsNeeded c (mode_in form m) (map site_text ss) old new) are h)
 
 -- what is no text needs nothing
 pub binary : (c : Rows) (m : ParseMode) (source : Source) (old : List (List ℕ)) → is_binary source.bytes ≡ true → AddsNeeded c m (tag_texts source) old old

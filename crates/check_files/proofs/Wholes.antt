@@ -1,10 +1,11 @@
 -- What is found in a file, part by part.
-use Rattle.std.proofs.Common.{◌≡◌, ◌∙◌, refl, sym, ap, inl, ℕ, Bool, true, List, [], ◌++◌, ◌==◌, ◌&&◌, Option, subst}
+use Rattle.std.proofs.Common.{◌≡◌, ◌∙◌, refl, sym, ap, inl, ℕ, Bool, true, List, [], ◌++◌, ◌==◌, ◌&&◌, Option, Some, subst}
 use Rattle.std.specs.Io.KnownBytes.{Appends}
 use Rattle.std.proofs.KnownBytes.{Appends-trans}
 use Rattle.line_engine.specs.Device.{Told}
 use Rattle.line_engine.specs.declared.lines.Summary.{Summary}
 use Rattle.manifests.specs.declared.form.Form.{Form}
+use Rattle.manifests.specs.declared.site.Site.{Site}
 use Rattle.shelves.specs.Shelf.{Shelved}
 use Rattle.source_trees.specs.Readings.{form_below}
 use Rattle.source_trees.specs.declared.reading.Taken.{Taken}
@@ -12,11 +13,12 @@ use Rattle.spdx_check.specs.declared.check.Check.{Check}
 use Rattle.check_sources.specs.Findings.{Source}
 use Rattle.check_sources.specs.Manifests.{ChecksManifest}
 use Rattle.check_told.specs.Counted.{IsCounted}
+use Rattle.check_told.specs.Decoding.{without_mark}
 use Rattle.check_told.specs.declared.sums.Sums.{Sums}
 use Rattle.check_files.specs.declared.trouble.CheckTrouble.{CheckTrouble}
 use Rattle.check_files.specs.Files.{DeclaresPart, IsFileChecked, IsFileStep, IsStepBy, NotesFile, TagsPart, has_both, is_wanted}
-use Rattle.check_files.specs.Noted.{Notes}
-use Rattle.check_files.specs.Parts.{IsManifestChecked, NotesTable}
+use Rattle.check_files.specs.Noted.{Grows, IsUseOfManifest, Notes}
+use Rattle.check_files.specs.Parts.{IsManifestChecked, NotesTable, source_at}
 use Rattle.check_files.specs.Tally.{Tally, is_clean, once, tally_of, with_found}
 use Rattle.check_files.specs.Told.{Account, Does, Writes}
 use Rattle.check_files.proofs.Doing.{written_alone}
@@ -24,22 +26,38 @@ use Rattle.check_files.proofs.Doing.{written_alone}
 pub tallied : (old new : Sums) (s : Summary) (found text : List ℕ) → IsCounted old new s found text → tally_of new ≡ with_found s (tally_of old)
 tallied old new s found text h = rw (h.totals, h.left_out, h.tables, h.texts, h.bare, h.untagged)
 
-pub declared_written : (out out' : Told) (check : Check) (form : Form) (source : Source) (old mid : Sums) (new : Tally) (first : Bool) (found text : List ℕ) (summary : Summary)
-    → first ≡ is_clean (tally_of old) → ChecksManifest check first form source found summary → IsCounted old mid summary found text
+pub declared_written : (out out' : Told) (check : Check) (form : Form) (source : Source) (old mid : Sums) (new : Tally) (first : Bool) (sites : Option (List Site)) (found text : List ℕ) (summary : Summary)
+    → first ≡ is_clean (tally_of old) → ChecksManifest check first form source sites found summary → IsCounted old mid summary found text
     → Appends out.bytes out'.bytes text → NotesTable form source (tally_of mid) new
-    → Writes out out' (λ t. IsManifestChecked check form source (tally_of old) t summary.lines new)
-declared_written out out' check form source old mid new first found text summary clean finds counts writes notes = (
+    → Writes out out' (λ t. IsManifestChecked check form source (tally_of old) sites t summary.lines new)
+declared_written out out' check form source old mid new first sites found text summary clean finds counts writes notes = (
   text,
   writes,
   record {
     found = found;
     summary = summary;
-    finds = subst (λ (b : Bool). ChecksManifest check b form source found summary) clean finds;
+    finds = subst (λ (b : Bool). ChecksManifest check b form source sites found summary) clean finds;
     text_is = counts.text_is;
     count_is = refl;
     counts = subst (λ (t : Tally). NotesTable form source t new) (tallied old mid summary found text counts) notes;
   },
 )
+
+-- what is noted is of the sites that were checked
+pub manifest_noted : (out out' : Told) (check : Check) (folder : Option (List ℕ)) (o : Option Form) (form : Form) (path bytes marked : List ℕ) (old new : Tally) (used used' : List (List ℕ))
+    (sites : Option (List Site)) (count : ℕ) → o ≡ Some form → marked ≡ without_mark bytes
+    → Writes out out' (λ t. IsManifestChecked check form (source_at path marked) old sites t count new) → Grows used used' (IsUseOfManifest check folder form sites)
+    → Writes out out' (λ t. DeclaresPart check folder o path bytes old used t count new used')
+manifest_noted out out' check folder o form path bytes marked old new used used' sites count is without w notes =
+    subst (λ (f : Option Form). Writes out out' (λ t. DeclaresPart check folder f path bytes old used t count new used')) (sym is) (
+      w.0,
+      w.1,
+      record {
+        sites = sites;
+        checks = subst (λ (bs : List ℕ). IsManifestChecked check form (source_at path bs) old sites w.0 count new) without w.2;
+        notes = notes;
+      },
+    )
 
 pub file_written : (s : Shelved) (check : Check) (t : Taken) (folder : Option (List ℕ)) (path bytes : List ℕ) (old between behind new : Tally) (noted noted' : Notes)
     (used : List (List ℕ)) (out mid out' : Told) (form : Option Form) (declared tagged : ℕ) (both is : Bool)

@@ -2,6 +2,7 @@
 use Rattle.std.specs.Prelude.{◌≡◌, ◌⊎◌, ℕ, Bool, true, false, List, [], ◌++◌, Option, Some, None}
 use Rattle.line_engine.specs.declared.lines.Summary.{Summary}
 use Rattle.manifests.specs.declared.form.Form.{Form}
+use Rattle.manifests.specs.declared.site.Site.{Site}
 use Rattle.shelves.specs.Shelf.{Shelved}
 use Rattle.source_trees.specs.Readings.{form_below}
 use Rattle.source_trees.specs.declared.reading.Taken.{Taken}
@@ -26,9 +27,10 @@ IsBeginning Is text = (text ≡ []) ⊎ ((rest : List ℕ) × Is (text ++ rest))
 -- what is found in the expressions that a manifest declares
 pub record IsManifestText (check : Check) (form : Form) (source : Source) (old : Tally)
     (text : List ℕ) : Type 0 where
+  pub sites : Option (List Site)
   pub found : List ℕ
   pub summary : Summary
-  pub finds : ChecksManifest check (is_clean old) form source found summary
+  pub finds : ChecksManifest check (is_clean old) form source sites found summary
   pub text_is : text ≡ written summary found
 
 -- what is found in the expressions behind the tags of a file

@@ -11,7 +11,7 @@ use Rattle.spdx_lexer.specs.declared.token.ParseMode.{ParseMode}
 use Rattle.spdx_canonical.specs.Fix.{Reads}
 use Rattle.spdx_check.specs.declared.check.Check.{Check}
 use Rattle.check_sources.specs.Findings.{Source}
-use Rattle.check_sources.specs.Manifests.{mode_in}
+use Rattle.check_sources.specs.Manifests.{AreInOrder, mode_in}
 use Rattle.check_sources.specs.Tags.{tagged}
 use Rattle.check_sources.specs.Written.{Written}
 use Rattle.check_told.specs.Decoding.{source_bytes, without_mark}
@@ -80,12 +80,19 @@ IsFileClean s check t path = IsCleanBy (is_wanted t path) s check t path
 
 -- ---- license texts
 
--- what the expressions need that a file declares
+-- it is a manifest of its form, and the expressions that it declares need these
+pub record IsManifestUse (check : Check) (folder : Option (List ℕ)) (form : Form)
+    (bytes : List ℕ) (names : List (List ℕ)) : Type 0 where
+  pub sites : List Site
+  pub declares : AreInOrder form bytes sites
+  pub needs : IsUseOfManifest check folder form (Some sites) names
+
+-- what is no manifest declares nothing
 abbrev pub IsDeclaredUse :
     Check → Option (List ℕ) → Option Form → List ℕ → List (List ℕ) → Type 0
 IsDeclaredUse check folder None bytes names = names ≡ []
 IsDeclaredUse check folder (Some form) bytes names =
-    IsUseOfManifest check folder form (without_mark bytes) names
+    IsManifestUse check folder form (without_mark bytes) names
 
 -- what those behind its tags need, where they are taken
 abbrev pub IsTaggedUse :

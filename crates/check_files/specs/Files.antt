@@ -1,10 +1,12 @@
 -- What is done with a file below a folder.
 use Rattle.std.specs.Prelude.{◌≡◌, ◌⊎◌, ℕ, ◌==◌, ◌&&◌, ◌||◌, Bool, true, false, not, List, [], ◌++◌, Option, Some, None, is_some}
 use Rattle.manifests.specs.declared.form.Form.{Form}
+use Rattle.manifests.specs.declared.site.Site.{Site}
 use Rattle.shelves.specs.Shelf.{Shelved}
 use Rattle.source_trees.specs.Readings.{form_below}
 use Rattle.source_trees.specs.declared.reading.Taken.{Taken}
 use Rattle.spdx_check.specs.declared.check.Check.{Check}
+use Rattle.check_sources.specs.Findings.{Source}
 use Rattle.check_told.specs.Decoding.{source_bytes, without_mark}
 use Rattle.check_files.specs.declared.trouble.CheckTrouble.{CheckTrouble}
 use Rattle.check_files.specs.Noted.{Grows, IsUseOfManifest, IsUseOfTags, NotesBare, Notes}
@@ -12,15 +14,23 @@ use Rattle.check_files.specs.Parts.{AreTagsChecked, IsManifestChecked, source_at
 use Rattle.check_files.specs.Passing.{IsPassed}
 use Rattle.check_files.specs.Tally.{Tally, once}
 
--- what it declares is found, and the license texts that it needs are noted; what is no manifest
--- declares nothing
+-- what is found in a manifest is written, and the license texts are noted that the expressions need
+-- at the same sites; of a file that is refused as a whole none are
+pub record IsManifestPart (check : Check) (folder : Option (List ℕ)) (form : Form)
+    (source : Source) (old : Tally) (used : List (List ℕ)) (text : List ℕ) (count : ℕ)
+    (new : Tally) (used' : List (List ℕ)) : Type 0 where
+  pub sites : Option (List Site)
+  pub checks : IsManifestChecked check form source old sites text count new
+  pub notes : Grows used used' (IsUseOfManifest check folder form sites)
+
+-- what is no manifest declares nothing
 abbrev pub DeclaresPart : Check → Option (List ℕ) → Option Form → List ℕ → List ℕ →
     Tally → List (List ℕ) → List ℕ → ℕ → Tally → List (List ℕ) → Type 0
 DeclaresPart check folder None path bytes old used text count new used' =
     (text ≡ []) × (count ≡ 0) × (new ≡ old) × (used' ≡ used)
 DeclaresPart check folder (Some form) path bytes old used text count new used' =
-    IsManifestChecked check form (source_at path (without_mark bytes)) old text count new
-    × Grows used used' (IsUseOfManifest check folder form (without_mark bytes))
+    IsManifestPart check folder form (source_at path (without_mark bytes)) old used text count
+    new used'
 
 -- so it is with its tags, where they are taken
 abbrev pub TagsPart : Check → Option (List ℕ) → Bool → List ℕ → List ℕ →

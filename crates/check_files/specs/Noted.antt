@@ -6,9 +6,7 @@ use Rattle.license_tags.specs.declared.Tag.{Tag}
 use Rattle.license_tags.specs.Comments.{comment_of}
 use Rattle.license_tags.specs.Tags.{tags_of}
 use Rattle.manifests.specs.declared.form.Form.{Form}
-use Rattle.manifests.specs.declared.site.Fault.{Fault}
 use Rattle.manifests.specs.declared.site.Site.{Site}
-use Rattle.manifests.specs.Sites.{AreSites, IsReason}
 use Rattle.shelves.specs.Shelf.{Shelved}
 use Rattle.shelves.specs.declared.shelf.Kind.{Kind}
 use Rattle.spdx_lexer.specs.declared.token.ParseMode.{ParseMode}
@@ -65,20 +63,20 @@ AddsNeeded c m texts old new = Grows old new (AreAllNeeded c m texts)
 abbrev pub site_text : Site → List ℕ
 site_text site = site.text.items
 
--- what the expressions of a manifest need; what is no manifest of its form needs nothing
-pub data NeedsDeclared (c : Rows) (m : ParseMode) (form : Form) (bytes : List ℕ) :
-    List (List ℕ) → Type 0 where
-  declares : (sites : List Site) (names : List (List ℕ)) → AreSites form bytes sites →
-      AreAllNeeded c (mode_in form m) (map site_text sites) names →
-      NeedsDeclared c m form bytes names
-  is_none : (fault : Fault) → IsReason bytes fault.reason → NeedsDeclared c m form bytes []
+-- what the expressions at these sites of a manifest need; a file that is refused as a whole needs
+-- nothing
+abbrev pub NeedsDeclared :
+    Rows → ParseMode → Form → Option (List Site) → List (List ℕ) → Type 0
+NeedsDeclared c m form (Some sites) names =
+    AreAllNeeded c (mode_in form m) (map site_text sites) names
+NeedsDeclared c m form None names = names ≡ []
 
 -- it is noted where there is a folder of license texts
 abbrev pub IsUseOfManifest :
-    Check → Option (List ℕ) → Form → List ℕ → List (List ℕ) → Type 0
-IsUseOfManifest check None form bytes names = names ≡ []
-IsUseOfManifest check (Some folder) form bytes names =
-    NeedsDeclared check.catalogue.now check.mode form bytes names
+    Check → Option (List ℕ) → Form → Option (List Site) → List (List ℕ) → Type 0
+IsUseOfManifest check None form sites names = names ≡ []
+IsUseOfManifest check (Some folder) form sites names =
+    NeedsDeclared check.catalogue.now check.mode form sites names
 
 abbrev pub tag_text : List ℕ → Tag → List ℕ
 tag_text bytes tag = slice_in bytes tag.start tag.end

@@ -1,11 +1,12 @@
 -- What is found in the parts of a file.
-use Rattle.std.specs.Prelude.{◌≡◌, ℕ, Bool, false, List, Some, None}
+use Rattle.std.specs.Prelude.{◌≡◌, ℕ, Bool, false, List, Option, Some, None}
 use Rattle.std.specs.Str.{IsUtf8}
 use Rattle.toml.specs.Data.{Members}
 use Rattle.toml.specs.Parse.{parse_document}
 use Rattle.line_engine.specs.declared.lines.Summary.{Summary}
 use Rattle.manifests.specs.declared.form.Form.{Form}
 use Rattle.manifests.specs.declared.form.Form.TheVariants as form
+use Rattle.manifests.specs.declared.site.Site.{Site}
 use Rattle.manifests.specs.OldTable.{has_license_table}
 use Rattle.spdx_check.specs.declared.check.Check.{Check}
 use Rattle.check_sources.specs.Findings.{ChecksWritten, Source}
@@ -34,12 +35,13 @@ abbrev pub NotesTable : Form → Source → Tally → Tally → Type 0
 NotesTable form source old new =
     (is : Bool) × IsTable form source.bytes is × (new ≡ with_table is source.path old)
 
--- what is found in the expressions that a manifest declares is written, and counted
+-- what is found in the expressions that a manifest declares at these sites is written, and counted;
+-- without sites it is refused as a whole
 pub record IsManifestChecked (check : Check) (form : Form) (source : Source) (old : Tally)
-    (text : List ℕ) (count : ℕ) (new : Tally) : Type 0 where
+    (sites : Option (List Site)) (text : List ℕ) (count : ℕ) (new : Tally) : Type 0 where
   pub found : List ℕ
   pub summary : Summary
-  pub finds : ChecksManifest check (is_clean old) form source found summary
+  pub finds : ChecksManifest check (is_clean old) form source sites found summary
   pub text_is : text ≡ written summary found
   pub count_is : count ≡ summary.lines
   pub counts : NotesTable form source (with_found summary old) new

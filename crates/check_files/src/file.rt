@@ -211,9 +211,9 @@ fn declared_part<O: Sink>(
     };
     let bytes = without_mark(bytes);
     let source = Source { path, bytes };
-    let count = check_declared(alloc, check, form, source, sums, output)?;
-    note_declared(alloc, check, folder, form, bytes, used)?;
-    Ok(count)
+    let declared = check_declared(alloc, check, form, source, sums, output)?;
+    note_declared(alloc, check, folder, form, &declared.sites, used)?;
+    Ok(declared.count)
 }
 
 // What stands behind its tags, where they are taken.

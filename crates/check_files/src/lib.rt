@@ -17,6 +17,6 @@ pub mod trouble;
 
 pub use crate::file::{Below, check_file};
 pub use crate::noted::Noted;
-pub use crate::parts::{check_declared, check_tagged};
+pub use crate::parts::{Declared, check_declared, check_tagged};
 pub use crate::telling::Telling;
 pub use crate::trouble::{CheckFault, CheckTrouble, pass_over};

@@ -11,16 +11,17 @@ ghost use Rattle.check_files.specs.Noted.{
   IsNothingAt,
   IsUseOfManifest,
   IsUseOfTags,
+  NeedsDeclared,
   NotesBare,
   notes_of,
 };
-ghost use Rattle.check_sources.specs.Manifests.{mode_in};
+ghost use Rattle.check_sources.specs.Manifests.{mode_in, sites_in};
 ghost use Rattle.check_sources.specs.Stood.{source_of};
 
 use check_sources::{Source, is_binary, mode_in, slice_in};
 use check_told::{is_text, needed_by, needs_none};
 use license_tags::{Tag, comment_of, tags};
-use manifests::{Form, ManifestError, Site, sites};
+use manifests::{Form, Site};
 use shelves::Shelf;
 use spdx_catalogue::Catalogue;
 use spdx_check::Check;
@@ -116,7 +117,8 @@ fn add_tags(
     Ok(())
 }
 
-/// Notes which license texts the expressions of a manifest need, where there is a folder of such texts.
+/// Notes which license texts the expressions at these sites of a manifest need, where there is a folder of such texts. Of a
+/// file that is refused as a whole nothing is noted.
 ///
 /// # Errors
 ///
@@ -126,15 +128,32 @@ pub(crate) fn note_declared(
     check: &Check<'_>,
     folder: Option<&str>,
     form: Form,
-    bytes: &[u8],
+    sites: &Option<Vec<Site>>,
     used: &mut Vec<String>,
 ) -> Result<(), AllocError>
     ensures { OnOk result (Grows (map string_bytes used.old.items)
         (map string_bytes used.new.items)
-        (IsUseOfManifest check.now (option_copied folder.entry) form bytes.now)) }
+        (IsUseOfManifest check.now (option_copied folder.entry) form (sites_in sites.now))) }
 {
     match folder {
-        Some(_) => note_sites(alloc, check, form, bytes, used),
+        Some(_) => note_sites(alloc, check, form, sites, used),
+        None => Ok(()),
+    }
+}
+
+fn note_sites(
+    alloc: Global,
+    check: &Check<'_>,
+    form: Form,
+    sites: &Option<Vec<Site>>,
+    used: &mut Vec<String>,
+) -> Result<(), AllocError>
+    ensures { OnOk result (Grows (map string_bytes used.old.items)
+        (map string_bytes used.new.items)
+        (NeedsDeclared check.now.catalogue.now check.now.mode form (sites_in sites.now))) }
+{
+    match sites {
+        Some(sites) => add_declared(alloc, check, form, sites, used),
         None => Ok(()),
     }
 }
@@ -153,24 +172,6 @@ fn add_declared(
 {
     let mode = mode_in(form, check.mode);
     add_sites(alloc, check.catalogue, mode, sites, used)
-}
-
-fn note_sites(
-    alloc: Global,
-    check: &Check<'_>,
-    form: Form,
-    bytes: &[u8],
-    used: &mut Vec<String>,
-) -> Result<(), AllocError>
-    ensures { OnOk result (Grows (map string_bytes used.old.items)
-        (map string_bytes used.new.items)
-        (spec.NeedsDeclared check.now.catalogue.now check.now.mode form bytes.now)) }
-{
-    match sites(alloc, form, bytes) {
-        Ok(found) => add_declared(alloc, check, form, &found, used),
-        Err(ManifestError::Refused(_)) => Ok(()),
-        Err(ManifestError::NoMemory) => Err(AllocError),
-    }
 }
 
 /// Notes which license texts the expressions behind the tags of a file need, where there is a folder of such texts and it is

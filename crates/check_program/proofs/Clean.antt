@@ -71,7 +71,7 @@ module _ (s : Shelved) (check : Check) where
 
   part_clean : (form : Option Form) (name bytes : List ℕ) (old : Tally) (text : List ℕ) (new : Tally) → IsPartChecked check form name bytes old text new
       → IsPassing new → IsPassing old × IsPartClean check form name bytes
-  part_clean (Some form) name bytes old text new h passes = manifest_clean check form (source_at name (without_mark bytes)) old text h.0 new h.1 passes
+  part_clean (Some form) name bytes old text new h passes = manifest_clean check form (source_at name (without_mark bytes)) old h.0 text h.1 new h.2 passes
   part_clean None name bytes old text new h passes = tags_clean check (source_at name (source_bytes bytes)) old text h.0 new h.1 passes
 
   part_step : (form : Option Form) (path : List ℕ) (old : Tally) (text : List ℕ) (told : List CheckTrouble) (new : Tally) → IsPartStep s check form path old text told new

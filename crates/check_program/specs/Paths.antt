@@ -4,6 +4,7 @@ use Rattle.std.specs.Borrow.{Bor}
 use Rattle.std.specs.Option.{option_copied}
 use Rattle.check_files.specs.Told.{Account}
 use Rattle.manifests.specs.declared.form.Form.{Form}
+use Rattle.manifests.specs.declared.site.Site.{Site}
 use Rattle.shelves.specs.Shelf.{Shelved}
 use Rattle.source_trees.specs.Readings.{IsNoReading, IsReading}
 use Rattle.source_trees.specs.declared.reading.Reading.{Reading}
@@ -44,8 +45,9 @@ below w taken = record { taken = taken; texts = w.texts; untagged = w.untagged }
 
 -- as a manifest of a form, or else its tags
 abbrev pub IsPartChecked : Check → Option Form → List ℕ → List ℕ → Tally → List ℕ → Tally → Type 0
-IsPartChecked check (Some form) name bytes old text new = (count : ℕ) ×
-    IsManifestChecked check form (source_at name (without_mark bytes)) old text count new
+IsPartChecked check (Some form) name bytes old text new =
+    (sites : Option (List Site)) × (count : ℕ) ×
+    IsManifestChecked check form (source_at name (without_mark bytes)) old sites text count new
 IsPartChecked check None name bytes old text new = (count : ℕ) ×
     AreTagsChecked check (source_at name (source_bytes bytes)) old text count new
 

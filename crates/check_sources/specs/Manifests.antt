@@ -1,7 +1,8 @@
 -- What is written of a manifest.
-use Rattle.std.specs.Prelude.{◌≡◌, ℕ, ◌+◌, ◌-◌, ◌==◌, Bool, ◌||◌, List, [], map, codes, drop, bit_and}
+use Rattle.std.specs.Prelude.{◌≡◌, ℕ, ◌+◌, ◌-◌, ◌==◌, Bool, ◌||◌, List, [], Option, None, Some, Vec, option_map, map, codes, drop, bit_and}
 use Rattle.std.specs.List.{prefix_len}
 use Rattle.std.specs.List.Sorted.{IsNonDecreasingBy, IsPermutation}
+use Rattle.std.specs.declared.alloc.Global.{Global}
 use Rattle.line_engine.specs.declared.lines.Summary.{Summary}
 use Rattle.line_engine.specs.Output.{capped}
 use Rattle.spdx_lexer.specs.declared.token.ParseMode.{ParseMode}
@@ -40,6 +41,12 @@ declared_at site = record {
 pub record AreOrdered (sites ordered : List Site) : Type 0 where
   pub same : IsPermutation sites ordered
   pub ascends : IsNonDecreasingBy (λ (s : Site). s.span.start) ordered
+
+-- the sites are the expressions that a manifest of the form declares, in the order of their places
+pub record AreInOrder (form : Form) (bytes : List ℕ) (ordered : List Site) : Type 0 where
+  pub sites : List Site
+  pub are : AreSites form bytes sites
+  pub order : AreOrdered sites ordered
 
 -- why a file is no manifest, in words
 abbrev pub reason_text : Reason → List ℕ
@@ -84,16 +91,31 @@ told_of_file source fault =
     told_whole (spot_at source fault.offset) (reason_text fault.reason)
     (part_seen source.bytes (fault_part source.bytes fault.offset))
 
--- each expression that the manifest declares is checked at its place, in the order of their places;
--- a file that isn't what its form is written in is told itself, at the place of its fault, and
--- counts as one expression
-pub data ChecksManifest (check : Check) (is_first : Bool) (form : Form) (source : Source)
-    (text : List ℕ) (summary : Summary) : Type 0 where
-  declares : (sites ordered : List Site) → AreSites form source.bytes sites →
-      AreOrdered sites ordered →
-      ChecksWritten (check_in form check) is_first source (map declared_at ordered) text summary →
-      ChecksManifest check is_first form source text summary
-  is_none : (fault : Fault) → IsReason source.bytes fault.reason →
-      text ≡ finding_text check.format is_first (told_of_file source fault) →
-      summary ≡ record { lines = 1; refused = 1 } →
-      ChecksManifest check is_first form source text summary
+-- the manifest declares the expressions at these sites, and each is checked at its place, in their
+-- order
+pub record ChecksSites (check : Check) (is_first : Bool) (form : Form) (source : Source)
+    (sites : List Site) (text : List ℕ) (summary : Summary) : Type 0 where
+  pub are : AreInOrder form source.bytes sites
+  pub finds : ChecksWritten (check_in form check) is_first source (map declared_at sites) text
+      summary
+
+-- the file isn't what its form is written in: it is told itself, at the place of its fault, and
+-- counts as one expression, which is refused
+pub record IsRefusedWhole (check : Check) (is_first : Bool) (source : Source) (text : List ℕ)
+    (summary : Summary) : Type 0 where
+  pub fault : Fault
+  pub why : IsReason source.bytes fault.reason
+  pub text_is : text ≡ finding_text check.format is_first (told_of_file source fault)
+  pub summary_is : summary ≡ record { lines = 1; refused = 1 }
+
+-- the sites that are found, if the file isn't refused as a whole
+abbrev pub sites_in : Option (Vec Site Global) → Option (List Site)
+sites_in found = option_map (λ (sites : Vec Site Global). sites.items) found
+
+-- what is written of a manifest is of the sites that are found in it, or of the whole file
+abbrev pub ChecksManifest :
+    Check → Bool → Form → Source → Option (List Site) → List ℕ → Summary → Type 0
+ChecksManifest check is_first form source (Some sites) text summary =
+    ChecksSites check is_first form source sites text summary
+ChecksManifest check is_first form source None text summary =
+    IsRefusedWhole check is_first source text summary

@@ -7,11 +7,11 @@ ghost use Rattle.check_sources.specs.Manifests.{
   AreOrdered,
   ChecksManifest,
   continues,
-  check_in,
   declared_at,
   fault_part,
   mode_in,
   reason_text,
+  sites_in,
   told_of_file,
   told_whole,
 };
@@ -52,10 +52,19 @@ pub fn reason_text(reason: Reason) -> &'static str
     }
 }
 
+/// A manifest that is checked.
+#[derive(Drop)]
+pub struct CheckedManifest {
+    /// What is written of it.
+    pub found: Findings,
+    /// The expressions that it declares, in the order of their places; none where the file is refused as a whole.
+    pub sites: Option<Vec<Site>>,
+}
+
 /// What is wrong with the expressions that a file declares as a manifest of the form, as `manifests::sites` gives them: each
 /// is told at its line and column, in the order of their places, with its line and carets under the fault; under all of the
 /// expression where it is written with escapes. A file that isn't what the form is written in is told itself, at its fault, and
-/// counts as one expression. `is_first` is that of `check_tags`.
+/// counts as one expression. The expressions are handed back. `is_first` is that of `check_tags`.
 ///
 /// The form's reader reads the file twice; else as `check_tags`.
 ///
@@ -68,9 +77,10 @@ pub fn check_manifest(
     is_first: bool,
     form: Form,
     source: Source<'_>,
-) -> Result<Findings, AllocError>
-    ensures { IfOk result (λ found. ChecksManifest check.now is_first form
-        (source_of source.entry) found.text.items found.summary) }
+) -> Result<CheckedManifest, AllocError>
+    ensures { IfOk result (λ checked. ChecksManifest check.now is_first form
+        (source_of source.entry) (sites_in checked.sites) checked.found.text.items
+        checked.found.summary) }
 {
     match sites(alloc, form, source.bytes) {
         Ok(found) => {
@@ -79,10 +89,16 @@ pub fn check_manifest(
                 ..*check
             };
             let ordered = in_order(found)?;
-            let all = declared(alloc, &ordered)?;
-            findings_of(alloc, &check, is_first, source, &all)
+            let found = sites_found(alloc, &check, is_first, source, &ordered)?;
+            Ok(CheckedManifest {
+                found,
+                sites: Some(ordered),
+            })
         }
-        Err(ManifestError::Refused(fault)) => fault_found(alloc, check, is_first, source, fault),
+        Err(ManifestError::Refused(fault)) => {
+            let found = fault_found(alloc, check, is_first, source, fault)?;
+            Ok(CheckedManifest { found, sites: None })
+        }
         Err(ManifestError::NoMemory) => Err(AllocError),
     }
 }
@@ -94,6 +110,21 @@ fn in_order(sites: Vec<Site>) -> Result<Vec<Site>, AllocError>
     let mut ordered = sites;
     ordered.sort_by_key(|site| site.span.start)?;
     Ok(ordered)
+}
+
+// The findings of the expressions at these sites.
+fn sites_found(
+    alloc: Global,
+    check: &Check<'_>,
+    is_first: bool,
+    source: Source<'_>,
+    sites: &[Site],
+) -> Result<Findings, AllocError>
+    ensures { IfOk result (λ found. ChecksWritten check.now is_first (source_of source.entry)
+        (map declared_at sites.now) found.text.items found.summary) }
+{
+    let all = declared(alloc, sites)?;
+    findings_of(alloc, check, is_first, source, &all)
 }
 
 // The expressions of these sites.

@@ -18,7 +18,7 @@ mod tags;
 mod written;
 
 pub use crate::cursor::Cursor;
-pub use crate::declared::{check_manifest, mode_in, reason_text};
+pub use crate::declared::{CheckedManifest, check_manifest, mode_in, reason_text};
 pub use crate::findings::{Findings, Source};
 pub use crate::shown::Shown;
 pub use crate::tags::{check_tags, is_binary};

@@ -1,18 +1,11 @@
-use Rattle.std.proofs.Common.{List, sym, subst}
-use Rattle.manifests.specs.Sites.{AreSites}
-use Rattle.manifests.specs.declared.site.Site.{Site}
-use Rattle.check_files.proofs.Needed.{declared, undeclared}
+use Rattle.std.proofs.Common.{map, string_bytes}
+use Rattle.check_files.proofs.Needed.{of_sites}
 use Rattle.check_files.proofs.Steps.{on_ok}
 use Rattle.check_files.proofs.noted.note_sites.Goals as goal
 
-pub returns-in-Ok : goal.returns-in-Ok
-returns-in-Ok c =
+pub returns-in-Some : goal.returns-in-Some
+returns-in-Some c =
     on_ok c.add_declared.result _ _
-    (declared c.args.check.now.catalogue.now c.args.check.now.mode c.args.form c.args.bytes.now c.deref.result.now _ _
-    (subst (λ (sites : List Site). AreSites c.args.form c.args.bytes.now sites) (sym c.deref.ensures.value) c.in-Ok.ensures.ok))
+    (of_sites c.args.check.now.catalogue.now c.args.check.now.mode c.args.form c.args.sites.now c.in-Some.sites c.deref.result.now (map string_bytes c.args.used.now.items)
+    (map string_bytes c.add_declared.new.used.items) c.in-Some.is c.deref.ensures.value)
     c.add_declared.ensures
-
-pub returns-in-Err-Refused : goal.returns-in-Err-Refused
-returns-in-Err-Refused c =
-    undeclared c.args.check.now.catalogue.now c.args.check.now.mode c.args.form c.args.bytes.now c.in-Err-Refused.field-0-0 _
-    (rw c.in-Err-Refused.field-0-is at c.in-Err-Refused.ensures.err)
