@@ -17,6 +17,14 @@ is_no_memory _ = false
 abbrev pub refuses_memory : Error → Bool
 refuses_memory e = is_no_memory (error_kind e)
 
+abbrev pub is_no_entry : ErrorKind → Bool
+is_no_entry kind.NotFound = true
+is_no_entry _ = false
+
+-- nothing is there
+abbrev pub is_not_found : Error → Bool
+is_not_found e = is_no_entry (error_kind e)
+
 -- it can't be read for want of memory
 abbrev pub is_of_memory : CheckTrouble → Bool
 is_of_memory (trouble.Unreadable n e) = refuses_memory e

@@ -19,4 +19,4 @@ pub use crate::file::{Below, check_file};
 pub use crate::noted::Noted;
 pub use crate::parts::{Declared, check_declared, check_tagged};
 pub use crate::telling::Telling;
-pub use crate::trouble::{CheckFault, CheckTrouble, pass_over};
+pub use crate::trouble::{CheckFault, CheckTrouble, is_not_found, pass_over};

@@ -74,6 +74,13 @@ fn refuses_memory(error: &io::Error) -> bool
     matches!(error.kind(), ErrorKind::OutOfMemory)
 }
 
+/// Whether nothing is there.
+pub fn is_not_found(error: &io::Error) -> bool
+    ensures { result ≡ spec.is_not_found error.now }
+{
+    matches!(error.kind(), ErrorKind::NotFound)
+}
+
 /// The trouble is told, and what it is of is passed over, unless memory was refused.
 ///
 /// # Errors

@@ -1,9 +1,8 @@
 // What is told of files as a whole: license texts that are missing or not needed, and files without a license.
 
-ghost use Rattle.std.specs.Prelude.{◌≡◌, ◌++◌, IfOk, OnOk, map, string_bytes};
-ghost use Rattle.notice_texts.specs.Lacking.{missing, unused};
+ghost use Rattle.std.specs.Prelude.{◌≡◌, ◌++◌, IfOk, OnOk, map, option_map, string_bytes};
 ghost use Rattle.check_told.specs.Owed as spec;
-ghost use Rattle.check_told.specs.Owed.{TellsAll, whole_of, whole_names, wholes_text};
+ghost use Rattle.check_told.specs.Owed.{TellsAll, those_called, whole_of, whole_names, wholes_text};
 
 use finding_forms::{Finding, Format, Help, Place, put_finding};
 use notice_texts::owed_texts;
@@ -21,7 +20,7 @@ pub struct Whole {
 }
 
 /// What is told of a folder of license texts with these files, where these names are used: first the texts that are missing,
-/// then those that nobody needs. So where nothing is told, each name has its text and each file is the text of a name.
+/// then the files that nobody needs, each at its own path. So where nothing is told, each name has its text and each file is the text of a name.
 ///
 /// # Errors
 ///
@@ -34,7 +33,7 @@ pub fn owed_by(
     files: &[String],
 ) -> Result<Vec<Whole>, AllocError>
     ensures exact { IfOk result (λ wholes. map whole_of wholes.items ≡ spec.owed_by folder.now
-        (map string_bytes used.now) (whole_names (map string_bytes files.now))) }
+        (map string_bytes used.now) (map string_bytes files.now)) }
     ensures complete { IfOk result (λ wholes. TellsAll wholes.items
         (map string_bytes used.now) (whole_names (map string_bytes files.now))) }
 {
@@ -49,13 +48,13 @@ fn all_owed(
     files: &[String],
 ) -> Result<Vec<Whole>, AllocError>
     ensures { IfOk result (λ wholes. map whole_of wholes.items ≡ spec.owed_by folder.now
-        (map string_bytes used.now) (whole_names (map string_bytes files.now))) }
+        (map string_bytes used.now) (map string_bytes files.now)) }
 {
     let names = names_of(alloc, files)?;
     let used = texts_of(alloc, used)?;
     let owed = owed_texts(alloc, &used, &names)?;
     let mut wholes = missing_in(alloc, folder, &owed.missing)?;
-    let mut unused = unused_in(alloc, folder, &owed.unused)?;
+    let mut unused = unused_in(alloc, files, &owed.unused)?;
     wholes.append(&mut unused)?;
     Ok(wholes)
 }
@@ -80,10 +79,17 @@ pub fn without_license(alloc: Global, paths: &[String]) -> Result<Vec<Whole>, Al
 fn bare(alloc: Global, path: &str) -> Result<Whole, AllocError>
     ensures { IfOk result (λ whole. whole_of whole ≡ spec.bare_at path.now) }
 {
+    told_at(alloc, path, "no license is told here")
+}
+
+// What is told of the file at the path.
+fn told_at(alloc: Global, path: &str, reason: &'static str) -> Result<Whole, AllocError>
+    ensures { IfOk result (λ whole. whole_of whole ≡ spec.told_at path.now reason.now) }
+{
     Ok(Whole {
         path: String::from_str(alloc, path)?,
         name: String::from_str(alloc, name_of(path))?,
-        reason: "no license is told here",
+        reason,
     })
 }
 
@@ -132,6 +138,7 @@ fn missing_in(alloc: Global, folder: &str, names: &[&str]) -> Result<Vec<Whole>,
 fn missing_text(alloc: Global, folder: &str, name: &str) -> Result<Whole, AllocError>
     ensures { IfOk result (λ whole. whole_of whole ≡ spec.missing_at folder.now name.now) }
 {
+    let folder = without_slashes(folder);
     Ok(Whole {
         path: format!(in alloc; "{folder}/{name}.txt")?,
         name: String::from_str(alloc, name)?,
@@ -139,27 +146,47 @@ fn missing_text(alloc: Global, folder: &str, name: &str) -> Result<Whole, AllocE
     })
 }
 
-// The files of these names in the folder, which nobody needs.
-fn unused_in(alloc: Global, folder: &str, names: &[&str]) -> Result<Vec<Whole>, AllocError>
-    ensures { IfOk result (λ wholes. map whole_of wholes.items
-        ≡ map (spec.unused_at folder.now) (map (λ t. t.now) names.now)) }
+// The path without the slashes at its end.
+fn without_slashes(path: &str) -> &str
+    ensures { result.now ≡ spec.without_slashes path.now }
+{
+    path.trim_end_matches('/')
+}
+
+// The files that are called so, which nobody needs. Their names are in the order of the files.
+fn unused_in(alloc: Global, files: &[String], names: &[&str]) -> Result<Vec<Whole>, AllocError>
+    ensures { IfOk result (λ wholes. map whole_of wholes.items ≡ map spec.unused_at
+        (those_called (map (λ t. t.now) names.now) (map string_bytes files.now))) }
 {
     let mut wholes = Vec::new(alloc);
-    for name in names {
-        wholes.push(unused_text(alloc, folder, *name)?)?;
+    let mut rest = names;
+    for file in files {
+        let path = file.as_str();
+        let others = after(rest, name_of(path));
+        if others.is_some() {
+            wholes.push(unused_text(alloc, path)?)?;
+        }
+        rest = others.unwrap_or(rest);
     }
     Ok(wholes)
 }
 
-#[tactic(auto, unfolding(crate::specs::Owed::is_unused))]
-fn unused_text(alloc: Global, folder: &str, name: &str) -> Result<Whole, AllocError>
-    ensures { IfOk result (λ whole. whole_of whole ≡ spec.unused_at folder.now name.now) }
+// The names but for the first, where that is this one.
+fn after<'n, 't>(names: &'n [&'t str], name: &str) -> Option<&'n [&'t str]>
+    ensures { option_map (λ others. map (λ t. t.now) others.now) result
+        ≡ spec.after (map (λ t. t.now) names.now) name.now }
 {
-    Ok(Whole {
-        path: format!(in alloc; "{folder}/{name}")?,
-        name: String::from_str(alloc, name)?,
-        reason: "no expression uses the license of this text",
-    })
+    match names {
+        [first, others @ ..] if *first == name => Some(others),
+        _ => None,
+    }
+}
+
+#[tactic(auto, unfolding(crate::specs::Owed::is_unused))]
+fn unused_text(alloc: Global, path: &str) -> Result<Whole, AllocError>
+    ensures { IfOk result (λ whole. whole_of whole ≡ spec.unused_at path.now) }
+{
+    told_at(alloc, path, "no expression uses the license of this text")
 }
 
 /// Appends what is told of these files, each in its first line and column. `is_first` says that no finding stands before them,

@@ -1,13 +1,27 @@
 // Which files need to tell no license.
 
 ghost use Rattle.std.specs.Prelude.{◌≡◌};
+ghost use Rattle.std.specs.List.{list_all};
 ghost use Rattle.std.specs.Option.{option_copied};
+ghost use Rattle.std.specs.Path.{component_bytes, path_bytes, path_components};
 ghost use Rattle.check_told.specs.Untagged as spec;
+ghost use Rattle.check_told.specs.Untagged.{IsSameBySlash, IsSameFromHere, IsSamePathFromHere};
 
 use crate::owed::name_of;
+use std::path::{Component, Path};
 
-/// Whether the file is one of the license texts, which are below their folder.
+/// Whether the file is one of the license texts, which are below their folder. Paths are compared name by name, so slashes at
+/// the end of the folder and `./` in front of it or of the path make no difference; an absolute path is below no relative one.
 pub fn is_text(folder: Option<&str>, path: &str) -> bool
+    ensures exact { result ≡ spec.is_text (option_copied folder.entry) path.now }
+    ensures slash { IsSameBySlash (option_copied folder.entry) path.now result }
+    ensures here { IsSameFromHere (option_copied folder.entry) path.now result }
+    ensures path_here { IsSamePathFromHere (option_copied folder.entry) path.now result }
+{
+    is_below_one(folder, path)
+}
+
+fn is_below_one(folder: Option<&str>, path: &str) -> bool
     ensures { result ≡ spec.is_text (option_copied folder.entry) path.now }
 {
     match folder {
@@ -16,20 +30,42 @@ pub fn is_text(folder: Option<&str>, path: &str) -> bool
     }
 }
 
-// Whether the path is the folder's, a slash, and more or nothing.
 fn is_below(folder: &str, path: &str) -> bool
-    ensures { result ≡ spec.is_below folder.now path.now }
+    ensures { result ≡ spec.continues (spec.parts_of folder.now) (spec.parts_of path.now) }
 {
-    path.as_bytes().starts_with(folder.as_bytes()) && has_slash_at(path.as_bytes(), folder.len())
+    match from_here(path).strip_prefix(from_here(folder)) {
+        Ok(rest) => leads_down(rest),
+        Err(_) => false,
+    }
 }
 
-fn has_slash_at(bytes: &[u8], at: usize) -> bool
-    ensures { result ≡ spec.has_slash_at bytes.now at }
+// The path without the `.` at its start.
+fn from_here(path: &str) -> Path<'_>
+    ensures { path_components (path_bytes result) ≡ spec.parts_of path.now }
 {
-    match bytes.get(at) {
-        Some(byte) => *byte == b'/',
-        None => false,
+    let whole = Path::new(path);
+    match whole.strip_prefix(".") {
+        Ok(rest) => rest,
+        Err(_) => whole,
     }
+}
+
+fn leads_down(path: Path<'_>) -> bool
+    ensures { result ≡ list_all spec.leads_down (path_components (path_bytes path.entry)) }
+{
+    for part in path.components() {
+        if !is_down(part) {
+            return false;
+        }
+    }
+    true
+}
+
+fn is_down(part: Component<'_>) -> bool
+    ensures { result ≡ spec.leads_down (component_bytes part.entry) }
+{
+    let name = part.as_os_str();
+    !(name == ".." || name == "/")
 }
 
 /// Whether the file needs to tell no license: it is empty, it is a license text by its name or its folder, or it tells the

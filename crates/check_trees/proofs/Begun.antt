@@ -17,7 +17,7 @@ use Rattle.source_trees.specs.declared.stops.Stop.{Stop}
 use Rattle.source_trees.specs.declared.walk.Seen.{Seen}
 use Rattle.source_trees.specs.Walks.{IsBegun, IsNext}
 use Rattle.spdx_check.specs.declared.check.Check.{Check}
-use Rattle.check_told.specs.Owed.{Whole, owed_by, whole_names, wholes_text}
+use Rattle.check_told.specs.Owed.{Whole, owed_by, wholes_text}
 use Rattle.check_files.specs.Begun.{IsBeginning}
 use Rattle.check_files.specs.declared.trouble.CheckTrouble.{CheckTrouble}
 use Rattle.check_files.specs.declared.trouble.CheckTrouble.TheVariants as trouble
@@ -131,11 +131,11 @@ wholes_begun check a b had wholes old text is are p =
 module _ (check : Check) (folder : List ℕ) (used files : List (List ℕ)) where
   -- what is owed is written in part
   pub owed_written : (troubles : List CheckTrouble) (out out' : Told) (h : Account CheckTrouble) (old : Tally) → are_none troubles ≡ true
-      → Writes out out' (IsBeginning (IsWholesText check (owed_by folder used (whole_names files)) old))
+      → Writes out out' (IsBeginning (IsWholesText check (owed_by folder used files) old))
       → Does out out' h h (λ text told. IsOwedBegun check folder used files troubles old text told)
   owed_written (t ∷ ts) out out' h old none w = absurd (true≢false (sym none))
   owed_written [] out out' h old none w =
-      written_alone out out' h (IsBeginning (IsWholesText check (owed_by folder used (whole_names files)) old)) (λ text told. IsOwedBegun check folder used files [] old text told) w
+      written_alone out out' h (IsBeginning (IsWholesText check (owed_by folder used files) old)) (λ text told. IsOwedBegun check folder used files [] old text told) w
       (λ text is. (is, refl))
 
   -- why not all can be had is told in part

@@ -10,7 +10,7 @@ use Rattle.source_trees.specs.declared.reading.Taken.{Taken}
 use Rattle.source_trees.specs.declared.walk.Seen.{Seen}
 use Rattle.source_trees.specs.declared.walk.Seen.TheVariants as seen
 use Rattle.spdx_check.specs.declared.check.Check.{Check}
-use Rattle.check_told.specs.Owed.{bare_at, owed_by, whole_names}
+use Rattle.check_told.specs.Owed.{bare_at, owed_by}
 use Rattle.check_told.proofs.Telling.{tells_all}
 use Rattle.check_files.specs.declared.trouble.CheckTrouble.{CheckTrouble}
 use Rattle.check_files.specs.declared.trouble.CheckTrouble.TheVariants as trouble
@@ -106,15 +106,15 @@ module _ (s : Shelved) (check : Check) where
   -- no text is missing and none is unused
   abbrev AreOwedNone : Option (List ℕ) → List (List ℕ) → Type 0
   AreOwedNone None used = Unit {0}
-  AreOwedNone (Some folder) used = (files : List (List ℕ)) × AreTexts s folder files [] × (owed_by folder used (whole_names files) ≡ [])
+  AreOwedNone (Some folder) used = (files : List (List ℕ)) × AreTexts s folder files [] × (owed_by folder used files ≡ [])
 
   owes_none : (folder : List ℕ) (used files : List (List ℕ)) (troubles : List CheckTrouble) (old : Tally) (text : List ℕ) (told : List CheckTrouble) (new : Tally) → AreTexts s folder files troubles
       → AreOwed check folder used files troubles old text told new → IsPassing new → IsPassing old × AreOwedNone (Some folder) used
   owes_none folder used files [] old text told new texts h passes =
       let now = subst IsPassing h.0.new_is passes in
-      let counts = sum_none old.texts (length (owed_by folder used (whole_names files))) now.none_owed in (
+      let counts = sum_none old.texts (length (owed_by folder used files)) now.none_owed in (
         record { is_whole = now.is_whole; none_refused = now.none_refused; none_owed = counts.0; none_bare = now.none_bare },
-        (files, texts, nil_from_length (owed_by folder used (whole_names files)) counts.1),
+        (files, texts, nil_from_length (owed_by folder used files) counts.1),
       )
   owes_none folder used files (t ∷ ts) old text told new texts h passes = absurd (not_passed old new h.new_is passes)
 
@@ -163,7 +163,7 @@ module _ (s : Shelved) (check : Check) (t : Taken) (all : List Seen) where
   texts_clean true is_told None noted h uses = tt
   texts_clean true is_told (Some folder) noted h uses =
       let files = h.0.0 in
-      let each = tells_all folder noted.used (whole_names files) [] (sym h.0.2) refl in
+      let each = tells_all folder noted.used files [] (sym h.0.2) refl in
       record { used = noted.used; files = files; uses = uses; texts = h.0.1; none_missing = each.0; none_unused = each.1 }
 
   licensed : (is_all is_told : Bool) (folder : Option (List ℕ)) (noted : Notes) → IsEndClean s check is_all is_told folder noted

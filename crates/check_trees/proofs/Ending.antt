@@ -13,7 +13,7 @@ use Rattle.source_trees.specs.Readings.{is_all}
 use Rattle.source_trees.specs.declared.stops.Stop.{Stop}
 use Rattle.source_trees.specs.Walks.{IsBegun}
 use Rattle.spdx_check.specs.declared.check.Check.{Check}
-use Rattle.check_told.specs.Owed.{owed_by, whole_names}
+use Rattle.check_told.specs.Owed.{owed_by}
 use Rattle.check_files.specs.declared.trouble.CheckTrouble.{CheckTrouble}
 use Rattle.check_files.specs.declared.trouble.CheckTrouble.TheVariants as trouble
 use Rattle.check_files.specs.Noted.{Notes, nothing_noted}
@@ -65,11 +65,11 @@ owed_passed check folder used files (t ∷ ts) out heard heard' old new some p =
 
 -- all can be had
 pub owed_put : (check : Check) (folder : List ℕ) (used files : List (List ℕ)) (troubles : List CheckTrouble) (out out' : Told) (heard : Account CheckTrouble) (old new : Tally)
-    → are_none troubles ≡ true → Writes out out' (λ text. AreWholes check (owed_by folder used (whole_names files)) with_texts old text new)
+    → are_none troubles ≡ true → Writes out out' (λ text. AreWholes check (owed_by folder used files) with_texts old text new)
     → Does out out' heard heard (λ text told. AreOwed check folder used files troubles old text told new)
 owed_put check folder used files (t ∷ ts) out out' heard old new none d = absurd (true≢false (sym none))
 owed_put check folder used files [] out out' heard old new none d =
-    written_alone out out' heard (λ text. AreWholes check (owed_by folder used (whole_names files)) with_texts old text new) (λ text told. AreOwed check folder used files [] old text told new) d
+    written_alone out out' heard (λ text. AreWholes check (owed_by folder used files) with_texts old text new) (λ text told. AreOwed check folder used files [] old text told new) d
     (λ text x. (x, refl))
 
 -- there is no folder of texts

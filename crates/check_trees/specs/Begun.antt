@@ -9,7 +9,7 @@ use Rattle.source_trees.specs.declared.walk.Seen.{Seen}
 use Rattle.source_trees.specs.declared.walk.Seen.TheVariants as seen
 use Rattle.source_trees.specs.Walks.{AreBelow, AreTaken, IsBegun, IsNext}
 use Rattle.spdx_check.specs.declared.check.Check.{Check}
-use Rattle.check_told.specs.Owed.{Whole, bare_at, owed_by, whole_names, wholes_text}
+use Rattle.check_told.specs.Owed.{Whole, bare_at, owed_by, wholes_text}
 use Rattle.check_files.specs.Begun.{IsBeginning, IsFileBegun}
 use Rattle.check_files.specs.declared.trouble.CheckTrouble.{CheckTrouble}
 use Rattle.check_files.specs.Noted.{Notes, nothing_noted}
@@ -71,7 +71,7 @@ IsWholesText check wholes old text = text ≡ wholes_text check.format (is_clean
 abbrev pub IsOwedBegun : Check → List ℕ → List (List ℕ) → List (List ℕ) → List CheckTrouble →
     Tally → List ℕ → List CheckTrouble → Type 0
 IsOwedBegun check folder used files [] old text told =
-    IsBeginning (IsWholesText check (owed_by folder used (whole_names files)) old) text
+    IsBeginning (IsWholesText check (owed_by folder used files) old) text
     × (told ≡ [])
 IsOwedBegun check folder used files (t ∷ ts) old text told =
     (text ≡ []) × AreFirstPassed (t ∷ ts) told

@@ -12,19 +12,24 @@ use Rattle.source_trees.specs.declared.walk.Seen.{Seen}
 use Rattle.source_trees.specs.declared.walk.Seen.TheVariants as seen
 use Rattle.source_trees.specs.Walks.{AreBelow}
 use Rattle.spdx_check.specs.declared.check.Check.{Check}
-use Rattle.check_told.specs.Owed.{Whole, bare_at, owed_by, whole_names, wholes_text}
+use Rattle.check_told.specs.Owed.{Whole, bare_at, owed_by, wholes_text}
 use Rattle.check_files.specs.declared.trouble.CheckTrouble.{CheckTrouble}
 use Rattle.check_files.specs.declared.trouble.CheckTrouble.TheVariants as trouble
 use Rattle.check_files.specs.Noted.{Notes}
+use Rattle.check_files.specs.Passing.{is_not_found}
 use Rattle.check_files.specs.Tally.{Tally, is_clean, with_bare, with_texts, with_untagged}
 use Rattle.check_trees.specs.Steps.{ArePassed, trouble_of}
 
 -- ---- the folder of license texts
 
--- a folder's own, where it is one
+-- looking at it fails, by an error that says that nothing is there, or by another one
+abbrev pub FailsAt : Shelved → List ℕ → Bool → Type 0
+FailsAt s path is_gone = (e : Error) × s.Fails path e × (is_not_found e ≡ is_gone)
+
+-- a folder's own, where it is one or can't be looked at; none where nothing is there
 abbrev pub IsOwnFolder : Shelved → List ℕ → Option (List ℕ) → Type 0
-IsOwnFolder s own (Some folder) = (folder ≡ own) × s.IsFolder own true
-IsOwnFolder s own None = s.IsFolder own false ⊎ ((e : Error) × s.Fails own e)
+IsOwnFolder s own (Some folder) = (folder ≡ own) × (s.IsFolder own true ⊎ FailsAt s own false)
+IsOwnFolder s own None = s.IsFolder own false ⊎ FailsAt s own true
 
 -- the one that was named, or else `LICENSES` in the folder
 abbrev pub IsTextsFolder : Shelved → Option (List ℕ) → List ℕ → Option (List ℕ) → Type 0
@@ -78,7 +83,7 @@ are_none (t ∷ ts) = false
 abbrev pub AreOwed : Check → List ℕ → List (List ℕ) → List (List ℕ) → List CheckTrouble → Tally →
     List ℕ → List CheckTrouble → Tally → Type 0
 AreOwed check folder used files [] old text told new =
-    AreWholes check (owed_by folder used (whole_names files)) with_texts old text new
+    AreWholes check (owed_by folder used files) with_texts old text new
     × (told ≡ [])
 AreOwed check folder used files (t ∷ ts) old text told new = ArePassed (t ∷ ts) old text told new
 

@@ -8,7 +8,7 @@ ghost use Rattle.check_files.specs.Begun.{IsBeginning};
 ghost use Rattle.check_files.specs.Told.{Does, Hears, IsBrokenOff, Tells, Writes};
 ghost use Rattle.check_files.specs.declared.trouble.CheckFault.TheVariants.{Memory};
 ghost use Rattle.source_trees.specs.Readings.{is_all};
-ghost use Rattle.check_told.specs.Owed.{bare_at, owed_by, whole_names, whole_of, wholes_text};
+ghost use Rattle.check_told.specs.Owed.{bare_at, owed_by, whole_of, wholes_text};
 ghost use Rattle.check_trees.specs.Begun.{
   AreFirst,
   AreFirstPassed,
@@ -226,12 +226,12 @@ fn put_owed<O: Sink>(
 ) -> Result<(), CheckFault>
     ensures ok { OnOk result (Writes (O.told output.old) (O.told output.new) (λ text.
         AreWholes check.now (owed_by folder.now (map string_bytes used.now)
-        (whole_names (map string_bytes files.now))) with_texts (tally_of sums.old) text
+        (map string_bytes files.now)) with_texts (tally_of sums.old) text
         (tally_of sums.new))) }
     ensures err { IfErr result (IsBrokenOff (O.told output.new)) }
     ensures begun { OnErr result (Writes (O.told output.old) (O.told output.new) (IsBeginning
         (IsWholesText check.now (owed_by folder.now (map string_bytes used.now)
-        (whole_names (map string_bytes files.now))) (tally_of sums.old)))) }
+        (map string_bytes files.now)) (tally_of sums.old)))) }
 {
     let wholes = owed_by(alloc, folder, used, files)?;
     let text = text_of_wholes(alloc, check, sums, &wholes)?;

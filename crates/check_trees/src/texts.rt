@@ -6,14 +6,14 @@ ghost use Rattle.check_trees.specs.Ends as spec;
 ghost use Rattle.check_trees.specs.Ends.{AreTexts, IsOwnFolder, IsTextsFolder, file_of};
 ghost use Rattle.check_trees.specs.Steps.{listed, trouble_of};
 
-use check_files::CheckTrouble;
+use check_files::{CheckTrouble, is_not_found};
 use shelves::Shelf;
 use source_trees::{Seen, all_seen, below};
 use std::alloc::{AllocError, Global};
 use std::io;
 
 /// The folder of the license texts of the folder at the path: the one that was named, or else its own `LICENSES`, if it has
-/// one.
+/// one or that can't be looked at.
 ///
 /// # Errors
 ///
@@ -33,14 +33,21 @@ pub(crate) fn texts_folder<S: Shelf>(
     }
 }
 
-// The folder, if it is one.
+// The folder, if it is one. One that can't be looked at counts, so that it is told.
 fn own_folder<S: Shelf>(shelf: &S, folder: String) -> Option<String>
     ensures { IsOwnFolder (S.told shelf.now) (string_bytes folder)
         (option_map string_bytes result) }
 {
     match shelf.is_folder(folder.as_str()) {
         Ok(true) => Some(folder),
-        Ok(false) | Err(_) => None,
+        Ok(false) => None,
+        Err(error) => {
+            if is_not_found(&error) {
+                None
+            } else {
+                Some(folder)
+            }
+        }
     }
 }
 

@@ -4,7 +4,7 @@ use Rattle.check_files.specs.Tally.{tally_of, with_texts}
 use Rattle.check_files.specs.Told.{Writes}
 use Rattle.check_files.specs.declared.trouble.CheckTrouble.{CheckTrouble}
 use Rattle.check_files.proofs.Steps.{on_ok}
-use Rattle.check_told.specs.Owed.{owed_by, whole_names}
+use Rattle.check_told.specs.Owed.{owed_by}
 use Rattle.check_trees.specs.Ends.{AreWholes, are_none}
 use Rattle.check_trees.proofs.Ending.{owed_passed, owed_put}
 use Rattle.check_files.specs.Begun.{IsBeginning}
@@ -24,7 +24,7 @@ returns-then-are_none-clause-ok g c =
     (λ w.
     owed_put c.args.check.now c.args.folder.now used (map string_bytes c.args.texts.files.items) c.args.texts.troubles.items out out' (g.T.Telling.told c.args.teller.now) old new
     (subst (λ (ts : List CheckTrouble). are_none ts ≡ true) c.deref.ensures.value (sym c.are_none.ensures ∙ c.if-are_none.true))
-    (subst (λ (files : List (String Global)). Writes out out' (λ text. AreWholes c.args.check.now (owed_by c.args.folder.now used (whole_names (map string_bytes files))) with_texts old text new))
+    (subst (λ (files : List (String Global)). Writes out out' (λ text. AreWholes c.args.check.now (owed_by c.args.folder.now used (map string_bytes files)) with_texts old text new))
     c.deref-then-are_none.ensures.value w))
     c.put_owed.ensures.ok
 
@@ -46,7 +46,7 @@ returns-then-are_none-clause-begun g c =
     (λ w.
     owed_written c.args.check.now c.args.folder.now used (map string_bytes c.args.texts.files.items) c.args.texts.troubles.items out out' (g.T.Telling.told c.args.teller.now) old
     (subst (λ (ts : List CheckTrouble). are_none ts ≡ true) c.deref.ensures.value (sym c.are_none.ensures ∙ c.if-are_none.true))
-    (subst (λ (files : List (String Global)). Writes out out' (IsBeginning (IsWholesText c.args.check.now (owed_by c.args.folder.now used (whole_names (map string_bytes files))) old)))
+    (subst (λ (files : List (String Global)). Writes out out' (IsBeginning (IsWholesText c.args.check.now (owed_by c.args.folder.now used (map string_bytes files)) old)))
     c.deref-then-are_none.ensures.value w))
     c.put_owed.ensures.begun
 
