@@ -24,7 +24,7 @@ use Rattle.fix_program.specs.Ends.{IsFileEnd}
 use Rattle.fix_program.specs.Files.{IsFixedAt}
 use Rattle.fix_program.specs.Runs.{AreFileEnds, ArePathEnds, AreReadEnds, IsPathEnd, IsRun, path_in}
 use Rattle.fix_program.specs.Trees as tree
-use Rattle.fix_program.specs.Trees.{AreEnds, AreEndsOf, AreEndsOfFile, AreTreeEnds, AreUnnamed, parts_below}
+use Rattle.fix_program.specs.Trees.{AreEnds, AreEndsOf, AreEndsOfFile, AreTreeEnds, AreUnnamed, as_file, parts_below}
 
 -- a file that is mended is so at some path, by some of its parts
 abbrev pub IsFixedSomewhere : Shelved → Rows → Bool → FileEnd → Type 0
@@ -53,7 +53,7 @@ module _ (s : Shelved) (c : Rows) (w : Bool) where
 
   if_file : (p : Option Parts) (path : List ℕ) (ends : List FileEnd) → AreEndsOfFile s c w p path ends → All (IsFixedSomewhere s c w) ends
   if_file None path ends h = no_ends ends h
-  if_file (Some p) path ends h = of_file p path ends h
+  if_file (Some p) path ends h = of_file p (as_file path) ends h
 
   unnamed : (n : String Global) (count : ℕ) (none : Bool) (ends : List FileEnd) → ends ≡ (if none then [] else end.LeftOut (trouble.Unnamed n count) ∷ []) → All (IsFixedSomewhere s c w) ends
   unnamed n count true ends is = no_ends ends is

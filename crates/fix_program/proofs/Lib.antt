@@ -1,4 +1,4 @@
-pub mod Slashes
+pub mod Joined
 pub mod Stamped
 pub mod Untouched
 pub mod Walked

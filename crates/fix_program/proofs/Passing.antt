@@ -25,7 +25,7 @@ use Rattle.fix_program.specs.Files.{read_as}
 use Rattle.fix_program.specs.Passing.{IsAccepted, IsAcceptedAs, IsAcceptedIf, IsPathAccepted, IsSeenAccepted, IsTreeAccepted}
 use Rattle.fix_program.specs.Runs.{AreFileEnds, ArePathEnds, AreReadEnds, IsPathEnd, has_left, is_left_out, leaves_out, leaves_some, status_of}
 use Rattle.fix_program.specs.Trees as tree
-use Rattle.fix_program.specs.Trees.{AreEnds, AreEndsOf, AreEndsOfFile, AreTreeEnds, AreUnnamed, parts_below}
+use Rattle.fix_program.specs.Trees.{AreEnds, AreEndsOf, AreEndsOfFile, AreTreeEnds, AreUnnamed, as_file, parts_below}
 use Rattle.file_fixes.proofs.Accepted.{accepted}
 
 neither : (a b : Bool) → (a || b) ≡ false → (a ≡ false) × (b ≡ false)
@@ -63,7 +63,7 @@ module _ (s : Shelved) (c : Rows) (w : Bool) where
 
   if_accepted : (p : Option Parts) (path : List ℕ) (ends : List FileEnd) → AreEndsOfFile s c w p path ends → AreWhole ends → IsAcceptedIf s c w p path
   if_accepted None path ends h whole = tt
-  if_accepted (Some p) path ends h whole = file_accepted p path ends h whole
+  if_accepted (Some p) path ends h whole = file_accepted p (as_file path) ends h whole
 
   left_out_not : (e : FileEnd) (ends : List FileEnd) → is_left_out e ≡ true → ends ≡ e ∷ [] → AreWhole ends → ⊥
   left_out_not e ends is same whole = let first = first_whole e [] (subst AreWhole same whole) in absurd cc

@@ -19,7 +19,7 @@ use Rattle.fix_program.specs.declared.run.Request.{Request}
 use Rattle.fix_program.specs.Files as file
 use Rattle.fix_program.specs.Files.{read_as}
 use Rattle.fix_program.specs.Runs.{path_in}
-use Rattle.fix_program.specs.Trees.{parts_below}
+use Rattle.fix_program.specs.Trees.{as_file, parts_below}
 
 -- ---- files and folders
 
@@ -33,7 +33,7 @@ pub record IsAccepted (s : Shelved) (c : Rows) (w : Bool) (p : Parts) (path : Li
 
 abbrev pub IsAcceptedIf : Shelved → Rows → Bool → Option Parts → List ℕ → Type 0
 IsAcceptedIf s c w None path = Unit {0}
-IsAcceptedIf s c w (Some p) path = IsAccepted s c w p path
+IsAcceptedIf s c w (Some p) path = IsAccepted s c w p (as_file path)
 
 -- each file is, and each folder is read, all of whose names are UTF-8
 abbrev pub IsSeenAccepted : Shelved → Rows → Bool → Taken → Seen → Type 0

@@ -1,5 +1,5 @@
 -- What comes of the files below a folder.
-use Rattle.std.specs.Prelude.{◌≡◌, ◌⊎◌, ℕ, Bool, true, false, List, [], ◌∷◌, ◌++◌, Option, None, Some, ◌==◌, String, string_bytes, if◌then◌else◌}
+use Rattle.std.specs.Prelude.{◌≡◌, ◌⊎◌, ℕ, Bool, true, false, List, [], ◌∷◌, ◌++◌, Option, None, Some, ◌==◌, String, codes, string_bytes, if◌then◌else◌}
 use Rattle.std.specs.declared.alloc.Global.{Global}
 use Rattle.std.specs.declared.io.Error.{Error}
 use Rattle.manifests.specs.declared.form.Form.{Form}
@@ -17,6 +17,7 @@ use Rattle.file_fixes.specs.declared.mended.Parts.{Parts}
 use Rattle.file_fixes.specs.declared.mended.Parts.TheVariants as parts
 use Rattle.fix_program.specs.declared.trouble.FixTrouble.TheVariants as trouble
 use Rattle.fix_program.specs.Ends.{IsFileEnd}
+use Rattle.fix_program.specs.Files.{is_input}
 use Rattle.fix_program.specs.Troubles.{is_of_memory}
 
 -- ---- which parts of a file are mended
@@ -32,10 +33,14 @@ parts_below t path = parts_by t.tags (form_below t path)
 
 -- ---- what comes of what a walk comes to
 
+-- `-` is standard input where a run names it; below a folder it is a file of that name
+abbrev pub as_file : List ℕ → List ℕ
+as_file path = if is_input path then codes "./-" else path
+
 abbrev pub AreEndsOfFile : Shelved → Rows → Bool → Option Parts → List ℕ → List FileEnd → Type 0
 AreEndsOfFile s c w None path ends = ends ≡ []
 AreEndsOfFile s c w (Some p) path ends =
-    (e : FileEnd) × IsFileEnd s c w p path e × (ends ≡ e ∷ [])
+    (e : FileEnd) × IsFileEnd s c w p (as_file path) e × (ends ≡ e ∷ [])
 
 -- it can't be read, and not for want of memory
 abbrev pub IsUnreadEnd : List ℕ → Error → List FileEnd → Type 0

@@ -1,32 +1,55 @@
 // The diff that mends a file.
 
-ghost use Rattle.std.specs.Prelude.{◌≡◌, IfOk};
-ghost use Rattle.std.specs.Option.{option_copied};
+ghost use Rattle.std.specs.Prelude.{◌≡◌, IfOk, map, option_map, string_bytes};
 ghost use Rattle.line_diff.specs.Diff.{diff_of, rows_of};
 ghost use Rattle.fix_program.specs.Diffs as spec;
 
 use line_diff::put_diff;
 use std::alloc::{AllocError, Global};
 
-/// The path as a diff names it, without the slashes at its start; none where it leads above the folder of the diff, for no
-/// program applies that.
-pub(crate) fn diff_name(path: &str) -> Option<&str>
-    ensures { option_copied result ≡ spec.diff_name path.now }
+/// The path as a diff names it, without slashes at its start and without `.`, as `git apply` wants it; none where it leads above
+/// the folder of the diff, for no program applies that.
+///
+/// # Errors
+///
+/// Memory was refused.
+pub(crate) fn diff_name(alloc: Global, path: &str) -> Result<Option<String>, AllocError>
+    ensures { IfOk result (λ name. option_map string_bytes name ≡ spec.diff_name path.now) }
 {
-    let name = without_slashes(path);
-    if leads_above(name) { None } else { Some(name) }
+    if leads_above(path) {
+        return Ok(None);
+    }
+    Ok(Some(plain_name(alloc, path)?))
 }
 
-fn without_slashes(path: &str) -> &str
-    ensures { result.now ≡ spec.without_slashes path.now }
+fn leads_above(path: &str) -> bool
+    ensures { result ≡ spec.leads_above path.now }
 {
-    path.trim_start_matches('/')
+    path.split('/').any(|part| part == "..")
 }
 
-fn leads_above(name: &str) -> bool
-    ensures { result ≡ spec.leads_above name.now }
+#[tactic(auto, using(crate::proofs::Joined::joined))]
+fn plain_name(alloc: Global, path: &str) -> Result<String, AllocError>
+    ensures { IfOk result (λ name. string_bytes name ≡ spec.plain_name path.now) }
 {
-    name.split('/').any(|part| part == "..")
+    let parts = named_parts(alloc, path)?;
+    parts.join(alloc, "/")
+}
+
+fn named_parts<'p>(alloc: Global, path: &'p str) -> Result<Vec<&'p str>, AllocError>
+    ensures { IfOk result (λ parts.
+        map (λ part. part.now) parts.items ≡ spec.named_parts path.now) }
+{
+    path.split('/')
+        .filter(|part| is_named(*part))
+        .collect(alloc)
+}
+
+// Whether the part leads anywhere.
+fn is_named(part: &str) -> bool
+    ensures { result ≡ spec.is_named part.now }
+{
+    !part.is_empty() && part != "."
 }
 
 /// The diff of the two under that name.

@@ -241,8 +241,8 @@ fn shown(alloc: Global, path: &str, old: &[u8], new: Option<Vec<u8>>) -> Result<
     let Some(new) = new else {
         return Ok(Deed::Nothing);
     };
-    match diff_name(path) {
-        Some(name) => Ok(Deed::Put(diff_text(alloc, name, old, &new)?)),
+    match diff_name(alloc, path)? {
+        Some(name) => Ok(Deed::Put(diff_text(alloc, name.as_str(), old, &new)?)),
         None => Err(FixTrouble::Above(String::from_str(alloc, path)?)),
     }
 }

@@ -171,7 +171,14 @@ fn add_file<S: Shelf>(
     let Some(parts) = parts_below(taken, path) else {
         return Ok(());
     };
-    add(file_end(alloc, shelf, manner, parts, path)?, ends)
+    add(file_end(alloc, shelf, manner, parts, as_file(path))?, ends)
+}
+
+// The path of a file below a folder, by which it is no standard input.
+fn as_file(path: &str) -> &str
+    ensures { result.now ≡ spec.as_file path.now }
+{
+    if path == "-" { "./-" } else { path }
 }
 
 // What is mended of a file below a folder, if anything is.
