@@ -20,7 +20,8 @@ pub struct Whole {
 }
 
 /// What is told of a folder of license texts with these files, where these names are used: first the texts that are missing,
-/// then the files that nobody needs, each at its own path. So where nothing is told, each name has its text and each file is the text of a name.
+/// then the files that nobody needs, each at its own path. So where nothing is told, each name has its text and each file is the
+/// text of a name.
 ///
 /// # Errors
 ///
