@@ -8,7 +8,6 @@ use Rattle.std.specs.Io.KnownBytes.{Appends, Consumes, IsAtEnd}
 use Rattle.finding_forms.specs.Forms.{beginning, ending}
 use Rattle.line_engine.specs.Device.{Told, devices}
 use Rattle.line_engine.specs.Progress.{AppendsBeginning}
-use Rattle.line_engine.specs.declared.lines.RunFault.{RunFault}
 use Rattle.manifests.specs.declared.form.Form.{Form}
 use Rattle.open_shelves.specs.Opened.{Gives, MayHave}
 use Rattle.shelves.specs.Shelf.{Shelved}
@@ -16,6 +15,7 @@ use Rattle.source_trees.specs.Readings.{IsReading, is_input}
 use Rattle.source_trees.specs.declared.reading.Reading.{Reading}
 use Rattle.spdx_check.specs.declared.check.Check.{Check}
 use Rattle.spdx_check.specs.Checking.{ChecksLines}
+use Rattle.spdx_check.specs.declared.lines.LinesFault.{LinesFault}
 use Rattle.check_told.specs.declared.sums.Sums.{Sums}
 use Rattle.check_files.specs.Begun.{IsBeginning}
 use Rattle.check_files.specs.declared.trouble.CheckFault.{CheckFault}
@@ -29,7 +29,7 @@ use Rattle.check_program.specs.Begun.{AreLinesBegun, ArePathsBegun, IsLinesStepB
 use Rattle.check_program.specs.declared.run.CheckEnd.{CheckEnd}
 use Rattle.check_program.specs.declared.run.Request.{Request}
 use Rattle.check_program.specs.Lines as lines
-use Rattle.check_program.specs.Lines.{GivesBy, name_at}
+use Rattle.check_program.specs.Lines.{content_by, name_at}
 use Rattle.check_program.specs.Paths.{ArePathSteps, Ways, path_in}
 use Rattle.check_program.specs.Runs.{Inside, IsBegun, IsCheck, IsEndOf, IsNoRun, IsRunBegun, in_beginning, in_ending, in_paths, last_lines, ways_in}
 use Rattle.check_program.proofs.Streams.{all_had, some_had}
@@ -46,7 +46,7 @@ had_so_far a a' bytes true c e = ([], λ h. refl, subst (MayHave a) (sym (append
 had_so_far a a' bytes false c e = let r = some_had a a' bytes c in (r.0, λ h. absurd (false≢true h), r.1)
 
 -- whatever it is at which it breaks off, and nothing is told of that
-pub lines_begun : (check : Check) (is_first : Bool) (name : List ℕ) (t t' out out' : Told) (h k : Account CheckTrouble) (old : Tally) (fault : RunFault)
+pub lines_begun : (check : Check) (is_first : Bool) (name : List ℕ) (t t' out out' : Told) (h k : Account CheckTrouble) (old : Tally) (fault : LinesFault)
     → is_first ≡ is_clean old → ChecksLines check is_first name (devices t t' out out') (Err fault) → k ≡ h
     → Does out out' h k (λ text told. IsLinesStepBegun (MayHave t.bytes) check name old text told)
 lines_begun check is_first name t t' out out' h k old fault e c same =
@@ -108,10 +108,10 @@ unopened_begun Holds check name out h k old same = idle out h k (λ text told. I
 
 -- the path is standard input, or it isn't
 pub at_path_begun : (b : Bool) (s : Shelved) (check : Check) (path : List ℕ) (out out' : Told) (h k : Account CheckTrouble) (old : Tally) → b ≡ is_input path
-    → Does out out' h k (λ text told. IsLinesStepBegun (GivesBy b s path) check (if b then codes "<stdin>" else path) old text told)
+    → Does out out' h k (λ text told. IsLinesStepBegun (content_by b s path).Holds check (if b then codes "<stdin>" else path) old text told)
     → Does out out' h k (λ text told. IsLinesStepBegun (lines.Gives s path) check (name_at path) old text told)
 at_path_begun b s check path out out' h k old e d =
-    subst (λ (c : Bool). Does out out' h k (λ text told. IsLinesStepBegun (GivesBy c s path) check (if c then codes "<stdin>" else path) old text told)) e d
+    subst (λ (c : Bool). Does out out' h k (λ text told. IsLinesStepBegun (content_by c s path).Holds check (if c then codes "<stdin>" else path) old text told)) e d
 
 -- ---- a file that is read whole
 

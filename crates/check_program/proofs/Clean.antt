@@ -4,27 +4,27 @@ use Rattle.std.specs.Prelude.{All, count_by}
 use Rattle.std.proofs.lemmas.List.Elements.{All-nil, All-cons, All-append}
 use Rattle.std.proofs.lemmas.List.Sums.{sum_by-cons}
 use Rattle.line_engine.specs.Device.{Told}
-use Rattle.line_engine.specs.Lines.{lines_of}
-use Rattle.line_engine.specs.Output.{capped}
+use Rattle.line_engine.specs.Lines.{cut, lines_of}
+use Rattle.line_engine.specs.Output.{capped, summary_of}
 use Rattle.manifests.specs.declared.form.Form.{Form}
 use Rattle.shelves.specs.Shelf.{Shelved}
 use Rattle.source_trees.specs.declared.reading.Reading.{Reading}
 use Rattle.source_trees.specs.declared.reading.Reading.TheVariants as reading
 use Rattle.spdx_check.specs.declared.check.Check.{Check}
-use Rattle.spdx_check.specs.Checking.{expression_of, finding_in_line}
+use Rattle.spdx_check.specs.Checking.{expression_of, finding_in_line, is_white}
 use Rattle.spdx_check.specs.Finding.{Wrong}
 use Rattle.spdx_check.proofs.Blanks.{leaves_out_white}
 use Rattle.check_told.specs.Decoding.{source_bytes, without_mark}
 use Rattle.check_files.specs.declared.trouble.CheckTrouble.{CheckTrouble}
 use Rattle.check_files.specs.Clean.{IsPassing}
 use Rattle.check_files.specs.Parts.{source_at}
-use Rattle.check_files.specs.Tally.{Tally, tally_of}
+use Rattle.check_files.specs.Tally.{Tally, tally_of, with_lines}
 use Rattle.check_files.specs.Told.{Account, Does}
 use Rattle.check_files.proofs.Clean.{accepted, manifest_clean, not_passed, passing, sum_none, tags_clean}
 use Rattle.check_trees.proofs.Clean.{tree_clean}
 use Rattle.check_program.specs.declared.run.Request.{Request}
 use Rattle.check_program.specs.Clean.{AreAllClean, AreLinesClean, AreLinesCleanAt, IsCleanAs, IsLineClean, IsPartClean, IsPartCleanAt, IsPathClean}
-use Rattle.check_program.specs.Lines.{AreFindings, AreLinesChecked, IsLinesStep, name_at}
+use Rattle.check_program.specs.Lines.{AreFindings, AreLinesChecked, IsLinesStep, name_at, rule_of}
 use Rattle.check_program.specs.Paths.{ArePathSteps, IsPartChecked, IsPartStep, IsPathStep, IsReadStep, Ways, below, more, none}
 use Rattle.check_program.specs.Runs.{Inside, IsRun, ways_in}
 
@@ -64,7 +64,10 @@ module _ (s : Shelved) (check : Check) where
       → IsPassing new → IsPassing old × AreLinesCleanAt s check path
   lines_step path old text told new (inl (inl h)) passes =
       let parts = lines_clean check (name_at path) h.0 old text new h.2 passes in (parts.0, (h.0, h.1, parts.1))
-  lines_step path old text told new (inl (inr h)) passes = absurd (not_passed old new h.3.new_is passes)
+  lines_step path old text told new (inl (inr h)) passes =
+      let lines = (cut h.0).whole in
+      let counted = with_lines (summary_of (rule_of check h.4.finding old (name_at path)) lines) (capped (count_by is_white lines)) old in
+      absurd (not_passed counted new h.4.new_is passes)
   lines_step path old text told new (inr h) passes = absurd (not_passed old new h.new_is passes)
 
   -- ---- a file that is read whole

@@ -1,26 +1,26 @@
 -- The lines of what is read piece by piece.
-use Rattle.std.proofs.Common.{◌≡◌, inl, inr, refl, subst, ℕ, Bool, List, [], ◌∷◌, ◌++◌, Option, None, Some, Ok, Err, codes, count_by, if◌then◌else◌}
+use Rattle.std.proofs.Common.{◌≡◌, ◌∙◌, ap, inl, inr, refl, subst, ℕ, Bool, List, [], ◌∷◌, ◌++◌, Option, None, Some, Ok, Err, codes, count_by, if◌then◌else◌}
 use Rattle.std.proofs.lemmas.List.{append-nil}
 use Rattle.std.specs.Io.KnownBytes.{Consumes, IsAtEnd}
 use Rattle.std.specs.declared.io.Error.{Error}
 use Rattle.line_engine.specs.Device.{Told, devices}
 use Rattle.line_engine.specs.Lines.{cut, lines_of}
-use Rattle.line_engine.specs.Output.{capped, output_of, text_of}
-use Rattle.line_engine.specs.declared.lines.RunFault.TheVariants.{Read}
+use Rattle.line_engine.specs.Output.{capped, output_of, summary_of, text_of}
 use Rattle.line_engine.specs.declared.lines.Summary.{Summary}
 use Rattle.open_shelves.specs.Opened.{Gives, MayHave}
 use Rattle.shelves.specs.Shelf.{Shelved}
 use Rattle.source_trees.specs.Readings.{is_input}
 use Rattle.spdx_check.specs.declared.check.Check.{Check}
 use Rattle.spdx_check.specs.declared.lines.Checked.{Checked}
+use Rattle.spdx_check.specs.declared.lines.LinesFault.TheVariants as fault
 use Rattle.spdx_check.specs.Checking.{ChecksLines, is_white}
 use Rattle.check_files.specs.declared.trouble.CheckTrouble.{CheckTrouble}
 use Rattle.check_files.specs.declared.trouble.CheckTrouble.TheVariants as trouble
 use Rattle.check_files.specs.Passing.{IsPassed}
-use Rattle.check_files.specs.Tally.{Tally, is_clean, with_lines}
+use Rattle.check_files.specs.Tally.{Tally, is_clean, passed_over, with_lines}
 use Rattle.check_files.specs.Told.{Account, Does}
 use Rattle.check_files.proofs.Doing.{heard_alone, hears_nil, known}
-use Rattle.check_program.specs.Lines.{AreRead, FailsBy, GivesBy, IsLinesStep, IsLinesStepOf, rule_of}
+use Rattle.check_program.specs.Lines.{AreRead, Content, IsLinesStep, IsLinesStepOf, content_by, opened, rule_of}
 use Rattle.check_program.specs.Unread.{PassesBroken, PassesUnread}
 
 -- what was read to its end is all that there is
@@ -36,10 +36,10 @@ some_had (Some xs) None bytes c = absurd c
 some_had (Some xs) (Some ys) bytes c = (ys, c)
 
 -- all lines were read
-pub whole : (check : Check) (is_first : Bool) (name : List ℕ) (t t' out out' : Told) (heard : Account CheckTrouble) (old new : Tally) (c : Checked)
+pub whole : (check : Check) (is_first : Bool) (name : List ℕ) (t t' out out' : Told) (MayFail : Type 0) (heard : Account CheckTrouble) (old new : Tally) (c : Checked)
     → is_first ≡ is_clean old → ChecksLines check is_first name (devices t t' out out') (Ok c) → new ≡ with_lines c.summary c.blanks old
-    → Does out out' heard heard (λ text told. AreRead (MayHave t.bytes) check name old text told new)
-whole check is_first name t t' out out' heard old new c e h is =
+    → Does out out' heard heard (λ text told. AreRead (opened t MayFail) check name old text told new)
+whole check is_first name t t' out out' MayFail heard old new c e h is =
     let g = subst (λ (b : Bool). ChecksLines check b name (devices t t' out out') (Ok c)) e h in
     let k = g.counts in
     let rule = rule_of check g.finding old name in
@@ -62,24 +62,27 @@ whole check is_first name t t' out out' heard old new c e h is =
           );
     }
 
--- what is read broke off
-pub broken : (check : Check) (is_first : Bool) (name : List ℕ) (t t' out out' : Told) (heard heard' : Account CheckTrouble) (old new : Tally)
-    → is_first ≡ is_clean old → ChecksLines check is_first name (devices t t' out out') (Err Read) → PassesBroken name heard heard' old new
-    → Does out out' heard heard' (λ text told. AreRead (MayHave t.bytes) check name old text told new)
-broken check is_first name t t' out out' heard heard' old new e h p =
-    let g = subst (λ (b : Bool). ChecksLines check b name (devices t t' out out') (Err Read)) e h in
-    let k = g.runs.read_all refl in
-    let rest = some_had t.bytes t'.bytes k.bytes k.read in
+-- what is read broke off, and its whole lines were counted before that was told
+pub broken : (check : Check) (is_first : Bool) (name : List ℕ) (t t' out out' : Told) (MayFail : Type 0) (heard heard' : Account CheckTrouble) (old counted new : Tally) (c : Checked)
+    → is_first ≡ is_clean old → ChecksLines check is_first name (devices t t' out out') (Err (fault.Read c)) → MayFail → counted ≡ with_lines c.summary c.blanks old
+    → PassesBroken name heard heard' counted new → Does out out' heard heard' (λ text told. AreRead (opened t MayFail) check name old text told new)
+broken check is_first name t t' out out' MayFail heard heard' old counted new c e h may count p =
+    let g = subst (λ (b : Bool). ChecksLines check b name (devices t t' out out') (Err (fault.Read c))) e h in
+    let k = g.broken in
+    let rule = rule_of check g.finding old name in
+    let lines = (cut k.lines.bytes).whole in
+    let rest = some_had t.bytes t'.bytes k.lines.bytes k.lines.read in
     record {
-      text = text_of (rule_of check g.finding old name) (cut k.bytes).whole;
+      text = text_of rule lines;
       told = trouble.Broken p.0 ∷ [];
-      writes = k.written;
+      writes = k.lines.written;
       tells = p.2.tells;
       is =
           inr (
-            k.bytes,
+            k.lines.bytes,
             rest.0,
             rest.1,
+            may,
             record {
               finding = g.finding;
               path = p.0;
@@ -87,23 +90,28 @@ broken check is_first name t t' out out' heard heard' old new e h p =
               path_is = p.1;
               text_is = refl;
               told_is = refl;
-              new_is = p.2.counts;
+              new_is =
+                  p.2.counts
+                  ∙ ap passed_over (
+                  count
+                  ∙ ap (λ (s : Summary). with_lines s c.blanks old) k.known.summary
+                  ∙ ap (λ (b : ℕ). with_lines (summary_of rule lines) b old) k.known.blanks
+                  );
             },
           );
     }
 
--- what it has is what the shelf gives
-held : (Holds : List ℕ → Type 0) (check : Check) (name : List ℕ) (t : Told) (old new : Tally) → Gives t Holds → (text : List ℕ) (told : List CheckTrouble)
-    → AreRead (MayHave t.bytes) check name old text told new → AreRead Holds check name old text told new
-held Holds check name t old new gives text told (inl r) = inl (r.0, gives r.0 r.1, r.2, r.3)
-held Holds check name t old new gives text told (inr r) = inr (r.0, r.1, gives (r.0 ++ r.1) r.2, r.3)
+-- what it has is what the shelf gives, and it breaks off where what the shelf gives may
+module _ (content : Content) (check : Check) (name : List ℕ) (t : Told) (MayFail : Type 0) (old new : Tally) (gives : Gives t content.Holds) (breaks : MayFail → content.Breaks) where
+  held : (text : List ℕ) (told : List CheckTrouble) → AreRead (opened t MayFail) check name old text told new → AreRead content check name old text told new
+  held text told (inl r) = inl (r.0, gives r.0 r.1, r.2, r.3)
+  held text told (inr r) = inr (r.0, r.1, gives (r.0 ++ r.1) r.2, breaks r.3, r.4)
 
-pub given : (Holds : List ℕ → Type 0) (IsFault : Error → Type 0) (check : Check) (name : List ℕ) (t out out' : Told) (heard heard' : Account CheckTrouble) (old new : Tally)
-    → Gives t Holds → Does out out' heard heard' (λ text told. AreRead (MayHave t.bytes) check name old text told new)
-    → Does out out' heard heard' (λ text told. IsLinesStepOf Holds IsFault check name old text told new)
-given Holds IsFault check name t out out' heard heard' old new gives d =
-    known out out' heard heard' (λ text told. AreRead (MayHave t.bytes) check name old text told new) (λ text told. IsLinesStepOf Holds IsFault check name old text told new) d
-    (λ text told r. inl (held Holds check name t old new gives text told r))
+  pub given : (out out' : Told) (heard heard' : Account CheckTrouble) → Does out out' heard heard' (λ text told. AreRead (opened t MayFail) check name old text told new)
+      → Does out out' heard heard' (λ text told. IsLinesStepOf content check name old text told new)
+  given out out' heard heard' d =
+      known out out' heard heard' (λ text told. AreRead (opened t MayFail) check name old text told new) (λ text told. IsLinesStepOf content check name old text told new) d
+      (λ text told r. inl (held text told r))
 
 -- it can't be opened or read
 pub passed : (IsFault : Error → Type 0) (name : List ℕ) (e : Error) (heard heard' : Account CheckTrouble) (old new : Tally) → IsFault e → (p : PassesUnread name e heard heard' old new)
@@ -111,14 +119,14 @@ pub passed : (IsFault : Error → Type 0) (name : List ℕ) (e : Error) (heard h
 passed IsFault name e heard heard' old new f p =
     record { path = p.0; error = e; path_is = p.1; fails = f; has_memory = p.2.has_memory; text_is = refl; told_is = refl; new_is = p.2.counts }
 
-pub unopened : (Holds : List ℕ → Type 0) (IsFault : Error → Type 0) (check : Check) (name : List ℕ) (e : Error) (out : Told) (heard heard' : Account CheckTrouble) (old new : Tally)
-    → IsFault e → PassesUnread name e heard heard' old new → Does out out heard heard' (λ text told. IsLinesStepOf Holds IsFault check name old text told new)
-unopened Holds IsFault check name e out heard heard' old new f p =
-    heard_alone out heard heard' (trouble.Unreadable p.0 e ∷ []) (λ text told. IsLinesStepOf Holds IsFault check name old text told new) p.2.tells (inr (passed IsFault name e heard heard' old new f p))
+pub unopened : (content : Content) (check : Check) (name : List ℕ) (e : Error) (out : Told) (heard heard' : Account CheckTrouble) (old new : Tally)
+    → content.Fails e → PassesUnread name e heard heard' old new → Does out out heard heard' (λ text told. IsLinesStepOf content check name old text told new)
+unopened content check name e out heard heard' old new f p =
+    heard_alone out heard heard' (trouble.Unreadable p.0 e ∷ []) (λ text told. IsLinesStepOf content check name old text told new) p.2.tells (inr (passed content.Fails name e heard heard' old new f p))
 
 -- the path is standard input, or it isn't
 pub at_path : (b : Bool) (s : Shelved) (check : Check) (path : List ℕ) (out out' : Told) (heard heard' : Account CheckTrouble) (old new : Tally) → b ≡ is_input path
-    → Does out out' heard heard' (λ text told. IsLinesStepOf (GivesBy b s path) (FailsBy b s path) check (if b then codes "<stdin>" else path) old text told new)
+    → Does out out' heard heard' (λ text told. IsLinesStepOf (content_by b s path) check (if b then codes "<stdin>" else path) old text told new)
     → Does out out' heard heard' (λ text told. IsLinesStep s check path old text told new)
 at_path b s check path out out' heard heard' old new e d =
-    subst (λ (c : Bool). Does out out' heard heard' (λ text told. IsLinesStepOf (GivesBy c s path) (FailsBy c s path) check (if c then codes "<stdin>" else path) old text told new)) e d
+    subst (λ (c : Bool). Does out out' heard heard' (λ text told. IsLinesStepOf (content_by c s path) check (if c then codes "<stdin>" else path) old text told new)) e d

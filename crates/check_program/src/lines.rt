@@ -7,15 +7,14 @@ ghost use Rattle.check_files.specs.declared.trouble.CheckFault.TheVariants.{Memo
 ghost use Rattle.open_shelves.specs.Opened.{MayHave};
 ghost use Rattle.source_trees.specs.Readings.{is_input};
 ghost use Rattle.check_program.specs.Begun.{IsLinesStepBegun};
-ghost use Rattle.check_program.specs.Lines.{AreRead, Gives, IsLinesStep, IsLinesStepOf, name_at};
+ghost use Rattle.check_program.specs.Lines.{AreRead, Gives, IsLinesStep, IsLinesStepOf, name_at, of_file, of_input, opened};
 ghost use Rattle.check_program.specs.Unread.{PassesBroken, PassesUnread};
 
 use check_files::{CheckFault, CheckTrouble, Telling, pass_over};
 use check_told::Sums;
 use line_engine::device::{Sink, Source};
-use line_engine::lines::RunFault;
 use open_shelves::OpenShelf;
-use spdx_check::{Check, Checked, check_lines};
+use spdx_check::{Check, Checked, LinesFault, check_lines};
 use std::alloc::Global;
 use std::io;
 
@@ -33,7 +32,7 @@ pub(crate) fn name_at(path: &str) -> &str
 }
 
 /// Writes the findings of the lines of the file, or of standard input, and counts them. Where it can't be opened, or what is read
-/// breaks off, that is told and it is passed over.
+/// breaks off behind these lines, that is told and it is passed over.
 ///
 /// # Errors
 ///
@@ -72,9 +71,8 @@ fn check_input<S: OpenShelf, O: Sink, T: Telling>(
     teller: &mut T,
 ) -> Result<(), CheckFault>
     ensures ok { OnOk result (Does (O.told output.old) (O.told output.new) (T.told teller.old)
-        (T.told teller.new) (λ text told. IsLinesStepOf (S.Shelf.told shelf.now).IsInput
-        (S.Shelf.told shelf.now).InputFails check.now (codes "<stdin>") (tally_of sums.old) text
-        told (tally_of sums.new))) }
+        (T.told teller.new) (λ text told. IsLinesStepOf (of_input (S.Shelf.told shelf.now))
+        check.now (codes "<stdin>") (tally_of sums.old) text told (tally_of sums.new))) }
     ensures err { IfErr result (IsBrokenOff (O.told output.new)) }
     ensures begun { OnErr result (Does (O.told output.old) (O.told output.new)
         (T.told teller.old) (T.told teller.new) (λ text told. IsLinesStepBegun
@@ -97,8 +95,8 @@ fn check_file<S: OpenShelf, O: Sink, T: Telling>(
     teller: &mut T,
 ) -> Result<(), CheckFault>
     ensures ok { OnOk result (Does (O.told output.old) (O.told output.new) (T.told teller.old)
-        (T.told teller.new) (λ text told. IsLinesStepOf ((S.Shelf.told shelf.now).Holds path.now)
-        ((S.Shelf.told shelf.now).Fails path.now) check.now path.now (tally_of sums.old) text told
+        (T.told teller.new) (λ text told. IsLinesStepOf
+        (of_file (S.Shelf.told shelf.now) path.now) check.now path.now (tally_of sums.old) text told
         (tally_of sums.new))) }
     ensures err { IfErr result (IsBrokenOff (O.told output.new)) }
     ensures begun { OnErr result (Does (O.told output.old) (O.told output.new)
@@ -139,8 +137,8 @@ fn check_stream<I: Source + Drop, O: Sink, T: Telling>(
     teller: &mut T,
 ) -> Result<(), CheckFault>
     ensures ok { OnOk result (Does (O.told output.old) (O.told output.new) (T.told teller.old)
-        (T.told teller.new) (λ text told. AreRead (MayHave (I.told input).bytes) check.now name.now
-        (tally_of sums.old) text told (tally_of sums.new))) }
+        (T.told teller.new) (λ text told. AreRead (opened (I.told input) (I.MayFail input))
+        check.now name.now (tally_of sums.old) text told (tally_of sums.new))) }
     ensures err { IfErr result (IsBrokenOff (O.told output.new)) }
     ensures begun { OnErr result (Does (O.told output.old) (O.told output.new)
         (T.told teller.old) (T.told teller.new) (λ text told. IsLinesStepBegun
@@ -151,9 +149,12 @@ fn check_stream<I: Source + Drop, O: Sink, T: Telling>(
             count(sums, checked);
             Ok(())
         }
-        Err(RunFault::Read) => pass_broken(alloc, name, sums, teller),
-        Err(RunFault::Write) => Err(CheckFault::Output),
-        Err(RunFault::Memory) => Err(CheckFault::Memory),
+        Err(LinesFault::Read(checked)) => {
+            count(sums, checked);
+            pass_broken(alloc, name, sums, teller)
+        }
+        Err(LinesFault::Write) => Err(CheckFault::Output),
+        Err(LinesFault::Memory) => Err(CheckFault::Memory),
     }
 }
 

@@ -6,8 +6,8 @@ use Rattle.fix_program.specs.declared.file.Deed.{Deed}
 use Rattle.fix_program.specs.declared.file.Deed.TheVariants as deed
 use Rattle.fix_program.specs.Files.{IsKnown, IsStamped, IsStampedBy}
 
-pub stamped : (input : Bool) (s : Shelved) (path : List ℕ) (stamp : Stamp) (d : Deed) → IsKnown input s path stamp → IsStampedBy input stamp d → IsStamped s path d
-stamped true s path stamp (deed.Replace r) known h = absurd h
-stamped false s path stamp (deed.Replace r) known h = subst (λ x. s.Stamps path x) (sym h) known
-stamped input s path stamp deed.Nothing known h = tt
-stamped input s path stamp (deed.Put text) known h = tt
+pub stamped : (input : Bool) (s : Shelved) (path bytes : List ℕ) (stamp : Stamp) (d : Deed) → IsKnown input s path bytes stamp → IsStampedBy input stamp d → IsStamped s path bytes d
+stamped true s path bytes stamp (deed.Replace r) known h = absurd h
+stamped false s path bytes stamp (deed.Replace r) known h = subst (λ x. s.HoldsAs path bytes x) (sym h) known
+stamped input s path bytes stamp deed.Nothing known h = tt
+stamped input s path bytes stamp (deed.Put text) known h = tt

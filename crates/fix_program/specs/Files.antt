@@ -51,10 +51,10 @@ pub record IsRead (s : Shelved) (is_written : Bool) (path bytes : List ℕ) : Ty
   pub content : IsContentBy (is_input path) s path bytes
   pub writable : IsWritable is_written (is_input path) s path
 
--- by what the file at the path is known; standard input is known by nothing
-abbrev pub IsKnown : Bool → Shelved → List ℕ → Stamp → Type 0
-IsKnown true s path stamp = Unit {0}
-IsKnown false s path stamp = s.Stamps path stamp
+-- by what the file at the path is known to hold these bytes; standard input is known by nothing
+abbrev pub IsKnown : Bool → Shelved → List ℕ → List ℕ → Stamp → Type 0
+IsKnown true s path bytes stamp = Unit {0}
+IsKnown false s path bytes stamp = s.HoldsAs path bytes stamp
 
 -- it can't be read, as it is told; nothing is said of memory
 abbrev pub IsUnreadAs : List ℕ → (Error → Type 0) → FixTrouble → Type 0
@@ -125,10 +125,10 @@ IsStampedBy true stamp (deed.Replace r) = ⊥
 IsStampedBy false stamp (deed.Replace r) = r.stamp ≡ stamp
 IsStampedBy input stamp d = Unit {0}
 
--- what is to take the file's place is known by what the file was known by
-abbrev pub IsStamped : Shelved → List ℕ → Deed → Type 0
-IsStamped s path (deed.Replace r) = s.Stamps path r.stamp
-IsStamped s path d = Unit {0}
+-- what is to take the file's place has that by which the file is known to hold these bytes
+abbrev pub IsStamped : Shelved → List ℕ → List ℕ → Deed → Type 0
+IsStamped s path bytes (deed.Replace r) = s.HoldsAs path bytes r.stamp
+IsStamped s path bytes d = Unit {0}
 
 -- what is done where these bytes, mended, are the new ones
 abbrev pub IsDeed : Bool → Parts → List ℕ → List ℕ → Option (Vec ℕ) → Deed → Type 0
@@ -155,7 +155,7 @@ pub record IsFixedAt (s : Shelved) (c : Rows) (is_written : Bool) (p : Parts) (p
   pub reads : IsRead s is_written path bytes
   pub mends : IsMended c p (read_as is_written path) bytes outcome
   pub does : IsDeed is_written p path bytes outcome.bytes fixed.deed
-  pub stamped : IsStamped s path fixed.deed
+  pub stamped : IsStamped s path bytes fixed.deed
   pub left_is : fixed.is_left ≡ outcome.is_left
 
 -- what is read is no manifest of its form

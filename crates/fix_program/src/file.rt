@@ -161,7 +161,7 @@ fn read_at<S: Shelf>(
     ensures ok { IfOk result (λ file.
         IsRead (S.told shelf.now) is_written path.now file.bytes.items) }
     ensures known { IfOk result (λ file.
-        IsKnown (is_input path.now) (S.told shelf.now) path.now file.stamp) }
+        IsKnown (is_input path.now) (S.told shelf.now) path.now file.bytes.items file.stamp) }
     ensures err { IfErr result (IsUnread (S.told shelf.now) is_written path.now) }
 {
     if path == "-" {
@@ -188,7 +188,8 @@ fn input<S: Shelf>(alloc: Global, shelf: &S) -> Result<Stamped, FixTrouble>
 
 fn regular_file<S: Shelf>(alloc: Global, shelf: &S, path: &str) -> Result<Stamped, FixTrouble>
     ensures ok { IfOk result (λ file. (S.told shelf.now).Holds path.now file.bytes.items) }
-    ensures stamp { IfOk result (λ file. (S.told shelf.now).Stamps path.now file.stamp) }
+    ensures stamp { IfOk result (λ file.
+        (S.told shelf.now).HoldsAs path.now file.bytes.items file.stamp) }
     ensures regular { OnOk result (IsRegular (S.told shelf.now) path.now) }
     ensures err { IfErr result (IsNotRegular (S.told shelf.now) path.now) }
 {
@@ -201,7 +202,8 @@ fn regular_file<S: Shelf>(alloc: Global, shelf: &S, path: &str) -> Result<Stampe
 
 fn file<S: Shelf>(alloc: Global, shelf: &S, path: &str) -> Result<Stamped, FixTrouble>
     ensures ok { IfOk result (λ file. (S.told shelf.now).Holds path.now file.bytes.items) }
-    ensures stamp { IfOk result (λ file. (S.told shelf.now).Stamps path.now file.stamp) }
+    ensures stamp { IfOk result (λ file.
+        (S.told shelf.now).HoldsAs path.now file.bytes.items file.stamp) }
     ensures err { IfErr result (IsUnreadAs path.now ((S.told shelf.now).Fails path.now)) }
 {
     match shelf.read_stamped(alloc, path) {

@@ -90,3 +90,9 @@ pub record HasWrittenLines (rule : Rule) (d : Devices) : Type 0 where
   pub bytes : List ℕ
   pub read : Consumes d.input.bytes d.input'.bytes bytes
   pub written : Appends d.output.bytes d.output'.bytes (text_of rule (cut bytes).whole)
+
+-- the same, and this is known of those lines
+pub record HasWrittenBehind (rule : Rule) (IsKnown : List (List ℕ) → Type 0)
+    (d : Devices) : Type 0 where
+  pub lines : HasWrittenLines rule d
+  pub known : IsKnown (cut lines.bytes).whole

@@ -16,6 +16,9 @@ pub trait Source {
     // How many bytes it gives at most, whether it tells them or not.
     ghost left: { Self → ℕ };
 
+    // What is known of one that has failed, since only such may fail.
+    ghost MayFail: { Self → Type 0 } = { λ _. Unit {0} };
+
     /// Reads into the front of the buffer, and says how many bytes it read: none only at the end of the input, or
     /// where the buffer is empty. `Err` reads none, and each later read is `Err` too.
     fn read(&mut self, buffer: &mut [u8]) -> Result<usize, Failed>
@@ -23,11 +26,14 @@ pub trait Source {
         ensures bytes { ReadConsumes (told self.old).bytes (told self.new).bytes result buffer.new }
         ensures falls { FallsByCount (left self.old) (left self.new) result }
         ensures marks { (told self.new).has_failed ≡ is_err result }
-        ensures stays { (told self.old).has_failed ≡ true → IsErr result };
+        ensures stays { (told self.old).has_failed ≡ true → IsErr result }
+        ensures fails { IsErr result → MayFail self.old }
+        ensures same { MayFail self.new → MayFail self.old };
 
     /// Whether a read has failed.
     fn failed(&self) -> bool
-        ensures { result ≡ (told self.now).has_failed };
+        ensures failed { result ≡ (told self.now).has_failed }
+        ensures fails { result ≡ true → MayFail self.now };
 }
 
 /// What takes bytes, until it fails.

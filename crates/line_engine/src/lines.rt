@@ -5,7 +5,7 @@ ghost use Rattle.std.specs.Io.KnownBytes.{Appends};
 ghost use Rattle.line_engine.specs.Lines.{lines_of, HasNoNewline};
 ghost use Rattle.line_engine.specs.Device.{devices};
 ghost use Rattle.line_engine.specs.Output.{count_line};
-ghost use Rattle.line_engine.specs.Progress.{AppendsBeginning, state, HasPut, HasPutAll, HasKept, HasEnded, HasRunBehind};
+ghost use Rattle.line_engine.specs.Progress.{AppendsBeginning, state, HasPut, HasPutAll, HasKept, HasEnded, HasRunBehind, HasWrittenBehind};
 ghost use Rattle.line_engine.specs.Runs.{Runs};
 ghost use Rattle.line_engine.specs.declared.lines.RunFault.TheVariants.{Memory as MemoryFault};
 
@@ -224,7 +224,8 @@ fn put_last<V: Verdicts>(alloc: Global, verdicts: &mut V, kept: &mut Kept) -> Re
 ///
 /// `Read` comes exactly where the input has failed, and `Write` only where the output has. After a fault, also one of
 /// memory, what was written is a beginning of the answers to the lines that were read whole; after `Read` it is all of
-/// them. At Ok what the answerer says of itself behind its lines is known of the lines of the input.
+/// them. At Ok what the answerer says of itself behind its lines is known of the lines of the input; after `Read` what it
+/// says of the lines that it has answered is known of those that were read whole.
 pub fn run_in<V: Verdicts, I: Source, O: Sink>(
     alloc: Global,
     verdicts: &mut V,
@@ -240,6 +241,10 @@ pub fn run_in<V: Verdicts, I: Source, O: Sink>(
     ensures rule { V.rule verdicts.new ≡ V.rule verdicts.old }
     ensures closed { IfOk result (HasRunBehind (V.rule verdicts.old) (V.HasClosed verdicts.new)
         (devices (I.told input.old) (I.told input.new) (O.told output.old) (O.told output.new))) }
+    ensures broken { IsErrOf result RunFault.Read →
+        HasWrittenBehind (V.rule verdicts.old) (V.HasAnswered verdicts.new)
+        (devices (I.told input.old) (I.told input.new) (O.told output.old) (O.told output.new)) }
+    ensures fails { IsErrOf result RunFault.Read → I.MayFail input.old }
 {
     let mut kept = Kept {
         line: Vec::new(alloc),
@@ -278,7 +283,9 @@ fn room(alloc: Global) -> Result<Vec<u8>, AllocError>
 
 // The fault of a run that found no such room: `Read` has to come if the input has failed before.
 fn unread<I: Source>(input: &I) -> RunFault
-    ensures { result ≡ (if (I.told input.now).has_failed then RunFault.Read else RunFault.Memory) }
+    ensures fault { result ≡
+        (if (I.told input.now).has_failed then RunFault.Read else RunFault.Memory) }
+    ensures fails { result ≡ RunFault.Read → I.MayFail input.now }
 {
     if input.failed() {
         RunFault::Read
@@ -302,6 +309,10 @@ pub fn run<V: Verdicts, I: Source, O: Sink>(
     ensures rule { V.rule verdicts.new ≡ V.rule verdicts.old }
     ensures closed { IfOk result (HasRunBehind (V.rule verdicts.old) (V.HasClosed verdicts.new)
         (devices (I.told input.old) (I.told input.new) (O.told output.old) (O.told output.new))) }
+    ensures broken { IsErrOf result RunFault.Read →
+        HasWrittenBehind (V.rule verdicts.old) (V.HasAnswered verdicts.new)
+        (devices (I.told input.old) (I.told input.new) (O.told output.old) (O.told output.new)) }
+    ensures fails { IsErrOf result RunFault.Read → I.MayFail input.old }
 {
     let Ok(mut buffer) = room(alloc) else {
         return Err(unread(input));

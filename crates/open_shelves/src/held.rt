@@ -1,39 +1,55 @@
 // The shelf of values.
 
-ghost use Rattle.std.specs.Prelude.{◌≡◌, IfErr, IfOk};
-ghost use Rattle.std.specs.IoError.{error_kind};
-ghost use Rattle.std.specs.declared.io.ErrorKind.TheVariants.{OutOfMemory};
+ghost use Rattle.std.specs.Prelude.{◌≤◌, ◌-◌, Some, false, drop, length};
+ghost use Rattle.line_engine.specs.Device.{told};
 
 use crate::open::OpenShelf;
-use line_engine::stream::Input;
+use line_engine::device::{Failed, Source};
 use shelves::{Held, Shelf};
-use std::alloc::{AllocError, Global};
-use std::collections::VecDeque;
-use std::io::{self, ErrorKind};
+use std::alloc::Global;
+use std::io;
 
-// A queue of the bytes.
-fn queue_of(alloc: Global, bytes: &[u8]) -> Result<VecDeque<u8>, AllocError>
-    ensures { IfOk result (λ queue. queue.items ≡ bytes.now) }
-{
-    let mut queue = VecDeque::new(alloc);
-    for byte in bytes {
-        queue.push_back(*byte)?;
+/// Gives its bytes, and never fails.
+#[derive(Drop)]
+pub struct HeldBytes {
+    bytes: Vec<u8>,
+    // How many of them were given.
+    given: usize,
+    ghost within: { given ≤ length bytes.items },
+}
+
+impl Source for HeldBytes {
+    ghost told = { λ held. told (Some (drop held.given held.bytes.items)) false };
+
+    ghost left = { λ held. length held.bytes.items - held.given };
+
+    ghost MayFail = { λ _. ⊥ };
+
+    fn read(&mut self, buffer: &mut [u8]) -> Result<usize, Failed> {
+        let rest = &self.bytes[self.given..];
+        let count = buffer.len().min(rest.len());
+        buffer[..count].copy_from_slice(&rest[..count]);
+        self.given += count;
+        Ok(count)
     }
-    Ok(queue)
+
+    fn failed(&self) -> bool {
+        false
+    }
 }
 
 impl OpenShelf for Held {
-    type File = Input<VecDeque<u8>>;
+    type File = HeldBytes;
 
-    type Stdin = Input<VecDeque<u8>>;
+    type Stdin = HeldBytes;
 
-    fn open(&self, alloc: Global, path: &str) -> io::Result<Input<VecDeque<u8>>> {
+    fn open(&self, alloc: Global, path: &str) -> io::Result<HeldBytes> {
         let bytes = self.read(alloc, path)?;
-        Ok(Input::new(queue_of(alloc, &bytes)?))
+        Ok(HeldBytes { bytes, given: 0 })
     }
 
-    fn open_input(&self, alloc: Global) -> io::Result<Input<VecDeque<u8>>> {
+    fn open_input(&self, alloc: Global) -> io::Result<HeldBytes> {
         let bytes = self.input(alloc)?;
-        Ok(Input::new(queue_of(alloc, &bytes)?))
+        Ok(HeldBytes { bytes, given: 0 })
     }
 }

@@ -13,5 +13,6 @@ mod held;
 pub mod open;
 mod system;
 
+pub use crate::held::HeldBytes;
 pub use crate::open::OpenShelf;
 pub use crate::system::OpenSystem;

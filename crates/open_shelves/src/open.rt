@@ -8,7 +8,7 @@ use shelves::Shelf;
 use std::alloc::Global;
 use std::io;
 
-/// A shelf that gives its files and its input piece by piece, too.
+/// A shelf that gives its files and its input piece by piece, too, and says of which of them a read may fail.
 pub trait OpenShelf: Shelf {
     type File: Source + Drop;
 
@@ -22,6 +22,8 @@ pub trait OpenShelf: Shelf {
     fn open(&self, alloc: Global, path: &str) -> io::Result<Self::File>
         ensures ok { IfOk result (λ file.
             Gives (Self.File.told file) ((Self.Shelf.told self.now).Holds path.now)) }
+        ensures breaks { IfOk result (λ file.
+            Self.File.MayFail file → (Self.Shelf.told self.now).Breaks path.now) }
         ensures err { IfErr result (λ error. (Self.Shelf.told self.now).Fails path.now error) };
 
     /// Gives the bytes of standard input.
@@ -32,5 +34,7 @@ pub trait OpenShelf: Shelf {
     fn open_input(&self, alloc: Global) -> io::Result<Self::Stdin>
         ensures ok { IfOk result (λ input.
             Gives (Self.Stdin.told input) (Self.Shelf.told self.now).IsInput) }
+        ensures breaks { IfOk result (λ input.
+            Self.Stdin.MayFail input → (Self.Shelf.told self.now).InputBreaks) }
         ensures err { IfErr result (λ error. (Self.Shelf.told self.now).InputFails error) };
 }

@@ -10,7 +10,6 @@ use Rattle.shelves.specs.declared.held.HeldFolder.{HeldFolder}
 use Rattle.shelves.specs.declared.held.HeldVariable.{HeldVariable}
 use Rattle.shelves.specs.declared.held.HeldLink.{HeldLink}
 use Rattle.shelves.specs.declared.shelf.Kind.{Kind}
-use Rattle.shelves.specs.declared.shelf.Stamp.{Stamp}
 use Rattle.shelves.specs.declared.shelf.Kind.TheVariants as kind
 use Rattle.shelves.specs.Shelf.{Named, Shelved, entry_of}
 
@@ -57,14 +56,12 @@ abbrev pub IsFault : Option (List ℕ) → Option (List Named) → Error → Typ
 IsFault bytes entries error = (error_kind error ≡ OutOfMemory) ⊎
     ((error_kind error ≡ NotFound) × ((bytes ≡ None) ⊎ (entries ≡ None)))
 
--- a file is known by its length alone
-abbrev pub IsStamp : Option (List ℕ) → Stamp → Type 0
-IsStamp bytes stamp = option_map length bytes ≡ Some stamp.length
-
+-- a file is known by its length alone, and nothing breaks off
 abbrev pub shelved : Held → Shelved
 shelved shelf = record {
   Holds = λ path bytes. bytes_at shelf.files.items path ≡ Some bytes;
-  Stamps = λ path stamp. IsStamp (bytes_at shelf.files.items path) stamp;
+  HoldsAs = λ path bytes stamp.
+      (bytes_at shelf.files.items path ≡ Some bytes) × (stamp.length ≡ length bytes);
   IsFolder = λ path is. has_folder shelf.folders.items path ≡ is;
   IsOf = λ path kind. kind_at shelf path ≡ Some kind;
   Lists = λ path entries unnamed.
@@ -72,8 +69,10 @@ shelved shelf = record {
   IsReal = λ path real. real_path shelf.links.items path ≡ real;
   Fails = λ path error.
       IsFault (bytes_at shelf.files.items path) (entries_at shelf.folders.items path) error;
+  Breaks = λ path. ⊥;
   Says = λ name text. says shelf.variables.items name ≡ text;
   IsNoText = λ name. ⊥;
   IsInput = λ bytes. shelf.input.items ≡ bytes;
   InputFails = λ error. error_kind error ≡ OutOfMemory;
+  InputBreaks = ⊥;
 }

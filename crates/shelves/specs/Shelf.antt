@@ -13,12 +13,12 @@ pub record Named : Type 0 where
 abbrev pub entry_of : Entry → Named
 entry_of e = record { name = string_bytes e.name; kind = e.kind }
 
--- which bytes the file at a path holds and by what it is known, what is there, what is in a folder,
--- what a variable says, and which bytes the input has; and of each why it isn't told
+-- which bytes the file at a path holds and by what it is known then, what is there, what is in a
+-- folder, what a variable says, and which bytes the input has; and of each why it isn't told
 pub record Shelved : Type 1 where
   pub Holds : List ℕ → List ℕ → Type 0
-  -- the file at the path is known by this
-  pub Stamps : List ℕ → Stamp → Type 0
+  -- the file at the path holds these bytes, and by this it is known to hold them still
+  pub HoldsAs : List ℕ → List ℕ → Stamp → Type 0
   pub IsFolder : List ℕ → Bool → Type 0
   -- this stands at the path, or where the link there leads
   pub IsOf : List ℕ → Kind → Type 0
@@ -28,24 +28,29 @@ pub record Shelved : Type 1 where
   pub IsReal : List ℕ → List ℕ → Type 0
   -- what is at the path can't be looked at, or not be read
   pub Fails : List ℕ → Error → Type 0
+  -- what is read piece by piece of the path may break off
+  pub Breaks : List ℕ → Type 0
   pub Says : List ℕ → Option (List ℕ) → Type 0
   -- the variable is no UTF-8
   pub IsNoText : List ℕ → Type 0
   pub IsInput : List ℕ → Type 0
   pub InputFails : Error → Type 0
+  pub InputBreaks : Type 0
 
 -- what tells nothing
 abbrev pub silent : Shelved
 silent = record {
   Holds = λ path bytes. Unit {0};
-  Stamps = λ path stamp. Unit {0};
+  HoldsAs = λ path bytes stamp. Unit {0};
   IsFolder = λ path is. Unit {0};
   IsOf = λ path kind. Unit {0};
   Lists = λ path entries unnamed. Unit {0};
   IsReal = λ path real. Unit {0};
   Fails = λ path error. Unit {0};
+  Breaks = λ path. Unit {0};
   Says = λ name text. Unit {0};
   IsNoText = λ name. Unit {0};
   IsInput = λ bytes. Unit {0};
   InputFails = λ error. Unit {0};
+  InputBreaks = Unit {0};
 }

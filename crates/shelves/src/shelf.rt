@@ -79,7 +79,8 @@ pub trait Shelf {
     /// As of `read`.
     fn read_stamped(&self, alloc: Global, path: &str) -> io::Result<Stamped>
         ensures ok { IfOk result (λ file. (told self.now).Holds path.now file.bytes.items) }
-        ensures stamp { IfOk result (λ file. (told self.now).Stamps path.now file.stamp) }
+        ensures stamp { IfOk result (λ file.
+            (told self.now).HoldsAs path.now file.bytes.items file.stamp) }
         ensures err { IfErr result (λ error. (told self.now).Fails path.now error) };
 
     /// Whether a folder is at the path.

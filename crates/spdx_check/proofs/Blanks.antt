@@ -12,13 +12,14 @@ use Rattle.std.proofs.lemmas.List.Folds.{list_all-append}
 use Rattle.std.proofs.lemmas.List.Sums.{sum_by-cons}
 use Rattle.line_engine.specs.declared.lines.Summary.{Summary}
 use Rattle.line_engine.specs.Device.{Devices}
-use Rattle.line_engine.specs.Lines.{lines_of}
+use Rattle.line_engine.specs.Lines.{cut, lines_of}
 use Rattle.line_engine.specs.Output.{capped}
-use Rattle.line_engine.specs.Progress.{HasRunBehind}
+use Rattle.line_engine.specs.Progress.{HasRunBehind, HasWrittenBehind}
 use Rattle.line_engine.specs.Rule.{Rule}
 use Rattle.finding_forms.specs.declared.forms.Format.{Format}
 use Rattle.spdx_check.specs.Finding.{Wrong}
-use Rattle.spdx_check.specs.Checking.{blank_count, expression_of, is_blank, is_white, finding_in_line, found_text, found_in, spot_behind, rule_by, LeavesOutWhite}
+use Rattle.spdx_check.specs.declared.lines.Checked.{Checked}
+use Rattle.spdx_check.specs.Checking.{AreCounted, blank_count, expression_of, is_blank, is_white, finding_in_line, found_text, found_in, spot_behind, rule_by, LeavesOutWhite}
 
 -- a carriage return at the end is white, so a line is white exactly if its expression is
 ending_white : (line : List ℕ) (last : ℕ) → nat_eq (get_or line last 0) 13 ≡ true → length line ≤ last + 1 → list_all is_ascii_whitespace (drop last line) ≡ true
@@ -76,3 +77,27 @@ blank_count-is (line ∷ lines) =
 pub counts_white : (rule : Rule) (d : Devices) (summary : Summary) (blanks : ℕ) → HasRunBehind rule (λ lines. blanks ≡ capped (blank_count lines)) d summary
     → HasRunBehind rule (λ lines. blanks ≡ capped (count_by is_white lines)) d summary
 counts_white rule d summary blanks h = record { run = h.run; known = h.known ∙ ap capped (blank_count-is (lines_of h.run.bytes)) }
+
+-- ---- what is counted where the input fails
+
+same_summary : (s : Summary) (lines refused : ℕ) → s.lines ≡ lines → s.refused ≡ refused → s ≡ record { lines = lines; refused = refused }
+same_summary s lines refused e f =
+    ap (λ (n : ℕ). record { lines = n; refused = s.refused }) e ∙ ap (λ (n : ℕ). record { lines = lines; refused = n }) f
+
+module _ (rule : Rule) where
+  -- of the lines that are answered these are the counts
+  pub record AreCounts (lines blanks refused : ℕ) (answered : List (List ℕ)) : Type 0 where
+    pub lines_are : lines ≡ capped (length answered)
+    pub blanks_are : blanks ≡ capped (blank_count answered)
+    pub refused_are : refused ≡ capped (count_by rule.refuses answered)
+
+  counted : (c : Checked) (answered : List (List ℕ)) → AreCounts c.summary.lines c.blanks c.summary.refused answered → AreCounted rule answered c
+  counted c answered h = record {
+    summary = same_summary c.summary (capped (length answered)) (capped (count_by rule.refuses answered)) h.lines_are h.refused_are;
+    blanks = h.blanks_are ∙ ap capped (blank_count-is answered);
+  }
+
+  pub counts_broken : (d : Devices) (c : Checked) (IsKnown : List (List ℕ) → Type 0)
+      → ((answered : List (List ℕ)) → IsKnown answered → AreCounts c.summary.lines c.blanks c.summary.refused answered) → HasWrittenBehind rule IsKnown d
+      → HasWrittenBehind rule (λ lines. AreCounted rule lines c) d
+  counts_broken d c IsKnown known h = record { lines = h.lines; known = counted c (cut h.lines.bytes).whole (known (cut h.lines.bytes).whole h.known) }

@@ -1,13 +1,14 @@
 -- What is written of the expressions of a file.
-use Rattle.std.specs.Prelude.{◌≡◌, ℕ, ◌+◌, ◌-◌, ◌==◌, Bool, true, false, ◌&&◌, not, List, [], ◌∷◌, ◌++◌, length, map, take, slice_index, Option, None, Some, is_some, Result, IfOk, count_by, if◌then◌else◌}
+use Rattle.std.specs.Prelude.{◌≡◌, ℕ, ◌+◌, ◌-◌, ◌==◌, Bool, true, false, ◌&&◌, not, List, [], ◌∷◌, ◌++◌, length, map, take, slice_index, Option, None, Some, is_some, Result, IfErr, IfOk, count_by, if◌then◌else◌}
 use Rattle.std.specs.Char.{is_ascii_whitespace}
 use Rattle.std.specs.List.{filter_map, list_all, list_any}
 use Rattle.std.specs.Result.{result_map_both}
 use Rattle.line_engine.specs.declared.lines.RunFault.{RunFault}
+use Rattle.line_engine.specs.declared.lines.RunFault.TheVariants as run
 use Rattle.line_engine.specs.declared.lines.Summary.{Summary}
 use Rattle.line_engine.specs.Device.{Devices}
-use Rattle.line_engine.specs.Output.{capped}
-use Rattle.line_engine.specs.Progress.{HasRunBehind}
+use Rattle.line_engine.specs.Output.{capped, summary_of}
+use Rattle.line_engine.specs.Progress.{HasRunBehind, HasWrittenBehind}
 use Rattle.line_engine.specs.Rule.{Rule}
 use Rattle.line_engine.specs.Runs.{Runs}
 use Rattle.spdx_list.specs.Files.{InsteadRow}
@@ -19,6 +20,8 @@ use Rattle.finding_forms.specs.Finding.{Seen, Told, seen_alone, seen_of}
 use Rattle.finding_forms.specs.Forms.{finding_text}
 use Rattle.spdx_check.specs.declared.check.Check.{Check}
 use Rattle.spdx_check.specs.declared.lines.Checked.{Checked}
+use Rattle.spdx_check.specs.declared.lines.LinesFault.{LinesFault}
+use Rattle.spdx_check.specs.declared.lines.LinesFault.TheVariants as fault
 use Rattle.spdx_check.specs.Finding.{Wrong, IsTheFinding}
 
 -- what is said to be written in place of names
@@ -93,6 +96,10 @@ spot_behind file before = record { file = file; line = capped (length before + 1
 abbrev pub have_finding : (List ℕ → Option Wrong) → List (List ℕ) → Bool
 have_finding finding lines = list_any (λ line. is_some (finding_in_line finding line)) lines
 
+-- how many of them have one
+abbrev pub refused_count : (List ℕ → Option Wrong) → List (List ℕ) → ℕ
+refused_count finding lines = count_by (λ line. is_some (finding_in_line finding line)) lines
+
 -- each line gives its finding, if it has one; nothing stands behind them all
 abbrev pub rule_by : (List ℕ → Option Wrong) → Format → Bool → List ℕ → Rule
 rule_by finding format is_first file = record {
@@ -131,15 +138,34 @@ pub record LeavesOutWhite (finding : List ℕ → Option Wrong) (rule : Rule) : 
 
 -- ---- a run
 
+abbrev pub run_fault : LinesFault → RunFault
+run_fault (fault.Read c) = run.Read
+run_fault fault.Write = run.Write
+run_fault fault.Memory = run.Memory
+
 -- the lines and the refused ones
-abbrev pub summary_in : Result Checked RunFault → Result Summary RunFault
-summary_in result =
-    result_map_both (λ (c : Checked). c.summary) (λ (fault : RunFault). fault) result
+abbrev pub summary_in : Result Checked LinesFault → Result Summary RunFault
+summary_in result = result_map_both (λ (c : Checked). c.summary) run_fault result
+
+-- what is counted in lines: they, the refused ones, and those of white space
+pub record AreCounted (rule : Rule) (lines : List (List ℕ)) (c : Checked) : Type 0 where
+  pub summary : c.summary ≡ summary_of rule lines
+  pub blanks : c.blanks ≡ capped (count_by is_white lines)
+
+-- where the input has failed those are counted that were read whole
+abbrev pub CountsBroken : Rule → Devices → LinesFault → Type 0
+CountsBroken rule d (fault.Read c) = HasWrittenBehind rule (λ lines. AreCounted rule lines c) d
+CountsBroken rule d f = Unit {0}
+
+-- the input is said to have failed only where this is so
+abbrev pub FailsIfBroken : Type 0 → LinesFault → Type 0
+FailsIfBroken MayFail (fault.Read c) = MayFail
+FailsIfBroken MayFail f = Unit {0}
 
 -- the run writes the finding of each line that has one, and counts the lines; one of white space
 -- has none, and those are counted apart
 pub record ChecksLines (check : Check) (is_first : Bool) (file : List ℕ) (d : Devices)
-    (result : Result Checked RunFault) : Type 0 where
+    (result : Result Checked LinesFault) : Type 0 where
   pub finding : List ℕ → Option Wrong
   pub findings : (bytes : List ℕ) →
       IsTheFinding check.catalogue.now (heirs_in check) check.mode bytes (finding bytes)
@@ -148,3 +174,4 @@ pub record ChecksLines (check : Check) (is_first : Bool) (file : List ℕ) (d : 
   pub counts : IfOk result
       (λ (c : Checked). HasRunBehind (rule_by finding check.format is_first file)
       (λ lines. c.blanks ≡ capped (count_by is_white lines)) d c.summary)
+  pub broken : IfErr result (CountsBroken (rule_by finding check.format is_first file) d)

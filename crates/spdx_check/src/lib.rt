@@ -17,6 +17,6 @@ mod remembered;
 mod totals;
 
 pub use crate::check::Check;
-pub use crate::lines::{Checked, check_lines, expression_of};
+pub use crate::lines::{Checked, LinesFault, check_lines, expression_of};
 pub use crate::refusals::{Refusal, refusal_of};
 pub use crate::totals::Totals;

@@ -1,9 +1,9 @@
 // The lines of a file.
 
-ghost use Rattle.std.specs.Prelude.{◌≡◌, ◌++◌, IfOk, OnOk, is_some, length};
+ghost use Rattle.std.specs.Prelude.{◌≡◌, ◌++◌, IfErr, IfOk, OnOk, is_some, length};
 ghost use Rattle.line_engine.specs.Device.{devices};
 ghost use Rattle.line_engine.specs.Output.{capped};
-ghost use Rattle.spdx_check.specs.Checking.{ChecksLines, blank_count, expression_of, found_text, have_finding, heirs_in, is_blank};
+ghost use Rattle.spdx_check.specs.Checking.{ChecksLines, FailsIfBroken, blank_count, expression_of, found_text, have_finding, heirs_in, is_blank, refused_count};
 ghost use Rattle.spdx_check.specs.Found.{finding_of, rule_of};
 ghost use Rattle.spdx_check.specs.Known.{AreHeld, spot_in};
 
@@ -43,15 +43,27 @@ pub struct Checked {
     pub blanks: u64,
 }
 
+/// Why the lines of a file weren't all checked.
+#[derive(Clone, Copy)]
+pub enum LinesFault {
+    /// The input has failed: what was counted in the lines that were read whole.
+    Read(Checked),
+    /// The output has failed.
+    Write,
+    /// Memory was refused.
+    Memory,
+}
+
 // A file whose lines are checked one after the other.
 #[derive(Drop)]
 struct File<'f, 'c> {
     check: &'f Check<'c>,
     name: &'f str,
     is_first: bool,
-    // How many lines are checked, how many of them are blank, and whether one was refused.
+    // How many lines are checked, how many of them are blank and how many are refused, and whether one was.
     lines: u64,
     blanks: u64,
+    refused: u64,
     has_finding: bool,
     remembered: Remembered<'c>,
     ghost known: { AreHeld check.now name.now remembered.slots.items },
@@ -100,6 +112,8 @@ impl Verdicts for File<'_, '_> {
 
     ghost HasAnswered = { λ file lines. (file.lines ≡ capped (length lines))
         × (file.blanks ≡ capped (blank_count lines))
+        × (file.refused ≡ capped (refused_count (finding_of file.check.now.catalogue.now
+        (heirs_in file.check.now) file.check.now.mode) lines))
         × (file.has_finding ≡
         have_finding (finding_of file.check.now.catalogue.now (heirs_in file.check.now)
         file.check.now.mode) lines) };
@@ -131,12 +145,32 @@ impl Verdicts for File<'_, '_> {
             text,
         )?;
         self.lines = number;
-        self.has_finding = self.has_finding || is_refused;
+        if is_refused {
+            self.refused = self.refused.saturating_add(1);
+            self.has_finding = true;
+        }
         Ok(is_refused)
     }
 
     fn close(&mut self, _alloc: Global, _text: &mut Vec<u8>) -> Result<(), AllocError> {
         Ok(())
+    }
+}
+
+impl File<'_, '_> {
+    // What is counted in the lines that are checked.
+    fn counted(&self) -> Checked
+        ensures lines { result.summary.lines ≡ self.now.lines }
+        ensures refused { result.summary.refused ≡ self.now.refused }
+        ensures blanks { result.blanks ≡ self.now.blanks }
+    {
+        Checked {
+            summary: Summary {
+                lines: self.lines,
+                refused: self.refused,
+            },
+            blanks: self.blanks,
+        }
     }
 }
 
@@ -150,7 +184,7 @@ impl Verdicts for File<'_, '_> {
 /// The input is read by pieces of 16,384 bytes, and the findings of the lines that end in a piece are written together
 /// before the input is read on; the output is flushed once, at the end. `Read` comes exactly where the input has failed,
 /// and `Write` only where the output has. After a fault, also one of memory, what was written is a beginning of the
-/// findings of the lines that were read whole; after `Read` it is all of them.
+/// findings of the lines that were read whole; after `Read` it is all of them, and these lines are counted.
 pub fn check_lines<I: Source, O: Sink>(
     alloc: Global,
     check: &Check<'_>,
@@ -158,10 +192,11 @@ pub fn check_lines<I: Source, O: Sink>(
     file: &str,
     input: &mut I,
     output: &mut O,
-) -> Result<Checked, RunFault>
-    ensures { ChecksLines check.now is_first file.now
+) -> Result<Checked, LinesFault>
+    ensures checks { ChecksLines check.now is_first file.now
         (devices (I.told input.old) (I.told input.new) (O.told output.old) (O.told output.new))
         result }
+    ensures fails { IfErr result (FailsIfBroken (I.MayFail input.old)) }
 {
     let mut lines = File {
         check,
@@ -169,12 +204,17 @@ pub fn check_lines<I: Source, O: Sink>(
         is_first,
         lines: 0,
         blanks: 0,
+        refused: 0,
         has_finding: false,
         remembered: Remembered::new(alloc),
     };
-    let summary = run(alloc, &mut lines, input, output)?;
-    Ok(Checked {
-        summary,
-        blanks: lines.blanks,
-    })
+    match run(alloc, &mut lines, input, output) {
+        Ok(summary) => Ok(Checked {
+            summary,
+            blanks: lines.blanks,
+        }),
+        Err(RunFault::Read) => Err(LinesFault::Read(lines.counted())),
+        Err(RunFault::Write) => Err(LinesFault::Write),
+        Err(RunFault::Memory) => Err(LinesFault::Memory),
+    }
 }

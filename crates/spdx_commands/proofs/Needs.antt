@@ -78,7 +78,7 @@ module _ (s : Shelved) (inside : InsideBytes) (a : Request) where
     abbrev of_run : Setting
     of_run = setting s c a.breaks_links
 
-    needed_at : (p : Parts) (path : List ℕ) (f : Fixed) (r : Replacement) (answer : Result Loss Obstacle) (h : IsFixedAt s c true p path f) → IsOf true path h.outcome.bytes r → s.Stamps path r.stamp
+    needed_at : (p : Parts) (path : List ℕ) (f : Fixed) (r : Replacement) (answer : Result Loss Obstacle) (h : IsFixedAt s c true p path f) → IsOf true path h.outcome.bytes r → s.HoldsAs path h.bytes r.stamp
         → IsNeeded s inside a (attempt path r.stamp a.breaks_links r.bytes.items answer)
     needed_at p path f r answer h of stamped = record {
       catalogue = c;
@@ -102,7 +102,7 @@ module _ (s : Shelved) (inside : InsideBytes) (a : Request) where
     fixed_for false p path f r answer h is = absurd (let bad : false ≡ true = (of_fixed false p path f r h is).is_written in cc)
     fixed_for true p path f r answer h is =
         let of = of_fixed true p path f r h is in
-        let needed = needed_at p path f r answer h of (subst (files.IsStamped s path) is h.stamped) in
+        let needed = needed_at p path f r answer h of (subst (files.IsStamped s path h.bytes) is h.stamped) in
         (refl, subst (λ (q : List ℕ). IsNeeded s inside a (attempt q r.stamp a.breaks_links r.bytes.items answer)) of.path_is needed)
 
     -- ---- what is done

@@ -317,8 +317,8 @@ pub data IsFixStopped (s : Shelved) (inside : InsideBytes) (a : Request) (old ne
 
 -- ---- laws
 
--- by the list that is named the file was read and mended, and it is to hold what came of that; some
--- expression in it was refused
+-- by the list that is named the file was read and mended, and it is to hold what came of that, where
+-- it is still known to hold what was read; some expression in it was refused
 pub record IsNeeded (s : Shelved) (inside : InsideBytes) (a : Request) (t : Attempt) :
     Type 0 where
   pub catalogue : Rows
@@ -327,7 +327,7 @@ pub record IsNeeded (s : Shelved) (inside : InsideBytes) (a : Request) (t : Atte
   pub old : List ℕ
   pub outcome : Outcome
   pub reads : IsRead s true t.path old
-  pub stamped : s.Stamps t.path t.stamp
+  pub stamped : s.HoldsAs t.path old t.stamp
   pub mends : IsMended catalogue parts (read_as true t.path) old outcome
   pub bytes_are : bytes_in outcome.bytes ≡ Some t.bytes
   pub refuses : Reads catalogue parts (read_as true t.path) old → ⊥

@@ -1,11 +1,9 @@
 // A shelf of values whose files take other bytes.
 
-use line_engine::stream::Input;
-use open_shelves::OpenShelf;
+use open_shelves::{HeldBytes, OpenShelf};
 use shelves::{Entries, Held, HeldFile, Kind, Shelf, Stamp, Stamped, VariableFault};
 use std::alloc::{AllocError, Global};
 use std::cell::RefCell;
-use std::collections::VecDeque;
 use std::io::{self, ErrorKind};
 
 /// The shelf of values, and what was put in the places of its files since then. Its links are followed. What stands at a path
@@ -137,15 +135,15 @@ impl Shelf for Desk<'_> {
 }
 
 impl OpenShelf for Desk<'_> {
-    type File = Input<VecDeque<u8>>;
+    type File = HeldBytes;
 
-    type Stdin = Input<VecDeque<u8>>;
+    type Stdin = HeldBytes;
 
-    fn open(&self, alloc: Global, path: &str) -> io::Result<Input<VecDeque<u8>>> {
+    fn open(&self, alloc: Global, path: &str) -> io::Result<HeldBytes> {
         self.held.open(alloc, path)
     }
 
-    fn open_input(&self, alloc: Global) -> io::Result<Input<VecDeque<u8>>> {
+    fn open_input(&self, alloc: Global) -> io::Result<HeldBytes> {
         self.held.open_input(alloc)
     }
 }

@@ -1,12 +1,11 @@
-use Rattle.std.proofs.Common.{Err, Result, subst, refl}
+use Rattle.std.proofs.Common.{Err, IfErr, Result, subst, refl}
 use Rattle.line_engine.specs.Device.{devices}
-use Rattle.line_engine.specs.declared.lines.RunFault.{RunFault}
 use Rattle.spdx_check.specs.declared.lines.Checked.{Checked}
-use Rattle.spdx_check.specs.Checking.{ChecksLines}
+use Rattle.spdx_check.specs.declared.lines.LinesFault.{LinesFault}
+use Rattle.spdx_check.specs.Checking.{ChecksLines, FailsIfBroken}
 use Rattle.check_files.specs.Tally.{tally_of}
 use Rattle.check_files.proofs.Steps.{on_ok}
 use Rattle.check_program.proofs.Streams.{broken, whole}
-use Rattle.line_engine.specs.declared.lines.RunFault.TheVariants.{Read}
 use Rattle.check_files.proofs.Begun.{on_err}
 use Rattle.check_program.proofs.Begun.{lines_begun}
 use Rattle.check_program.proofs.lines.check_stream.Goals as goal
@@ -17,8 +16,8 @@ returns-in-Ok-clause-ok g c =
     let t' = g.I.Source.told c.check_lines.new.input in
     let out = g.O.Sink.told c.args.output.now in
     let out' = g.O.Sink.told c.check_lines.new.output in
-    whole c.args.check.now c.is_clean.result c.args.name.now t t' out out' (g.T.Telling.told c.args.teller.now) (tally_of c.args.sums.now) (tally_of c.count.new.sums) c.in-Ok.checked c.is_clean.ensures
-    (subst (λ (r : Result Checked RunFault). ChecksLines c.args.check.now c.is_clean.result c.args.name.now (devices t t' out out') r) c.in-Ok.is c.check_lines.ensures) c.count.ensures
+    whole c.args.check.now c.is_clean.result c.args.name.now t t' out out' (g.I.Source.MayFail c.args.input) (g.T.Telling.told c.args.teller.now) (tally_of c.args.sums.now) (tally_of c.count.new.sums) c.in-Ok.checked c.is_clean.ensures
+    (subst (λ (r : Result Checked LinesFault). ChecksLines c.args.check.now c.is_clean.result c.args.name.now (devices t t' out out') r) c.in-Ok.is c.check_lines.ensures.checks) c.count.ensures
 
 pub returns-in-Err-Read-clause-ok : goal.returns-in-Err-Read-clause-ok
 returns-in-Err-Read-clause-ok g c =
@@ -26,13 +25,17 @@ returns-in-Err-Read-clause-ok g c =
     let t' = g.I.Source.told c.check_lines.new.input in
     let out = g.O.Sink.told c.args.output.now in
     let out' = g.O.Sink.told c.check_lines.new.output in
+    let may_fail = g.I.Source.MayFail c.args.input in
+    let checked = c.in-Err-Read.checked in
     let h =
-    subst (λ (r : Result Checked RunFault). ChecksLines c.args.check.now c.is_clean.result c.args.name.now (devices t t' out out') r) c.in-Err-Read.is c.check_lines.ensures in
+    subst (λ (r : Result Checked LinesFault). ChecksLines c.args.check.now c.is_clean.result c.args.name.now (devices t t' out out') r) c.in-Err-Read.is c.check_lines.ensures.checks in
     let broke =
-    subst (λ (f : RunFault). ChecksLines c.args.check.now c.is_clean.result c.args.name.now (devices t t' out out') (Err f)) c.in-Err-Read.field-0-is h in
+    subst (λ (f : LinesFault). ChecksLines c.args.check.now c.is_clean.result c.args.name.now (devices t t' out out') (Err f)) c.in-Err-Read.field-0-is h in
+    let fails =
+    subst (FailsIfBroken may_fail) c.in-Err-Read.field-0-is (subst (λ (r : Result Checked LinesFault). IfErr r (FailsIfBroken may_fail)) c.in-Err-Read.is c.check_lines.ensures.fails) in
     on_ok c.pass_broken.result _ _
-    (broken c.args.check.now c.is_clean.result c.args.name.now t t' out out' (g.T.Telling.told c.args.teller.now) (g.T.Telling.told c.pass_broken.new.teller) (tally_of c.args.sums.now)
-    (tally_of c.pass_broken.new.sums) c.is_clean.ensures broke)
+    (broken c.args.check.now c.is_clean.result c.args.name.now t t' out out' may_fail (g.T.Telling.told c.args.teller.now) (g.T.Telling.told c.pass_broken.new.teller) (tally_of c.args.sums.now)
+    (tally_of c.count-in-Err-Read.new.sums) (tally_of c.pass_broken.new.sums) checked c.is_clean.ensures broke fails c.count-in-Err-Read.ensures)
     c.pass_broken.ensures.ok
 
 pub returns-in-Err-Read-clause-begun : goal.returns-in-Err-Read-clause-begun
@@ -42,12 +45,10 @@ returns-in-Err-Read-clause-begun g c =
     let out = g.O.Sink.told c.args.output.now in
     let out' = g.O.Sink.told c.check_lines.new.output in
     let h =
-    subst (λ (r : Result Checked RunFault). ChecksLines c.args.check.now c.is_clean.result c.args.name.now (devices t t' out out') r) c.in-Err-Read.is c.check_lines.ensures in
-    let broke =
-    subst (λ (f : RunFault). ChecksLines c.args.check.now c.is_clean.result c.args.name.now (devices t t' out out') (Err f)) c.in-Err-Read.field-0-is h in
+    subst (λ (r : Result Checked LinesFault). ChecksLines c.args.check.now c.is_clean.result c.args.name.now (devices t t' out out') r) c.in-Err-Read.is c.check_lines.ensures.checks in
     on_err c.pass_broken.result _ _
-    (lines_begun c.args.check.now c.is_clean.result c.args.name.now t t' out out' (g.T.Telling.told c.args.teller.now) (g.T.Telling.told c.pass_broken.new.teller) (tally_of c.args.sums.now) Read
-    c.is_clean.ensures broke)
+    (lines_begun c.args.check.now c.is_clean.result c.args.name.now t t' out out' (g.T.Telling.told c.args.teller.now) (g.T.Telling.told c.pass_broken.new.teller) (tally_of c.args.sums.now)
+    c.in-Err-Read.field-0 c.is_clean.ensures h)
     c.pass_broken.ensures.memory
 
 pub returns-in-Err-Write-clause-begun : goal.returns-in-Err-Write-clause-begun
@@ -57,7 +58,7 @@ returns-in-Err-Write-clause-begun g c =
     let out = g.O.Sink.told c.args.output.now in
     let out' = g.O.Sink.told c.check_lines.new.output in
     let h =
-    subst (λ (r : Result Checked RunFault). ChecksLines c.args.check.now c.is_clean.result c.args.name.now (devices t t' out out') r) c.in-Err-Write.is c.check_lines.ensures in
+    subst (λ (r : Result Checked LinesFault). ChecksLines c.args.check.now c.is_clean.result c.args.name.now (devices t t' out out') r) c.in-Err-Write.is c.check_lines.ensures.checks in
     lines_begun c.args.check.now c.is_clean.result c.args.name.now t t' out out' (g.T.Telling.told c.args.teller.now) (g.T.Telling.told c.args.teller.now) (tally_of c.args.sums.now) _
     c.is_clean.ensures h refl
 
@@ -68,6 +69,6 @@ returns-clause-begun g c =
     let out = g.O.Sink.told c.args.output.now in
     let out' = g.O.Sink.told c.check_lines.new.output in
     let h =
-    subst (λ (r : Result Checked RunFault). ChecksLines c.args.check.now c.is_clean.result c.args.name.now (devices t t' out out') r) c.in-Err-Memory.is c.check_lines.ensures in
+    subst (λ (r : Result Checked LinesFault). ChecksLines c.args.check.now c.is_clean.result c.args.name.now (devices t t' out out') r) c.in-Err-Memory.is c.check_lines.ensures.checks in
     lines_begun c.args.check.now c.is_clean.result c.args.name.now t t' out out' (g.T.Telling.told c.args.teller.now) (g.T.Telling.told c.args.teller.now) (tally_of c.args.sums.now) _
     c.is_clean.ensures h refl

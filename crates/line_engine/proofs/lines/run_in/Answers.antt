@@ -1,7 +1,7 @@
 use Rattle.std.proofs.Common.{◌≡◌, ◌<◌, ◌∙◌, refl, length, take, arith, rules}
 use Rattle.line_engine.specs.Device.{devices}
 use Rattle.line_engine.specs.Progress.{state}
-use Rattle.line_engine.proofs.Known.{Appends-Keeps, AppendsBeginning-all, OnErr-always}
+use Rattle.line_engine.proofs.Known.{Appends-Keeps, AppendsBeginning-all, Consumes-Keeps, OnErr-always}
 use Rattle.line_engine.proofs.Steps.{piece_fault, piece_begun, piece_step, read_end, end_begun, whole_run, known_behind}
 use Rattle.line_engine.proofs.lines.run_in.Goals as goal
 
@@ -30,6 +30,7 @@ loop-kept-preserved g c =
     let after = state (g.V.Verdicts.HasAnswered c.take_piece.new.verdicts) c.take_piece.new.kept.tally.answers.items c.take_piece.new.kept.tally.summary in
     record {
       rule = c.take_piece.ensures.rule ∙ c.loop-kept.invariant.rule;
+      same = λ may. c.loop-kept.invariant.same (c.read.ensures.same may);
       bytes = piece_step (g.V.Verdicts.rule c.args.verdicts.now) (g.V.Verdicts.rule c.loop-kept.verdicts) d _ bytes written c.loop-kept.kept.line.items before kept c.loop-kept.invariant.rule
           _ (take c.in-Ok.count c.read.new.buffer) consumed c.in-Ok.ensures.bytes.0 c.take_piece.new.kept.line.items after c.in_ok-take_piece-in-Ok.ensures.ok
           c.write_out.new.answers.items c.in_ok-write_out-in-Ok.ensures.emptied c.in_ok-write_out-in-Ok.ensures.all;
@@ -128,4 +129,12 @@ returns-clause-runs g c =
       read_all = search rules;
       read = search rules;
       write = search rules;
+    }
+
+pub returns-in-Err-clause-broken : goal.returns-in-Err-clause-broken
+returns-in-Err-clause-broken g c =
+    let (bytes, consumed, written, kept) = c.loop-kept.invariant.bytes in
+    λ _. record {
+      lines = record { bytes = bytes; read = Consumes-Keeps _ _ _ bytes consumed c.in-Err.ensures.bytes; written = written };
+      known = kept.put.answered;
     }
