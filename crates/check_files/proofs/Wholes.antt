@@ -1,5 +1,5 @@
 -- What is found in a file, part by part.
-use Rattle.std.proofs.Common.{◌≡◌, ◌∙◌, refl, sym, ap, inl, ℕ, Bool, true, List, [], ◌++◌, ◌==◌, ◌&&◌, Option, Some, subst}
+use Rattle.std.proofs.Common.{◌≡◌, ◌∙◌, refl, sym, ap, inl, ℕ, ◌<◌, ◌^◌, Bool, true, List, [], ◌++◌, length, ◌==◌, ◌&&◌, Option, Some, subst}
 use Rattle.std.specs.Io.KnownBytes.{Appends}
 use Rattle.std.proofs.KnownBytes.{Appends-trans}
 use Rattle.line_engine.specs.Device.{Told}
@@ -28,9 +28,9 @@ tallied old new s found text h = rw (h.totals, h.left_out, h.tables, h.texts, h.
 
 pub declared_written : (out out' : Told) (check : Check) (form : Form) (source : Source) (old mid : Sums) (new : Tally) (first : Bool) (sites : Option (List Site)) (found text : List ℕ) (summary : Summary)
     → first ≡ is_clean (tally_of old) → ChecksManifest check first form source sites found summary → IsCounted old mid summary found text
-    → Appends out.bytes out'.bytes text → NotesTable form source (tally_of mid) new
+    → Appends out.bytes out'.bytes text → NotesTable form source (tally_of mid) new → length source.bytes < 2 ^ 63
     → Writes out out' (λ t. IsManifestChecked check form source (tally_of old) sites t summary.lines new)
-declared_written out out' check form source old mid new first sites found text summary clean finds counts writes notes = (
+declared_written out out' check form source old mid new first sites found text summary clean finds counts writes notes fits = (
   text,
   writes,
   record {
@@ -40,6 +40,7 @@ declared_written out out' check form source old mid new first sites found text s
     text_is = counts.text_is;
     count_is = refl;
     counts = subst (λ (t : Tally). NotesTable form source t new) (tallied old mid summary found text counts) notes;
+    fits = fits;
   },
 )
 

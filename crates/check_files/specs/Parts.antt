@@ -1,5 +1,5 @@
 -- What is found in the parts of a file.
-use Rattle.std.specs.Prelude.{◌≡◌, ℕ, Bool, false, List, Option, Some, None}
+use Rattle.std.specs.Prelude.{◌≡◌, ◌<◌, ◌^◌, ℕ, Bool, false, List, length, Option, Some, None}
 use Rattle.std.specs.Str.{IsUtf8}
 use Rattle.toml.specs.Data.{Members}
 use Rattle.toml.specs.Parse.{parse_document}
@@ -36,7 +36,8 @@ NotesTable form source old new =
     (is : Bool) × IsTable form source.bytes is × (new ≡ with_table is source.path old)
 
 -- what is found in the expressions that a manifest declares at these sites is written, and counted;
--- without sites it is refused as a whole
+-- without sites it is refused as a whole. The manifest fits into memory, so that its lines and
+-- columns are numbers of 64 bits
 pub record IsManifestChecked (check : Check) (form : Form) (source : Source) (old : Tally)
     (sites : Option (List Site)) (text : List ℕ) (count : ℕ) (new : Tally) : Type 0 where
   pub found : List ℕ
@@ -45,10 +46,12 @@ pub record IsManifestChecked (check : Check) (form : Form) (source : Source) (ol
   pub text_is : text ≡ written summary found
   pub count_is : count ≡ summary.lines
   pub counts : NotesTable form source (with_found summary old) new
+  pub fits : length source.bytes < 2 ^ 63
 
 -- ---- tags
 
--- what is found in the expressions behind the tags of a file is written, and counted
+-- what is found in the expressions behind the tags of a file is written, and counted; the file fits
+-- into memory
 pub record AreTagsChecked (check : Check) (source : Source) (old : Tally) (text : List ℕ)
     (count : ℕ) (new : Tally) : Type 0 where
   pub found : List ℕ
@@ -57,3 +60,4 @@ pub record AreTagsChecked (check : Check) (source : Source) (old : Tally) (text 
   pub text_is : text ≡ written summary found
   pub count_is : count ≡ summary.lines
   pub counts : new ≡ with_found summary old
+  pub fits : length source.bytes < 2 ^ 63

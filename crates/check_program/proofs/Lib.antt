@@ -4,3 +4,8 @@ pub mod Wholes
 pub mod Paths
 pub mod Runs
 pub mod Clean
+pub mod Adding
+pub mod Found
+pub mod Steps
+pub mod Results
+pub mod Logs

@@ -4,3 +4,4 @@ pub mod Paths
 pub mod Begun
 pub mod Runs
 pub mod Clean
+pub mod Logs

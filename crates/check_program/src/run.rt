@@ -6,6 +6,7 @@ ghost use Rattle.line_engine.specs.Progress.{AppendsBeginning};
 ghost use Rattle.finding_forms.specs.Forms.{beginning, ending};
 ghost use Rattle.check_files.specs.Told.{Does, IsBrokenOff};
 ghost use Rattle.check_program.specs.Clean.{AreAllClean};
+ghost use Rattle.check_program.specs.Logs.{WritesOneLog};
 ghost use Rattle.check_program.specs.Runs as spec;
 ghost use Rattle.check_program.specs.Runs.{IsNoRun, IsRun, last_lines};
 
@@ -91,7 +92,8 @@ impl From<CheckFault> for CheckEnd {
 
 /// Checks each path in turn, by the list that is named or else inside, writes what is found and tells what is passed over; and
 /// answers the status: 2 where something was passed over, else 1 where something was found, else 0. Findings are written as
-/// they are found. So where the status is 0, all is read, and each expression is accepted.
+/// they are found. So where the status is 0, all is read, and each expression is accepted. In SARIF a run writes one log, whatever
+/// files there are.
 ///
 /// # Errors
 ///
@@ -113,12 +115,14 @@ pub fn check<S: OpenShelf, O: Sink, T: Telling>(
         (T.told teller.new)) }
     ensures passes { IfOk result (λ status. status < 1 → AreAllClean (S.Shelf.told shelf.now)
         (spec.inside_of inside.entry) request.entry) }
+    ensures log { WritesOneLog (S.Shelf.told shelf.now) (spec.inside_of inside.entry)
+        request.entry }
 {
     let status = check_all(alloc, shelf, inside, request, output, teller)?;
     Ok(status)
 }
 
-// The same, of which nothing is said yet that follows from the status.
+// The same, of which nothing is said yet that follows from the status or of the format.
 fn check_all<S: OpenShelf, O: Sink, T: Telling>(
     alloc: Global,
     shelf: &S,

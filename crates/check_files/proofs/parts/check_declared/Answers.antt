@@ -1,4 +1,4 @@
-use Rattle.std.proofs.Common.{ℕ, List, subst}
+use Rattle.std.proofs.Common.{ℕ, List, rules, subst}
 use Rattle.std.specs.Io.KnownBytes.{Appends}
 use Rattle.check_sources.specs.Manifests.{sites_in}
 use Rattle.check_sources.specs.Stood.{source_of}
@@ -15,6 +15,7 @@ returns-clause-ok g c =
     declared_written (g.O.Sink.told c.args.output.now) (g.O.Sink.told c.write_all.new.output) c.args.check.now c.args.form (source_of c.args.source) c.args.sums.now c.counted-text.new.sums
     (tally_of c.note_table.new.sums) c.is_clean.result (sites_in c.in_ok-checked.checked.sites) c.in_ok-checked.checked.found.text.items c.counted-text.result.items c.in_ok-checked.checked.found.summary c.is_clean.ensures c.in_ok-checked.ensures c.counted-text.ensures
     (subst (λ (bs : List ℕ). Appends (g.O.Sink.told c.args.output.now).bytes (g.O.Sink.told c.write_all.new.output).bytes bs) c.deref.ensures.value c.in_ok-write_all.ensures.all) c.in_ok-note_table.ensures
+    (search rules)
 
 pub returns-in_err-checked-clause-begun : goal.returns-in_err-checked-clause-begun
 returns-in_err-checked-clause-begun g c =
