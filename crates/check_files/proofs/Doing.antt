@@ -1,46 +1,77 @@
 -- What is written and told, one after the other.
-use Rattle.std.proofs.Common.{◌≡◌, ◌∙◌, refl, sym, ap, subst, inl, inr, ◌⊎◌, ℕ, true, List, [], ◌∷◌, ◌++◌, append_assoc, append-nil}
+use Rattle.std.proofs.Common.{◌≡◌, ◌∙◌, refl, sym, ap, subst, inl, inr, ◌⊎◌, ℕ, Bool, true, false, List, [], ◌∷◌, ◌++◌, append_assoc, append-nil}
 use Rattle.std.proofs.KnownBytes.{Appends-nil, Appends-trans}
 use Rattle.line_engine.specs.Device.{Told}
-use Rattle.check_files.specs.Told.{Account, AreTexts, Does, Hears, Puts, Writes, each, texts, unkept}
+use Rattle.check_files.specs.Told.{Account, AreMarks, AreTexts, Does, Hears, IsBetween, Puts, Writes, before, clear, cleared, each, none, shown, shown_count, texts, unkept}
 
 -- ---- what is written of what is told
 
-texts_append : {A : Type 0} (f : List ℕ → A → List ℕ) (xs ys : List A) (x y : List ℕ) → AreTexts f xs x → AreTexts f ys y → AreTexts f (xs ++ ys) (x ++ y)
-texts_append f [] ys x y p q = subst (AreTexts f ys) (sym (ap (λ (l : List ℕ). l ++ y) p)) q
-texts_append f (a ∷ xs) ys x y p q =
-    (p.0, p.1 ++ y, ap (λ (l : List ℕ). l ++ y) p.2 ∙ append_assoc (f p.0 a) p.1 y, texts_append f xs ys p.1 y p.3 q)
+marks_append : {x y : List ℕ} → AreMarks x → AreMarks y → AreMarks (x ++ y)
+marks_append none q = q
+marks_append {y = y} (shown files rest p) q = subst AreMarks (sym (append_assoc (shown_count files) rest y)) (shown files (rest ++ y) (marks_append p q))
+marks_append {y = y} (cleared rest p) q = subst AreMarks (sym (append_assoc clear rest y)) (cleared (rest ++ y) (marks_append p q))
 
-module _ {A : Type 0} (f : List ℕ → A → List ℕ) (a b c : Told) (xs ys : List A) where
-  joined : (b.has_failed ≡ true) ⊎ Writes a b (AreTexts f xs) → (c.has_failed ≡ true) ⊎ Writes b c (AreTexts f ys)
-      → (b.has_failed ≡ true → c.has_failed ≡ true) → (c.has_failed ≡ true) ⊎ Writes a c (AreTexts f (xs ++ ys))
-  joined (inl failed) q stays = inl (stays failed)
-  joined (inr w) (inl failed) stays = inl failed
-  joined (inr w) (inr v) stays =
-      inr (w.0 ++ v.0, Appends-trans a.bytes b.bytes c.bytes w.0 v.0 w.1 v.1, texts_append f xs ys w.0 v.0 w.2 v.2)
+pub none_between : (on : Bool) → IsBetween on []
+none_between false = refl
+none_between true = none
 
-  put_both : Puts a b (AreTexts f xs) → Puts b c (AreTexts f ys) → Puts a c (AreTexts f (xs ++ ys))
-  put_both p q = record { stays = λ failed. q.stays (p.stays failed); writes = joined p.writes q.writes q.stays }
+between_append : (on : Bool) (x y : List ℕ) → IsBetween on x → IsBetween on y → IsBetween on (x ++ y)
+between_append false x y p q = ap (λ (l : List ℕ). l ++ y) p ∙ q
+between_append true x y p q = marks_append p q
+
+module _ {A : Type 0} (on : Bool) (f : List ℕ → A → List ℕ) where
+  texts_behind : (ys : List A) (x y : List ℕ) → IsBetween on x → AreTexts on f ys y → AreTexts on f ys (x ++ y)
+  texts_behind [] x y p q = between_append on x y p q
+  texts_behind (a ∷ ys) x y p q =
+      (x ++ q.0, q.1, q.2, between_append on x q.0 p q.3, ap (λ (l : List ℕ). x ++ l) q.4 ∙ sym (append_assoc x q.0 (before on ++ (f q.1 a ++ q.2))), q.5)
+
+  texts_append : (xs ys : List A) (x y : List ℕ) → AreTexts on f xs x → AreTexts on f ys y → AreTexts on f (xs ++ ys) (x ++ y)
+  texts_append [] ys x y p q = texts_behind ys x y p q
+  texts_append (a ∷ xs) ys x y p q = (
+    p.0,
+    p.1,
+    p.2 ++ y,
+    p.3,
+    ap (λ (l : List ℕ). l ++ y) p.4
+        ∙ append_assoc p.0 (before on ++ (f p.1 a ++ p.2)) y
+        ∙ ap (λ (l : List ℕ). p.0 ++ l) (append_assoc (before on) (f p.1 a ++ p.2) y ∙ ap (λ (l : List ℕ). before on ++ l) (append_assoc (f p.1 a) p.2 y)),
+    texts_append xs ys p.2 y p.5 q,
+  )
+
+  module _ (a b c : Told) (xs ys : List A) where
+    joined : (b.has_failed ≡ true) ⊎ Writes a b (AreTexts on f xs) → (c.has_failed ≡ true) ⊎ Writes b c (AreTexts on f ys)
+        → (b.has_failed ≡ true → c.has_failed ≡ true) → (c.has_failed ≡ true) ⊎ Writes a c (AreTexts on f (xs ++ ys))
+    joined (inl failed) q stays = inl (stays failed)
+    joined (inr w) (inl failed) stays = inl failed
+    joined (inr w) (inr v) stays =
+        inr (w.0 ++ v.0, Appends-trans a.bytes b.bytes c.bytes w.0 v.0 w.1 v.1, texts_append xs ys w.0 v.0 w.2 v.2)
+
+    put_both : Puts a b (AreTexts on f xs) → Puts b c (AreTexts on f ys) → Puts a c (AreTexts on f (xs ++ ys))
+    put_both p q = record { stays = λ failed. q.stays (p.stays failed); writes = joined p.writes q.writes q.stays }
 
 pub hears_nil : {A : Type 0} (a : Account A) → Hears a a []
 hears_nil unkept = tt
 hears_nil (each x) = sym (append-nil x)
-hears_nil (texts f out) = (refl, record { stays = λ failed. failed; writes = inr ([], Appends-nil out.bytes, refl) })
+hears_nil (texts on f out) = (refl, refl, record { stays = λ failed. failed; writes = inr ([], Appends-nil out.bytes, none_between on) })
 
 module _ {A : Type 0} where
   pub hears_trans : (a b c : Account A) (xs ys : List A) → Hears a b xs → Hears b c ys → Hears a c (xs ++ ys)
   hears_trans unkept b c xs ys p q = tt
   hears_trans (each x) unkept c xs ys p q = absurd p
-  hears_trans (each x) (texts g b) c xs ys p q = absurd p
+  hears_trans (each x) (texts on g b) c xs ys p q = absurd p
   hears_trans (each x) (each y) unkept xs ys p q = absurd q
-  hears_trans (each x) (each y) (texts h c) xs ys p q = absurd q
+  hears_trans (each x) (each y) (texts on h c) xs ys p q = absurd q
   hears_trans (each x) (each y) (each z) xs ys p q = q ∙ ap (λ l. l ++ ys) p ∙ append_assoc x xs ys
-  hears_trans (texts f a) unkept c xs ys p q = absurd p
-  hears_trans (texts f a) (each y) c xs ys p q = absurd p
-  hears_trans (texts f a) (texts g b) unkept xs ys p q = absurd q
-  hears_trans (texts f a) (texts g b) (each z) xs ys p q = absurd q
-  hears_trans (texts f a) (texts g b) (texts h c) xs ys p q =
-      (q.0 ∙ p.0, put_both f a b c xs ys p.1 (subst (λ (t : List ℕ → A → List ℕ). Puts b c (AreTexts t ys)) p.0 q.1))
+  hears_trans (texts on f a) unkept c xs ys p q = absurd p
+  hears_trans (texts on f a) (each y) c xs ys p q = absurd p
+  hears_trans (texts on f a) (texts on' g b) unkept xs ys p q = absurd q
+  hears_trans (texts on f a) (texts on' g b) (each z) xs ys p q = absurd q
+  hears_trans (texts on f a) (texts on' g b) (texts on'' h c) xs ys p q = (
+    q.0 ∙ p.0,
+    q.1 ∙ p.1,
+    put_both on f a b c xs ys p.2
+        (subst (λ (t : List ℕ → A → List ℕ). Puts b c (AreTexts on t ys)) p.1 (subst (λ (o : Bool). Puts b c (AreTexts o g ys)) p.0 q.2)),
+  )
 
 -- ---- one after the other
 

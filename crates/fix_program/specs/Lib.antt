@@ -5,3 +5,4 @@ pub mod Ends
 pub mod Trees
 pub mod Runs
 pub mod Passing
+pub mod Shown

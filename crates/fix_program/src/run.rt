@@ -3,6 +3,7 @@
 ghost use Rattle.std.specs.Prelude.{◌≡◌, ◌<◌, IfErr, IfOk, OnOk, map};
 ghost use Rattle.std.specs.List.{AllZip, list_any};
 ghost use Rattle.list_program.specs.Named.{inside_of};
+ghost use Rattle.fix_program.specs.Shown.{AreShown};
 ghost use Rattle.fix_program.specs.Passing.{AreAllAccepted};
 ghost use Rattle.fix_program.specs.Runs as spec;
 ghost use Rattle.fix_program.specs.Runs.{
@@ -158,7 +159,7 @@ pub fn fix<S: Shelf, P: Progress>(
         (inside_of inside.entry.list.now inside.entry.extras.now) request.entry) }
     ensures passes { IfOk result (λ run. status_of run < 1 → AreAllAccepted (S.told shelf.now)
         (inside_of inside.entry.list.now inside.entry.extras.now) request.entry) }
-    ensures kept { P.kept progress.new ≡ P.kept progress.old }
+    ensures shows { AreShown P.Shows progress.old progress.new }
 {
     let catalogue = named_list(alloc, shelf, inside, request.list)?;
     let manner = Manner {
@@ -187,7 +188,7 @@ fn paths_fixed<S: Shelf, P: Progress>(
     ensures ends { IfOk result (λ ends. AllZip (IsPathEnd (S.told shelf.now)
         manner.entry.catalogue.now manner.entry.is_written wanted.entry) (map path_in paths.now)
         ends.items) }
-    ensures kept { P.kept progress.new ≡ P.kept progress.old }
+    ensures shows { AreShown P.Shows progress.old progress.new }
 {
     let mut fixed = Vec::new(alloc);
     for path in paths {
@@ -207,7 +208,7 @@ fn path_ends<S: Shelf, P: Progress>(
 ) -> Result<Vec<FileEnd>, AllocError>
     ensures ends { IfOk result (λ ends. ArePathEnds (S.told shelf.now) manner.entry.catalogue.now
         manner.entry.is_written wanted.entry path.now ends.items) }
-    ensures kept { P.kept progress.new ≡ P.kept progress.old }
+    ensures shows { AreShown P.Shows progress.old progress.new }
 {
     match reading_of(alloc, shelf, wanted, path) {
         Ok(reading) => read_ends(alloc, shelf, manner, reading, path, progress),
@@ -226,7 +227,7 @@ fn read_ends<S: Shelf, P: Progress>(
 ) -> Result<Vec<FileEnd>, AllocError>
     ensures ends { IfOk result (λ ends. AreReadEnds (S.told shelf.now) manner.entry.catalogue.now
         manner.entry.is_written reading path.now ends.items) }
-    ensures kept { P.kept progress.new ≡ P.kept progress.old }
+    ensures shows { AreShown P.Shows progress.old progress.new }
 {
     let parts = match reading {
         Reading::Tree(taken) => {

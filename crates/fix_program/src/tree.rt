@@ -2,6 +2,7 @@
 
 ghost use Rattle.std.specs.Prelude.{◌≡◌, ◌++◌, ◌∷◌, [], IfOk, OnOk};
 ghost use Rattle.source_trees.specs.Walks.{waiting};
+ghost use Rattle.fix_program.specs.Shown.{AreShown};
 ghost use Rattle.fix_program.specs.Trees as spec;
 ghost use Rattle.fix_program.specs.Trees.{AddsEnds, AreTreeEnds, AreWalkEnds};
 
@@ -16,10 +17,8 @@ use std::io;
 
 /// Who is told how far a run is.
 pub trait Progress {
-    // What it keeps besides, which stays as it is.
-    ghost Kept: { Type 0 };
-
-    ghost kept: { Self → Kept };
+    // The second may be what the first becomes by one of these calls.
+    ghost Shows: { Self → Self → Type 0 };
 
     /// So many files below a folder were come to.
     ///
@@ -27,11 +26,11 @@ pub trait Progress {
     ///
     /// Memory was refused.
     fn seen(&mut self, alloc: Global, files: u64) -> Result<(), AllocError>
-        ensures { kept self.new ≡ kept self.old };
+        ensures { Shows self.old self.new };
 
     /// The folder is at its end.
     fn ended(&mut self)
-        ensures { kept self.new ≡ kept self.old };
+        ensures { Shows self.old self.new };
 }
 
 /// What comes of what is below the folder at the path, in the order in which a walk comes to it.
@@ -49,7 +48,7 @@ pub(crate) fn tree_ends<S: Shelf, P: Progress>(
 ) -> Result<Vec<FileEnd>, AllocError>
     ensures ends { IfOk result (λ ends. AreTreeEnds (S.told shelf.now) manner.entry.catalogue.now
         manner.entry.is_written taken path.now ends.items) }
-    ensures kept { P.kept progress.new ≡ P.kept progress.old }
+    ensures shows { AreShown P.Shows progress.old progress.new }
 {
     match Walk::new(alloc, shelf, path) {
         Ok(walk) => walked(alloc, shelf, manner, taken, walk, progress),
@@ -78,7 +77,7 @@ fn walked<S: Shelf, P: Progress>(
 ) -> Result<Vec<FileEnd>, AllocError>
     ensures ends { IfOk result (λ ends. AreWalkEnds (S.told shelf.now) manner.entry.catalogue.now
         manner.entry.is_written taken (waiting walk) ends.items) }
-    ensures kept { P.kept progress.new ≡ P.kept progress.old }
+    ensures shows { AreShown P.Shows progress.old progress.new }
 {
     let mut ends = Vec::new(alloc);
     let mut files = 0;
@@ -101,7 +100,7 @@ fn shown<P: Progress>(
     seen: &Seen,
     progress: &mut P,
 ) -> Result<u64, AllocError>
-    ensures { P.kept progress.new ≡ P.kept progress.old }
+    ensures { AreShown P.Shows progress.old progress.new }
 {
     if !matches!(seen, Seen::File(_)) {
         return Ok(files);

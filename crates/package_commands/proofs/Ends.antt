@@ -1,7 +1,8 @@
 -- What is said of a run.
-use Rattle.std.proofs.Common.{◌≡◌, ◌↔◌, ◌∙◌, ℕ, Bool, true, false, List, [], ◌∷◌, ◌++◌, ap, append_assoc, map, refl, string_bytes, subst, sym}
+use Rattle.std.proofs.Common.{◌≡◌, ◌↔◌, ◌∙◌, ℕ, Bool, true, false, List, [], ◌∷◌, ◌++◌, ap, append_assoc, arith, length, map, refl, suc, string_bytes, subst, sym}
 use Rattle.std.specs.declared.alloc.Global.{Global}
-use Rattle.std.specs.Prelude.{Contains, Option, String, unwrap_or}
+use Rattle.std.proofs.lemmas.Bool.Decides.{nat_tests}
+use Rattle.std.specs.Prelude.{◌==◌, Contains, Option, String, unwrap_or}
 use Rattle.std.specs.Borrow.{Bor}
 use Rattle.std.specs.List.Sorted.{IsStrictlySortedBy}
 use Rattle.std.specs.Option.{option_copied}
@@ -59,9 +60,12 @@ shared_told how files documents names h l are told ascend p = record {
   };
 }
 
-pub none_named : (names : List (Bor (List ℕ))) (heard : Account Trouble) → names ≡ [] → Tells heard heard (AreToldAs (map name_in names))
-none_named names heard e =
-    subst (λ (ns : List (Bor (List ℕ))). Tells heard heard (AreToldAs (map name_in ns))) (sym e) (record { told = []; tells = hears_nil heard; is = refl })
+pub none_named : (names : List (Bor (List ℕ))) (heard : Account Trouble) → true ≡ (length names == 0) → Tells heard heard (AreToldAs (map name_in names))
+none_named [] heard e = record { told = []; tells = hears_nil heard; is = refl }
+none_named (n ∷ names) heard e =
+    let test : (suc (length names) == 0) ≡ true = sym e in
+    let none : suc (length names) ≡ 0 = grind (arith, nat_tests, test) in
+    absurd (omega (arith, none))
 
 pub some_named : (names : List (Bor (List ℕ))) (h l : Account Trouble) (text : String Global) → (names ≡ [] → ⊥) → string_bytes text ≡ names_text (map name_in names)
     → Hears h l (trouble.Shared text ∷ []) → Tells h l (AreToldAs (map name_in names))

@@ -39,7 +39,7 @@ pub(crate) fn tell_shared<T: Listener>(
     Ok(())
 }
 
-#[tactic(auto, using(crate::proofs::Ends::none_named, crate::proofs::Ends::some_named))]
+#[tactic(auto, using(crate::proofs::Ends::some_named))]
 fn tell_names<T: Listener>(
     alloc: Global,
     names: &[&str],

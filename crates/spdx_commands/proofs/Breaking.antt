@@ -9,6 +9,7 @@ use Rattle.check_files.specs.Told.{Account, Hears}
 use Rattle.check_files.proofs.Doing.{hears_nil, hears_trans}
 use Rattle.shelves.specs.Shelf.{Shelved}
 use Rattle.fix_program.specs.Runs.{IsRun, path_in}
+use Rattle.fix_program.specs.Shown.{AreShown, more, none}
 use Rattle.fix_program.specs.declared.ends.FileEnd.{FileEnd}
 use Rattle.fix_program.specs.declared.file.Replacement.{Replacement}
 use Rattle.fix_program.specs.declared.run.PathEnd.{PathEnd}
@@ -158,21 +159,32 @@ module _ (w : Setting) where
 
 -- ---- a run
 
+-- what is shown one after the other tells nothing, where none of it does
+module _ {S : Type 0} (Shows : S → S → Type 0) (heard : S → Account Trouble) (each : (x y : S) → Shows x y → Hears (heard x) (heard y) []) where
+  pub silent : {x y : S} → AreShown Shows x y → Hears (heard x) (heard y) []
+  silent (none x) = hears_nil (heard x)
+  silent (more x y z first last) = hears_trans (heard x) (heard y) (heard z) [] [] (silent first) (each y z last)
+
+-- what told nothing came before
+behind_silence : (x : Stand) (begun : Account Trouble) (y : Stand) (Is : Done → Type 0) → Hears x.heard begun [] → Did (stand x.output begun x.tried) y Is → Did x y Is
+behind_silence x begun y Is silent p =
+    record { done = p.done; writes = p.writes; tells = hears_trans x.heard begun y.heard [] p.done.told silent p.tells; tries = p.tries; is = p.is }
+
 module _ (s : Shelved) (inside : InsideBytes) (a : Request) (x : Stand) (run : Run) (is : IsRun s inside a run) where
   abbrev of_run : Setting
   of_run = setting s run.catalogue a.breaks_links
 
   -- the run before told nothing
-  pub run_begun : (begun : Account Trouble) (y : Stand) → begun ≡ x.heard → Did (stand x.output begun x.tried) y (ArePathsBegun (setting s run.catalogue a.breaks_links) run.paths.items)
+  pub run_begun : (begun : Account Trouble) (y : Stand) → Hears x.heard begun [] → Did (stand x.output begun x.tried) y (ArePathsBegun (setting s run.catalogue a.breaks_links) run.paths.items)
       → Did x y (IsFixBegun s inside a)
   run_begun begun y same p =
       begun_known (ArePathsBegun of_run run.paths.items) (IsFixBegun s inside a) (λ d begun. in_paths run d is begun) x y
-      (subst (λ (h : Account Trouble). Did (stand x.output h x.tried) y (ArePathsBegun of_run run.paths.items)) same p)
+      (behind_silence x begun y (ArePathsBegun of_run run.paths.items) same p)
 
-  module _ (begun : Account Trouble) (y : Stand) (told : _) (same : begun ≡ x.heard)
+  module _ (begun : Account Trouble) (y : Stand) (told : _) (same : Hears x.heard begun [])
       (p : Did (stand x.output begun x.tried) y (IsWorst told (ArePathsDone (setting s run.catalogue a.breaks_links) run.paths.items))) where
     all_done : Did x y (IsWorst told (ArePathsDone of_run run.paths.items))
-    all_done = subst (λ (h : Account Trouble). Did (stand x.output h x.tried) y (IsWorst told (ArePathsDone of_run run.paths.items))) same p
+    all_done = behind_silence x begun y (IsWorst told (ArePathsDone of_run run.paths.items)) same p
 
     pub run_alone : Did x y (IsFixBegun s inside a)
     run_alone = begun_known (IsWorst told (ArePathsDone of_run run.paths.items)) (IsFixBegun s inside a) (λ d done. behind_paths run d is done.is) x y all_done

@@ -26,7 +26,7 @@ use Rattle.spdx_troubles.specs.declared.trouble.Trouble.TheVariants as trouble
 module _ (s : Shelved) (inside : InsideBytes) (a : Request) where
   -- ---- why it stops
 
-  pub not_begun : (x : Stand) (l : Account Trouble) (cause : FixFault) → l ≡ x.heard → IsNoRun s inside a cause → (r : Result ℕ Trouble) → IsErrAnd r (λ t. t ≡ fix_fault_trouble cause)
+  pub not_begun : (x : Stand) (l : Account Trouble) (cause : FixFault) → Hears x.heard l [] → IsNoRun s inside a cause → (r : Result ℕ Trouble) → IsErrAnd r (λ t. t ≡ fix_fault_trouble cause)
       → IfErr r (IsFixStopped s inside a x (stand x.output l x.tried))
   not_begun x l cause same is (Ok y) h = tt
   not_begun x l cause same is (Err t) h = subst (IsFixStopped s inside a x (stand x.output l x.tried)) (sym h) (caused cause is refl same refl)
@@ -44,14 +44,14 @@ module _ (s : Shelved) (inside : InsideBytes) (a : Request) where
   greatest : (run told status : ℕ) (xs ys : List Trouble) → told ≡ worst xs → worst ys ≡ 0 → status ≡ max run told → status ≡ max run (worst (xs ++ ys))
   greatest run told status xs ys e f g = let all = worst_append xs ys in omega (arith, e, f, g, all)
 
-  pub fix_done : (x : Stand) (out : Told) (begun h l : Account Trouble) (m : Account Attempt) (run : Run) (told status : ℕ) (beside : List Trouble) → begun ≡ x.heard → IsRun s inside a run
+  pub fix_done : (x : Stand) (out : Told) (begun h l : Account Trouble) (m : Account Attempt) (run : Run) (told status : ℕ) (beside : List Trouble) → Hears x.heard begun [] → IsRun s inside a run
       → Did (stand x.output begun x.tried) (stand out h m) (IsWorst told (ArePathsDone (setting s run.catalogue a.breaks_links) run.paths.items))
       → IsBesideTold a.is_written s (map path_in a.paths.now) beside → Hears h l beside → status ≡ max (plan.status_of run) told
       → Did x (stand out l m) (IsFix s inside a status)
   fix_done x out begun h l m run told status beside same is_run q is_beside tells is = record {
     done = behind q.done (telling beside);
     writes = Appends-trans x.output.bytes out.bytes out.bytes q.done.text [] q.writes (Appends-nil out.bytes);
-    tells = hears_trans x.heard h l q.done.told beside (subst (λ (b : Account Trouble). Hears b h q.done.told) same q.tells) tells;
+    tells = hears_trans x.heard h l q.done.told beside (hears_trans x.heard begun h [] q.done.told same q.tells) tells;
     tries = hears_trans x.tried m m q.done.tried [] q.tries (hears_nil m);
     is = record {
       run = run;

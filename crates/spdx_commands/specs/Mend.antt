@@ -310,7 +310,7 @@ pub data IsBrokenOff (output : Told) (tried tried' : Account Attempt) : Trouble 
 pub data IsFixStopped (s : Shelved) (inside : InsideBytes) (a : Request) (old new : Stand) :
     Trouble → Type 0 where
   caused : (cause : FixFault) → IsNoRun s inside a cause →
-      new.output.bytes ≡ old.output.bytes → new.heard ≡ old.heard → new.tried ≡ old.tried →
+      new.output.bytes ≡ old.output.bytes → Hears old.heard new.heard [] → new.tried ≡ old.tried →
       IsFixStopped s inside a old new (fix_fault_trouble cause)
   broken_off : (t : Trouble) → IsBrokenOff new.output old.tried new.tried t →
       Did old new (IsFixBegun s inside a) → IsFixStopped s inside a old new t

@@ -23,7 +23,6 @@ pub struct Said {
 /// # Errors
 ///
 /// The output fails, or memory was refused: a beginning was told and written until then.
-#[tactic(auto, using(crate::proofs::Saying::none_said))]
 pub(crate) fn say_each<O: Sink, T: Listener>(
     alloc: Global,
     all: Vec<Said>,
@@ -73,6 +72,7 @@ pub fn say<O: Sink, T: Listener>(
 /// # Errors
 ///
 /// Memory was refused: the first of them were told.
+#[tactic(auto, using(crate::proofs::Hearing::none_heard))]
 pub(crate) fn tell_each<T: Listener>(
     alloc: Global,
     troubles: Vec<Trouble>,

@@ -36,4 +36,4 @@ pub record IsServed (w : World) (screen : Screen) (r : Request) (x y : Outcome) 
   pub is_shown : Bool
   pub performs : IsPerformed w screen.colours r (side_of screen.progress x)
       (side_of is_shown (outcome y.output faults y.tried)) answer
-  pub ends : IsEndTold answer faults y.faults status
+  pub ends : IsEndTold is_shown answer faults y.faults status

@@ -1,9 +1,8 @@
 // Who is told of troubles, and how far a walk is.
 
-ghost use Rattle.std.specs.Prelude.{◌≡◌, ◌<◌, false, IfOk, OnErr, OnOk};
-ghost use Rattle.check_files.specs.Told.{Puts};
-ghost use Rattle.spdx_program.specs.Telling.{IsEndTold, IsStopTold, PutsTotals, heard_in, noted_in};
-ghost use Rattle.spdx_troubles.specs.Lines.{IsLineOf};
+ghost use Rattle.std.specs.Prelude.{◌≡◌, ◌<◌, ◌++◌, IfOk, OnErr, OnOk};
+ghost use Rattle.check_files.specs.Told.{IsBetween, Puts, before, shown_count};
+ghost use Rattle.spdx_program.specs.Telling.{IsEndTold, IsLineBehind, IsStopTold, PutsTotals, heard_in, noted_in};
 
 use crate::ended::Ended;
 use crate::outputs::Screen;
@@ -19,7 +18,11 @@ use std::io::Write;
 // After how many files it is shown how far a walk is.
 const STEP: u64 = 1_000;
 
-/// Writes each trouble as its line, as far as that goes. Where the screen wants it, it shows how far a walk is, too.
+// What clears a line on which it is shown how far a walk is.
+const CLEAR: &[u8] = b"\r\x1b[K";
+
+/// Writes each trouble as its line, as far as that goes. Where the screen wants it, it shows how far a walk is, too, and clears
+/// that before it writes a line.
 #[derive(Drop)]
 pub struct Teller<F: Drop> {
     pub faults: F,
@@ -29,7 +32,8 @@ pub struct Teller<F: Drop> {
 impl<F: Sink + Drop> Teller<F> {
     /// Tells the last line, and answers the status.
     pub(crate) fn end(&mut self, alloc: Global, end: Result<Ended, Trouble>) -> u8
-        ensures told { IsEndTold end (F.told self.old.faults) (F.told self.new.faults) result }
+        ensures told { IsEndTold self.old.screen.progress end (F.told self.old.faults)
+            (F.told self.new.faults) result }
         ensures low { IfOk end (λ ended. ended.status < 4) → result < 4 }
     {
         match end {
@@ -44,14 +48,14 @@ impl<F: Sink + Drop> Teller<F> {
     /// Tells the trouble that a command stopped by, and answers its status; where memory for its line is refused, that is
     /// told instead.
     fn stop(&mut self, alloc: Global, trouble: &Trouble) -> u8
-        ensures told { IsStopTold (F.told self.old.faults) (F.told self.new.faults) trouble.now
-            result }
+        ensures told { IsStopTold self.old.screen.progress (F.told self.old.faults)
+            (F.told self.new.faults) trouble.now result }
         ensures low { result < 4 }
     {
-        match put_line(&mut self.faults, alloc, trouble) {
+        match put_line(&mut self.faults, self.screen, alloc, trouble) {
             Ok(()) => trouble.status(),
             Err(AllocError) => {
-                put(&mut self.faults, b"spdx: out of memory\n");
+                put_text(&mut self.faults, self.screen, b"spdx: out of memory\n");
                 3
             }
         }
@@ -60,10 +64,11 @@ impl<F: Sink + Drop> Teller<F> {
     /// Writes the line of totals, if there is one.
     #[tactic(auto, using(crate::proofs::Told::no_text))]
     fn put_totals(&mut self, totals: &Option<String>)
-        ensures { PutsTotals (F.told self.old.faults) (F.told self.new.faults) totals.now }
+        ensures { PutsTotals self.old.screen.progress (F.told self.old.faults)
+            (F.told self.new.faults) totals.now }
     {
         if let Some(totals) = totals {
-            put(&mut self.faults, totals.as_bytes());
+            put_text(&mut self.faults, self.screen, totals.as_bytes());
         }
     }
 }
@@ -79,45 +84,70 @@ fn put<F: Sink>(faults: &mut F, bytes: &[u8])
     let _ = write_all(faults, bytes);
 }
 
+// Takes away what is shown of a walk, where that is shown.
+#[tactic(auto, using(crate::proofs::Told::is_clear, crate::proofs::Told::no_clear))]
+fn clear<F: Sink>(faults: &mut F, screen: Screen)
+    ensures { Puts (F.told faults.old) (F.told faults.new)
+        (λ text. text ≡ before screen.progress) }
+{
+    if screen.progress {
+        put(faults, CLEAR);
+    }
+}
+
+// Writes the bytes on a line of their own.
+#[tactic(auto, using(crate::proofs::Told::one_behind))]
+fn put_text<F: Sink>(faults: &mut F, screen: Screen, bytes: &[u8])
+    ensures { Puts (F.told faults.old) (F.told faults.new)
+        (λ text. text ≡ before screen.progress ++ bytes.now) }
+{
+    clear(faults, screen);
+    put(faults, bytes);
+}
+
 #[tactic(auto, using(crate::proofs::Told::line_put))]
-fn put_line<F: Sink>(faults: &mut F, alloc: Global, trouble: &Trouble) -> Result<(), AllocError>
+fn put_line<F: Sink>(
+    faults: &mut F,
+    screen: Screen,
+    alloc: Global,
+    trouble: &Trouble,
+) -> Result<(), AllocError>
     ensures line { OnOk result (Puts (F.told faults.old) (F.told faults.new)
-        (IsLineOf trouble.now)) }
+        (IsLineBehind screen.progress trouble.now)) }
     ensures memory { OnErr result (F.told faults.new ≡ F.told faults.old) }
 {
     let line = trouble.line(alloc)?;
-    put(faults, line.as_bytes());
+    put_text(faults, screen, line.as_bytes());
     Ok(())
 }
 
+// So many files, behind what stood on the line.
+fn count_text(alloc: Global, files: u64) -> Result<Vec<u8>, AllocError>
+    ensures { IfOk result (λ text. text.items ≡ shown_count files) }
+{
+    let mut text = Vec::new(alloc);
+    match write!(text, "\r{files} files") {
+        Ok(()) => Ok(text),
+        Err(_) => Err(AllocError),
+    }
+}
+
 // Shows how many files a walk has seen, each thousand of them.
+#[tactic(auto, using(crate::proofs::Told::count_shown, crate::proofs::Told::none_shown))]
 fn show<F: Sink>(
     faults: &mut F,
     screen: Screen,
     alloc: Global,
-    count: u64,
+    files: u64,
 ) -> Result<(), AllocError>
-    ensures { screen.progress ≡ false → F.told faults.new ≡ F.told faults.old }
+    ensures { Puts (F.told faults.old) (F.told faults.new) (IsBetween screen.progress) }
 {
-    if !screen.progress || count % STEP != 0 || count == 0 {
+    if !screen.progress || files % STEP != 0 || files == 0 {
         return Ok(());
     }
-    let mut text = Vec::new(alloc);
-    match write!(text, "\r{count} files") {
-        Ok(()) => {}
-        Err(_) => return Err(AllocError),
-    }
+    let text = count_text(alloc, files)?;
     put(faults, &text);
     Ok(())
-}
-
-// Takes away what was shown last.
-fn clear<F: Sink>(faults: &mut F, screen: Screen)
-    ensures { screen.progress ≡ false → F.told faults.new ≡ F.told faults.old }
-{
-    if screen.progress {
-        put(faults, b"\r\x1b[K");
-    }
 }
 
 impl<F: Sink + Drop> Telling for Teller<F> {
@@ -125,7 +155,12 @@ impl<F: Sink + Drop> Telling for Teller<F> {
 
     #[tactic(auto, using(crate::proofs::Told::noted))]
     fn tell(&mut self, alloc: Global, trouble: CheckTrouble) -> Result<(), AllocError> {
-        put_line(&mut self.faults, alloc, &Trouble::from(trouble))
+        put_line(
+            &mut self.faults,
+            self.screen,
+            alloc,
+            &Trouble::from(trouble),
+        )
     }
 
     #[tactic(auto, using(crate::proofs::Told::none_told))]
@@ -133,7 +168,7 @@ impl<F: Sink + Drop> Telling for Teller<F> {
         show(&mut self.faults, self.screen, alloc, files)
     }
 
-    #[tactic(auto, using(crate::proofs::Told::none_told))]
+    #[tactic(auto, using(crate::proofs::Told::all_cleared))]
     fn ended(&mut self) {
         clear(&mut self.faults, self.screen);
     }
@@ -144,29 +179,28 @@ impl<F: Sink + Drop> Listener for Teller<F> {
 
     #[tactic(auto, using(crate::proofs::Told::heard))]
     fn hear(&mut self, alloc: Global, trouble: Trouble) -> Result<(), AllocError> {
-        put_line(&mut self.faults, alloc, &trouble)
+        put_line(&mut self.faults, self.screen, alloc, &trouble)
     }
 }
 
 impl<F: Sink + Drop> Progress for Teller<F> {
-    ghost use Rattle.check_files.specs.Told.{Account};
-    ghost use Rattle.spdx_troubles.specs.declared.trouble.Trouble as the_trouble;
+    ghost use Rattle.std.specs.Prelude.{[]};
+    ghost use Rattle.check_files.specs.Told.{Hears};
 
-    ghost Kept = { Account the_trouble.Trouble };
+    ghost Shows = { λ x y. Hears (heard_in x.screen.progress (F.told x.faults))
+        (heard_in y.screen.progress (F.told y.faults)) [] };
 
-    ghost kept = { λ teller. heard_in teller.screen.progress (F.told teller.faults) };
-
-    #[tactic(auto, using(crate::proofs::Told::same_texts))]
+    #[tactic(auto, using(crate::proofs::Told::none_told))]
     fn seen(&mut self, alloc: Global, files: u64) -> Result<(), AllocError> {
         show(&mut self.faults, self.screen, alloc, files)
     }
 
-    #[tactic(auto, using(crate::proofs::Told::same_texts))]
+    #[tactic(auto, using(crate::proofs::Told::all_cleared))]
     fn ended(&mut self) {
         clear(&mut self.faults, self.screen);
     }
 }
 
 impl<F: Sink + Drop> Follower for Teller<F> {
-    ghost steady = { λ _ _ same. same };
+    ghost steady = { λ x y shows. shows };
 }

@@ -20,9 +20,7 @@ use test_rows::Tally;
 struct Quiet {}
 
 impl Progress for Quiet {
-    ghost Kept = { ℕ };
-
-    ghost kept = { λ _. 0 };
+    ghost Shows = { λ _ _. Unit {0} };
 
     fn seen(&mut self, _alloc: Global, _files: u64) -> Result<(), AllocError> {
         Ok(())

@@ -49,11 +49,7 @@ impl Listener for Told {
 }
 
 impl Progress for Told {
-    ghost use Rattle.std.specs.Prelude.{ℕ};
-
-    ghost Kept = { ℕ };
-
-    ghost kept = { λ _. 0 };
+    ghost Shows = { λ _ _. Unit {0} };
 
     fn seen(&mut self, _alloc: Global, _files: u64) -> Result<(), AllocError> {
         Ok(())
@@ -63,7 +59,5 @@ impl Progress for Told {
 }
 
 impl Follower for Told {
-    ghost use Rattle.std.specs.Prelude.{refl};
-
-    ghost steady = { λ _ _ _. refl };
+    ghost steady = { λ _ _ _. tt };
 }

@@ -1,11 +1,15 @@
 use Rattle.check_files.specs.Tally.{tally_of}
 use Rattle.check_trees.proofs.Seeing.{one_more_passed}
-use Rattle.std.proofs.Common.{rules}
+use Rattle.std.proofs.Common.{refl, rules}
+use Rattle.check_files.proofs.Doing.{hears_nil}
 use Rattle.std.proofs.lemmas.Iterator.Adapters.{YieldsList-from_vec}
 use Rattle.std.proofs.lemmas.Iterator.Consumers.{YieldsList-so_far}
 use Rattle.line_engine.proofs.Known.{OnErr-always}
 use Rattle.check_trees.proofs.Begun.{passed_begun}
 use Rattle.check_trees.proofs.ends.pass_all.Goals as goal
+
+pub loop-trouble-init : goal.loop-trouble-init
+loop-trouble-init g c = record { tells = hears_nil (g.T.Telling.told c.args.teller.now); counts = refl; have_memory = refl }
 
 pub loop-trouble-preserved : goal.loop-trouble-preserved
 loop-trouble-preserved g c =

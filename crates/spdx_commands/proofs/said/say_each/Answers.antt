@@ -2,8 +2,11 @@ use Rattle.std.proofs.Common.{rules}
 use Rattle.std.proofs.lemmas.Iterator.Adapters.{YieldsList-from_vec}
 use Rattle.std.proofs.lemmas.Iterator.Consumers.{YieldsList-so_far, YieldsList-turn}
 use Rattle.spdx_commands.specs.Said.{AreCutShort}
-use Rattle.spdx_commands.proofs.Saying.{at_one, broken_by, then_cut, then_said}
+use Rattle.spdx_commands.proofs.Saying.{at_one, broken_by, none_said, then_cut, then_said}
 use Rattle.spdx_commands.proofs.said.say_each.Goals as goal
+
+pub loop-said-init : goal.loop-said-init
+loop-said-init g c = none_said (g.O.Sink.told c.args.output.now) (g.T.Listener.heard c.args.listener.now)
 
 pub loop-said-preserved : goal.loop-said-preserved
 loop-said-preserved g c =

@@ -1,0 +1,5 @@
+use Rattle.fix_program.specs.Shown.{none}
+use Rattle.fix_program.proofs.run.path_ends.Goals as goal
+
+pub returns-in-Err-clause-shows : goal.returns-in-Err-clause-shows
+returns-in-Err-clause-shows g c = none c.args.progress.now
