@@ -3,3 +3,4 @@ pub mod Findings
 pub mod Fixes
 pub mod Frames
 pub mod Writing
+pub mod Ended
