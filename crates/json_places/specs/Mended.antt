@@ -1,11 +1,10 @@
 -- A text with another literal in it.
-use Rattle.std.specs.Prelude.{◌≡◌, ℕ, List, ◌∷◌, ◌++◌, Some, take, drop}
+use Rattle.std.specs.Prelude.{◌≡◌, ℕ, List, ◌∷◌, ◌++◌, take, drop}
 use Rattle.text_places.specs.declared.Span.{Span}
 use Rattle.serde_json.specs.Data.{Data}
-use Rattle.serde_json.specs.Read.{read}
 use Rattle.json_places.specs.declared.path.Step.{Step}
 use Rattle.json_places.specs.Paths.{set_at}
-use Rattle.json_places.specs.Places.{IsLiteral}
+use Rattle.json_places.specs.Places.{IsLiteral, IsRead}
 
 -- the text with the new one, in quotes, in place of the span
 abbrev pub with_literal : List ℕ → Span → List ℕ → List ℕ
@@ -18,4 +17,4 @@ pub record IsMended (text : List ℕ) (document : Data) (steps : List Step) (spa
     (new answer : List ℕ) : Type 0 where
   pub replaced : IsLiteral text document steps span
   pub spliced : answer ≡ with_literal text span new
-  pub reads : read answer ≡ Some (set_at steps new document)
+  pub reads : IsRead answer (set_at steps new document)

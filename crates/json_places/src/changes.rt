@@ -1,6 +1,6 @@
 // Whether a document is another with a text at a path replaced, and nothing else.
 
-ghost use Rattle.std.specs.Prelude.{◌≡◌, IsTrue, if◌then◌else◌};
+ghost use Rattle.std.specs.Prelude.{◌≡◌, ◌↔◌, IsTrue, if◌then◌else◌};
 ghost use Rattle.serde_json.specs.View.{items_view, members_view, view};
 ghost use Rattle.json_places.specs.Paths.{set_text, set_at, change_item, change_member};
 
@@ -8,17 +8,21 @@ use crate::path::{Path, Step};
 use crate::same::is_same;
 use serde_json::{Map, Value};
 
-// The new value is the text, where the old one was a text.
+// The new value is the text, where the old one was a text, and else the old one.
 fn is_text(old: &Value, new: &Value, text: &str) -> bool
-    ensures { IsTrue result → view new.now ≡ set_text text.now (view old.now) }
+    ensures { IsTrue result ↔ (view new.now ≡ set_text text.now (view old.now)) }
 {
-    matches!(old, Value::String(_)) && new.as_str() == Some(text)
+    if old.is_string() {
+        new.as_str() == Some(text)
+    } else {
+        is_same(old, new)
+    }
 }
 
 // The new value is the old one with the text where the steps lead.
 #[cycle(changes)]
 fn is_changed(old: &Value, new: &Value, steps: &[Step<'_>], text: &str) -> bool
-    ensures { IsTrue result → view new.now ≡ set_at steps.now text.now (view old.now) }
+    ensures { IsTrue result ↔ (view new.now ≡ set_at steps.now text.now (view old.now)) }
 {
     let Some((step, rest)) = steps.split_first() else {
         return is_text(old, new, text);
@@ -30,15 +34,15 @@ fn is_changed(old: &Value, new: &Value, steps: &[Step<'_>], text: &str) -> bool
         (Step::Item(index), Value::Array(x), Value::Array(y)) => {
             are_changed_items(x, y, *index, rest, text)
         }
-        _ => false,
+        _ => is_same(old, new),
     }
 }
 
 // The same where the steps lead here, and else the new value is the old one.
 #[cycle(changes)]
 fn is_changed_if(old: &Value, new: &Value, is_here: bool, rest: &[Step<'_>], text: &str) -> bool
-    ensures { IsTrue result → view new.now
-        ≡ (if is_here then set_at rest.now text.now (view old.now) else view old.now) }
+    ensures { IsTrue result ↔ (view new.now
+        ≡ (if is_here then set_at rest.now text.now (view old.now) else view old.now)) }
 {
     if is_here {
         is_changed(old, new, rest, text)
@@ -55,8 +59,8 @@ fn are_changed_items(
     rest: &[Step<'_>],
     text: &str,
 ) -> bool
-    ensures { IsTrue result → items_view new.now.items
-        ≡ change_item (set_at rest.now text.now) index 0 (items_view old.now.items) }
+    ensures { IsTrue result ↔ (items_view new.now.items
+        ≡ change_item (set_at rest.now text.now) index 0 (items_view old.now.items)) }
 {
     let mut others = new.iter();
     for (number, x) in old.iter().enumerate() {
@@ -78,8 +82,8 @@ fn are_changed_members(
     rest: &[Step<'_>],
     text: &str,
 ) -> bool
-    ensures { IsTrue result → members_view new.now.entries
-        ≡ change_member (set_at rest.now text.now) key.now (members_view old.now.entries) }
+    ensures { IsTrue result ↔ (members_view new.now.entries
+        ≡ change_member (set_at rest.now text.now) key.now (members_view old.now.entries)) }
 {
     let mut others = new.iter();
     for (name, x) in old.iter() {
@@ -96,7 +100,7 @@ fn are_changed_members(
 
 /// Whether the new document is the old one with the text where the path leads.
 pub(crate) fn is_changed_document(old: &Value, new: &Value, path: &Path<'_>, text: &str) -> bool
-    ensures { IsTrue result → view new.now ≡ set_at path.now.steps.items text.now (view old.now) }
+    ensures { IsTrue result ↔ (view new.now ≡ set_at path.now.steps.items text.now (view old.now)) }
 {
     is_changed(old, new, path.steps.as_slice(), text)
 }

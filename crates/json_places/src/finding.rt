@@ -1,11 +1,12 @@
 // The places of texts, certified by the reader.
 
-ghost use Rattle.std.specs.Prelude.{◌≡◌, ◌≢◌, ◌≤◌, Some, true, false, IfOk, IfSome, length, slice_get, slice_range};
-ghost use Rattle.serde_json.specs.Data.{string};
-ghost use Rattle.serde_json.specs.Read.{read};
+ghost use Rattle.std.specs.Prelude.{◌≡◌, ◌≢◌, ◌↔◌, ◌<◌, ◌≤◌, ◌^◌, ℕ, Some, IsTrue, IfOk, IfSome, IfNone, length, slice_get, slice_range};
+ghost use Rattle.serde_json.specs.Data.{Data, string};
 ghost use Rattle.serde_json.specs.View.{view};
-ghost use Rattle.json_places.specs.Places.{Stands, ArePlaces};
-ghost use Rattle.text_places.specs.Marks.{marked};
+ghost use Rattle.json_places.specs.Literals.{literals};
+ghost use Rattle.json_places.specs.Paths.{text_at as path_text};
+ghost use Rattle.json_places.specs.Places.{ArePlaces, IsPlace, IsRead};
+ghost use Rattle.text_places.specs.Marks.{mark_text, marked};
 ghost use Rattle.text_places.specs.Order.{AreInOrder};
 
 use crate::literals::literals;
@@ -16,7 +17,7 @@ use text_places::Span;
 use text_places::marks::{marked, number_of};
 
 fn is_same_text(one: &str, other: &str) -> bool
-    ensures { result ≡ false → one.now ≢ other.now }
+    ensures { IsTrue result ↔ (one.now ≡ other.now) }
 {
     one == other
 }
@@ -36,8 +37,8 @@ pub(crate) fn is_literal(
 ) -> Result<bool, AllocError>
     requires ordered { span.start ≤ span.end }
     requires within { span.end ≤ length bytes.now }
-    ensures { IfOk result (λ found. found ≡ true
-        → read (slice_range bytes.now span.start span.end) ≡ Some (string text.now)) }
+    ensures { IfOk result (λ found. IsTrue found
+        ↔ IsRead (slice_range bytes.now span.start span.end) (string text.now)) }
 {
     match Value::from_slice(alloc, &bytes[span.start..span.end]) {
         Ok(value) => Ok(value.as_str() == Some(text)),
@@ -49,8 +50,10 @@ pub(crate) fn is_literal(
 // The document that the text with marks is, if it is one.
 fn marked_document(alloc: Global, bytes: &[u8], spans: &[Span]) -> Result<Option<Value>, AllocError>
     requires { AreInOrder 0 spans.now (length bytes.now) }
-    ensures { IfOk result (λ found. IfSome found (λ marks.
-        read (marked bytes.now spans.now) ≡ Some (view marks))) }
+    ensures some { IfOk result (λ found. IfSome found (λ marks.
+        IsRead (marked bytes.now spans.now) (view marks))) }
+    ensures none { IfOk result (λ found. IfNone found
+        ((marks : Data) → ¬ IsRead (marked bytes.now spans.now) marks)) }
 {
     let marks = marked(alloc, bytes, spans)?;
     match Value::from_slice(alloc, marks.as_slice()) {
@@ -58,6 +61,29 @@ fn marked_document(alloc: Global, bytes: &[u8], spans: &[Span]) -> Result<Option
         Err(error) if error.is_memory() => Err(AllocError),
         Err(_) => Ok(None),
     }
+}
+
+// The number of the mark that stands at a path in place of this text.
+fn number_at(
+    alloc: Global,
+    text: &str,
+    marks: &Value,
+    path: &Path<'_>,
+) -> Result<Option<usize>, AllocError>
+    ensures marked { IfOk result (λ found. IfSome found (λ n.
+        path_text path.now.steps.items (view marks.now) ≡ Some (mark_text n))) }
+    ensures other { IfOk result (λ found. IfSome found (λ n. text.now ≢ mark_text n)) }
+    ensures none { IfOk result (λ found. IfNone found ((n : ℕ) → n < 2 ^ 64
+        → path_text path.now.steps.items (view marks.now) ≡ Some (mark_text n)
+        → text.now ≡ mark_text n)) }
+{
+    let Some(mark) = text_at(marks, path) else {
+        return Ok(None);
+    };
+    if is_same_text(text, mark) {
+        return Ok(None);
+    }
+    number_of(alloc, mark)
 }
 
 // The literal that a path means, whose number stands at the path of the marked document.
@@ -69,28 +95,23 @@ fn place(
     marks: &Option<Value>,
     path: &Path<'_>,
 ) -> Result<Option<Span>, AllocError>
-    requires in_order { AreInOrder 0 spans.now (length bytes.now) }
-    requires marks { IfSome marks.now (λ marks.
-        read (marked bytes.now spans.now) ≡ Some (view marks)) }
-    ensures { IfOk result (λ found.
-        IfSome found (Stands bytes.now (view document.now) path.now.steps.items)) }
+    requires literals { spans.now ≡ literals bytes.now }
+    requires some { IfSome marks.now (λ marks.
+        IsRead (marked bytes.now (literals bytes.now)) (view marks)) }
+    requires none { IfNone marks.now
+        ((marks : Data) → ¬ IsRead (marked bytes.now (literals bytes.now)) marks) }
+    ensures { IfOk result (IsPlace bytes.now (view document.now) path.now.steps.items) }
 {
-    let Some(marks) = marks else {
+    let (Some(marks), Some(text)) = (marks, text_at(document, path)) else {
         return Ok(None);
     };
-    let (Some(value), Some(mark)) = (text_at(document, path), text_at(marks, path)) else {
-        return Ok(None);
-    };
-    if is_same_text(value, mark) {
-        return Ok(None);
-    }
-    let Some(number) = number_of(alloc, mark)? else {
+    let Some(number) = number_at(alloc, text, marks, path)? else {
         return Ok(None);
     };
     let Some(span) = span_at(spans, number) else {
         return Ok(None);
     };
-    let is_same = is_literal(alloc, bytes, span, value)?;
+    let is_same = is_literal(alloc, bytes, span, text)?;
     Ok(if is_same { Some(span) } else { None })
 }
 
@@ -103,9 +124,11 @@ fn places_among(
     marks: &Option<Value>,
     paths: &[Path<'_>],
 ) -> Result<Vec<Option<Span>>, AllocError>
-    requires in_order { AreInOrder 0 spans.now (length bytes.now) }
-    requires marks { IfSome marks.now (λ marks.
-        read (marked bytes.now spans.now) ≡ Some (view marks)) }
+    requires literals { spans.now ≡ literals bytes.now }
+    requires some { IfSome marks.now (λ marks.
+        IsRead (marked bytes.now (literals bytes.now)) (view marks)) }
+    requires none { IfNone marks.now
+        ((marks : Data) → ¬ IsRead (marked bytes.now (literals bytes.now)) marks) }
     ensures { IfOk result (λ found.
         ArePlaces bytes.now (view document.now) paths.now found.items) }
 {
@@ -117,7 +140,8 @@ fn places_among(
 }
 
 /// Where the texts at these paths stand, one answer a path, in order: the bytes of the literal, with its quotes. `None`
-/// where the document has no text at the path, or where its literal was not made out. `document` is what the bytes are read as.
+/// where no literal stands there: the document has no text at the path, or that text is a mark itself, as `#7`, or the
+/// scan and the reader disagree. `document` is what the bytes are read as.
 ///
 /// It reads the bytes once more, with a mark in place of each literal, and is linear in the bytes and the paths.
 ///

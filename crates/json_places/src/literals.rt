@@ -1,60 +1,106 @@
 // The literals of a JSON text that are values and no keys, found by a scan.
 
-ghost use Rattle.std.specs.Prelude.{◌≡◌, ◌+◌, ◌<◌, ◌≤◌, IfOk, length};
+ghost use Rattle.std.specs.Prelude.{◌≡◌, ◌+◌, ◌<◌, ◌≤◌, ◌==◌, ◌++◌, ◌&&◌, IfOk, OnOk, drop, false, length, not};
+ghost use Rattle.std.specs.Option.{option_to_list};
 ghost use Rattle.text_places.specs.Order.{AreInOrder};
+ghost use Rattle.json_places.specs.Literals as spec;
 
 use std::alloc::{AllocError, Global};
 use text_places::Span;
 
-// The length of the literal at the front, which begins with a quote. A backslash escapes.
-fn literal_len(bytes: &[u8]) -> usize
-    ensures { result ≤ length bytes.now }
+// A quote ends a literal, but behind a backslash.
+fn is_end(is_escaped: bool, byte: u8) -> bool
+    ensures { result ≡ (not is_escaped && byte == 34) }
 {
-    let mut at: usize = 1;
-    while at < bytes.len() && bytes[at] != b'"' {
-        at = at.saturating_add(if bytes[at] == b'\\' { 2 } else { 1 });
+    !is_escaped && byte == b'"'
+}
+
+// A backslash escapes what follows, but behind another.
+fn is_escape(is_escaped: bool, byte: u8) -> bool
+    ensures { result ≡ (not is_escaped && byte == 92) }
+{
+    !is_escaped && byte == b'\\'
+}
+
+// How many bytes stand before the end of a literal, with the quote that ends it.
+fn quoted_len(bytes: &[u8]) -> usize
+    ensures value { result ≡ spec.quoted_len false bytes.now }
+    ensures within { result ≤ length bytes.now }
+{
+    let mut is_escaped = false;
+    for (at, byte) in bytes.iter().enumerate() {
+        if is_end(is_escaped, *byte) {
+            return at + 1;
+        }
+        is_escaped = is_escape(is_escaped, *byte);
     }
-    at.saturating_add(1).min(bytes.len())
+    bytes.len()
 }
 
 // The length of the literal or the byte at the front.
 fn piece_len(bytes: &[u8]) -> usize
     requires { 0 < length bytes.now }
+    ensures value { result ≡ spec.piece_len bytes.now }
     ensures some { 0 < result }
     ensures within { result ≤ length bytes.now }
 {
-    let len = match bytes[0] {
-        b'"' => literal_len(bytes),
+    match bytes[0] {
+        b'"' => 1 + quoted_len(&bytes[1..]),
         _ => 1,
-    };
-    len.max(1)
+    }
+}
+
+fn is_blank(byte: u8) -> bool
+    ensures { result ≡ spec.is_blank byte }
+{
+    byte == b' ' || byte == b'\t' || byte == b'\n' || byte == b'\r'
 }
 
 // A literal before these bytes is a key.
-fn is_key(bytes: &[u8]) -> bool {
-    let next = bytes.iter().find(|byte| !byte.is_ascii_whitespace());
-    matches!(next, Some(b':'))
+fn begins_colon(bytes: &[u8]) -> bool
+    ensures { result ≡ spec.begins_colon bytes.now }
+{
+    for byte in bytes {
+        if !is_blank(*byte) {
+            return *byte == b':';
+        }
+    }
+    false
 }
 
-// A literal that is no key stands there.
-fn is_value(bytes: &[u8], start: usize, end: usize) -> bool
-    requires within { start < length bytes.now }
+// The literal of the piece between two places, where it is one and no key.
+fn value_at(bytes: &[u8], at: usize, end: usize) -> Option<Span>
+    requires within { at < length bytes.now }
     requires behind { end ≤ length bytes.now }
+    requires end { end ≡ at + spec.piece_len (drop at bytes.now) }
+    ensures { option_to_list result ≡ spec.value_at at (drop at bytes.now) }
 {
-    bytes[start] == b'"' && !is_key(&bytes[end..])
+    if bytes[at] == b'"' && !begins_colon(&bytes[end..]) {
+        Some(Span { start: at, end })
+    } else {
+        None
+    }
+}
+
+fn push_some(found: &mut Vec<Span>, span: Option<Span>) -> Result<(), AllocError>
+    ensures { OnOk result (found.new.items ≡ found.old.items ++ option_to_list span) }
+{
+    if let Some(span) = span {
+        found.push(span)?;
+    }
+    Ok(())
 }
 
 /// The literals of texts that are values and no keys, as far as a scan can tell. Linear, for bytes that are JSON.
 pub(crate) fn literals(alloc: Global, bytes: &[u8]) -> Result<Vec<Span>, AllocError>
-    ensures { IfOk result (λ found. AreInOrder 0 found.items (length bytes.now)) }
+    ensures value { IfOk result (λ found. found.items ≡ spec.literals bytes.now) }
+    ensures in_order { IfOk result (λ found. AreInOrder 0 found.items (length bytes.now)) }
 {
     let mut found = Vec::new(alloc);
     let mut at = 0;
     while at < bytes.len() {
         let end = at + piece_len(&bytes[at..]);
-        if is_value(bytes, at, end) {
-            found.push(Span { start: at, end })?;
-        }
+        push_some(&mut found, value_at(bytes, at, end))?;
         at = end;
     }
     Ok(found)

@@ -1,6 +1,6 @@
 // A text with another literal in it, certified by the reader.
 
-ghost use Rattle.std.specs.Prelude.{◌≡◌, ◌<◌, ◌≤◌, IfOk, IfSome, IsTrue, length};
+ghost use Rattle.std.specs.Prelude.{◌≡◌, ◌↔◌, ◌≤◌, IfNone, IfOk, IfSome, IsTrue, length};
 ghost use Rattle.serde_json.specs.View.{view};
 ghost use Rattle.json_places.specs.Mended.{with_literal, IsMended};
 ghost use Rattle.json_places.specs.Places.{IsLiteral};
@@ -20,15 +20,13 @@ fn is_there(
     path: &Path<'_>,
     span: Span,
 ) -> Result<bool, AllocError>
-    ensures ordered { IfOk result (λ found. IsTrue found → span.start < span.end) }
-    ensures within { IfOk result (λ found. IsTrue found → span.end ≤ length bytes.now) }
-    ensures literal { IfOk result (λ found. IsTrue found →
-        IsLiteral bytes.now (view document.now) path.now.steps.items span) }
+    ensures { IfOk result (λ found. IsTrue found
+        ↔ IsLiteral bytes.now (view document.now) path.now.steps.items span) }
 {
     let Some(old) = text_at(document, path) else {
         return Ok(false);
     };
-    if span.start >= span.end || span.end > bytes.len() {
+    if span.start > span.end || span.end > bytes.len() {
         return Ok(false);
     }
     is_literal(alloc, bytes, span, old)
@@ -36,7 +34,7 @@ fn is_there(
 
 // The bytes with a literal in place of the span.
 fn with_literal(alloc: Global, bytes: &[u8], span: Span, new: &[u8]) -> Result<Vec<u8>, AllocError>
-    requires ordered { span.start < span.end }
+    requires ordered { span.start ≤ span.end }
     requires within { span.end ≤ length bytes.now }
     ensures { IfOk result (λ answer. answer.items ≡ with_literal bytes.now span new.now) }
 {
@@ -50,7 +48,7 @@ fn with_literal(alloc: Global, bytes: &[u8], span: Span, new: &[u8]) -> Result<V
 }
 
 /// The bytes with `new` in place of the literal at a span, in quotes. The literal has to be of the text at the path, and the answer is read as the old document with `new`
-/// there and no other change. `None` where that can't be: where `new` would need an escape or has a control character,
+/// there and no other change. `None` exactly where that can't be: where `new` would need an escape or has a control character,
 /// or where the document has no text at the path, or not that one at the span. `document` is what the bytes are read as.
 /// Linear in the bytes and in `new`.
 ///
@@ -65,9 +63,12 @@ pub fn with_text(
     span: Span,
     new: &str,
 ) -> Result<Option<Vec<u8>>, AllocError>
-    ensures { IfOk result (λ answer. IfSome answer (λ answer.
+    ensures mended { IfOk result (λ answer. IfSome answer (λ answer.
         IsMended bytes.now (view document.now) path.now.steps.items span new.now
         answer.items)) }
+    ensures refused { IfOk result (λ answer. IfNone answer (¬
+        IsMended bytes.now (view document.now) path.now.steps.items span new.now
+        (with_literal bytes.now span new.now))) }
 {
     if !is_there(alloc, bytes, document, path, span)? {
         return Ok(None);

@@ -1,6 +1,6 @@
 // Whether two values are one, which `==` of the reader's values does not promise.
 
-ghost use Rattle.std.specs.Prelude.{◌≡◌, IsTrue, None};
+ghost use Rattle.std.specs.Prelude.{◌≡◌, ◌↔◌, IsTrue, None};
 ghost use Rattle.serde_json.specs.Find.{as_u64};
 ghost use Rattle.serde_json.specs.View.{items_view, members_view, number_view, view};
 
@@ -8,13 +8,13 @@ use serde_json::{Map, Number, Value};
 use std::num::f64_to_bits_with_nan;
 
 fn is_same_float(x: f64, y: f64) -> bool
-    ensures { IsTrue result → x ≡ y }
+    ensures { IsTrue result ↔ (x ≡ y) }
 {
     f64_to_bits_with_nan(x) == f64_to_bits_with_nan(y)
 }
 
 fn is_same_number(x: &Number, y: &Number) -> bool
-    ensures { IsTrue result → number_view x.now ≡ number_view y.now }
+    ensures { IsTrue result ↔ (number_view x.now ≡ number_view y.now) }
 {
     match (x.as_u64(), y.as_u64()) {
         (Some(one), Some(other)) => one == other,
@@ -27,7 +27,7 @@ fn is_same_number(x: &Number, y: &Number) -> bool
 fn is_same_signed(x: &Number, y: &Number) -> bool
     requires one { as_u64 (number_view x.now) ≡ None }
     requires other { as_u64 (number_view y.now) ≡ None }
-    ensures { IsTrue result → number_view x.now ≡ number_view y.now }
+    ensures { IsTrue result ↔ (number_view x.now ≡ number_view y.now) }
 {
     match (x.as_i64(), y.as_i64()) {
         (Some(one), Some(other)) => one == other,
@@ -42,7 +42,7 @@ fn is_same_signed(x: &Number, y: &Number) -> bool
 /// Whether two values are the same.
 #[cycle(same)]
 pub(crate) fn is_same(old: &Value, new: &Value) -> bool
-    ensures { IsTrue result → view new.now ≡ view old.now }
+    ensures { IsTrue result ↔ (view new.now ≡ view old.now) }
 {
     match (old, new) {
         (Value::String(x), Value::String(y)) => x == y,
@@ -57,7 +57,7 @@ pub(crate) fn is_same(old: &Value, new: &Value) -> bool
 
 #[cycle(same)]
 fn are_same_items(old: &Vec<Value>, new: &Vec<Value>) -> bool
-    ensures { IsTrue result → items_view new.now.items ≡ items_view old.now.items }
+    ensures { IsTrue result ↔ (items_view new.now.items ≡ items_view old.now.items) }
 {
     let mut others = new.iter();
     for x in old {
@@ -73,7 +73,7 @@ fn are_same_items(old: &Vec<Value>, new: &Vec<Value>) -> bool
 
 #[cycle(same)]
 fn are_same_members(old: &Map<String, Value>, new: &Map<String, Value>) -> bool
-    ensures { IsTrue result → members_view new.now.entries ≡ members_view old.now.entries }
+    ensures { IsTrue result ↔ (members_view new.now.entries ≡ members_view old.now.entries) }
 {
     let mut others = new.iter();
     for (name, x) in old.iter() {

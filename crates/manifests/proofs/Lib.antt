@@ -1,3 +1,6 @@
 pub mod Apart
 pub mod ApartToml
+pub mod JsonWays
 pub mod Marks
+pub mod SoFar
+pub mod TomlWays

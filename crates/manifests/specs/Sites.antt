@@ -150,10 +150,51 @@ abbrev pub IsMarked : List ℕ → ManifestError → Type 0
 IsMarked bytes (Refused fault) = is_utf16 bytes ≡ true
 IsMarked bytes NoMemory = ⊤
 
--- a file of fields or elements is refused for nothing else; of the other forms their readers decide
+-- no site has the number
+abbrev pub HasNone : (Site → Type 0) → ℕ → Type 0
+HasNone IsSite number = (site : Site) → site.number ≡ number → IsSite site → ⊥
+
+-- one of these texts, which is an expression, has no site
+pub record LacksSite (IsSite : Site → Type 0) (wanted : List ℕ → Bool)
+    (texts : List (List ℕ)) : Type 0 where
+  pub number : ℕ
+  pub text : List ℕ
+  pub declared : slice_get texts number ≡ Some text
+  pub expression : wanted text ≡ true
+  pub nowhere : HasNone IsSite number
+
+-- an expression that the document declares has no site
+pub record IsUnplacedJson (form : Form) (bytes : List ℕ) : Type 0 where
+  pub document : Data
+  pub reads : read bytes ≡ Some document
+  pub lacks : LacksSite (IsInJson bytes document (license_texts document) (license_paths document))
+      (is_expression form) (license_texts document)
+
+-- the same of TOML
+pub record IsUnplacedToml (form : Form) (bytes : List ℕ) : Type 0 where
+  pub document : Members
+  pub reads : parse_document bytes ≡ Some document
+  pub lacks : LacksSite
+      (IsInToml bytes document (texts_of_toml form document) (paths_of_toml form document))
+      (λ text. true) (texts_of_toml form document)
+
+-- where a place isn't known, this is so
+abbrev pub IfUnplaced : Type 0 → Reason → Type 0
+IfUnplaced unplaced NoPlace = unplaced
+IfUnplaced unplaced reason = ⊤
+
+abbrev pub IfRefusedUnplaced : Type 0 → ManifestError → Type 0
+IfRefusedUnplaced unplaced (Refused fault) = IfUnplaced unplaced fault.reason
+IfRefusedUnplaced unplaced NoMemory = ⊤
+
+-- a file of fields or elements is refused for its mark alone; a place isn't known only where a
+-- declared expression has none
 abbrev pub IsRefusedFor : Form → List ℕ → ManifestError → Type 0
+IsRefusedFor Cargo bytes error = IfRefusedUnplaced (IsUnplacedToml Cargo bytes) error
+IsRefusedFor Pyproject bytes error = IfRefusedUnplaced (IsUnplacedToml Pyproject bytes) error
+IsRefusedFor Reuse bytes error = IfRefusedUnplaced (IsUnplacedToml Reuse bytes) error
 IsRefusedFor (Plain form) bytes error = IsMarked bytes error
-IsRefusedFor form bytes error = ⊤
+IsRefusedFor form bytes error = IfRefusedUnplaced (IsUnplacedJson form bytes) error
 
 -- the literal of the text to which this way leads is replaced by the new text in quotes, every
 -- other byte stays, and what is read is the document with the new text where the old one stood, and
@@ -204,8 +245,7 @@ Mends Reuse bytes number new mended = MendsToml Reuse bytes number new mended
 Mends (Plain form) bytes number new mended = MendsPlain form bytes number new mended
 Mends form bytes number new mended = MendsJson bytes number new mended
 
--- why there is no such manifest: of a file of fields or elements exactly; of JSON and TOML it isn't
--- said
+-- there is no such manifest; of a file of fields or elements it is told why
 abbrev pub Stays : Form → List ℕ → ℕ → List ℕ → Type 0
 Stays (Plain form) bytes number new = StaysPlain form bytes number new
-Stays form bytes number new = ⊤
+Stays form bytes number new = (mended : List ℕ) → Mends form bytes number new mended → ⊥

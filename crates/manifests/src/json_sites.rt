@@ -1,13 +1,14 @@
 // The expressions of a manifest of JSON, each at its place.
 
-ghost use Rattle.std.specs.Prelude.{◌≡◌, All, IfErr, IfOk, IfSome, Some, true, filter, map, slice_get};
+ghost use Rattle.std.specs.Prelude.{◌≡◌, ◌↔◌, ℕ, List, All, IfErr, IfNone, IfOk, IfSome, IsTrue, Some, true, filter, map, option_and_then, option_map, slice_get};
 ghost use Rattle.serde_json.specs.Read.{read};
 ghost use Rattle.serde_json.specs.View.{view};
-ghost use Rattle.json_places.specs.Places.{ArePlaces};
+ghost use Rattle.json_places.specs.Places.{ArePlaces, Stands, StandsNowhere};
 ghost use Rattle.json_places.specs.Paths.{text_at as json_text_at};
 ghost use Rattle.manifests.specs.Steps.{json_steps};
-ghost use Rattle.manifests.specs.Sites.{AreSitesOfJson, IsInJson, is_expression};
+ghost use Rattle.manifests.specs.Sites.{AreSitesOfJson, HasNone, IfRefusedUnplaced, IsInJson, IsUnplacedJson, LacksSite, is_expression};
 ghost use Rattle.manifests.specs.Sites as spec;
+ghost use Rattle.json_places.specs.declared.path.Path.{Path};
 ghost use Rattle.manifests.specs.declared.site.Site.{Site};
 
 use crate::form::Form;
@@ -39,6 +40,7 @@ fn is_expression(form: Form, text: &str) -> bool
 fn document_in(alloc: Global, bytes: &[u8]) -> Result<Value, ManifestError>
     ensures ok { IfOk result (λ document. read bytes.now ≡ Some (view document)) }
     ensures err { IfErr result (spec.IsError bytes.now) }
+    ensures placed { IfErr result (IfRefusedUnplaced ⊥) }
 {
     match Value::from_slice(alloc, bytes) {
         Ok(document) => Ok(document),
@@ -70,15 +72,39 @@ struct Placed<'p> {
     spans: &'p [Option<Span>],
 }
 
-// The path of that number, and the place that was found for it.
-fn place_at<'p>(placed: &Placed<'p>, number: usize) -> Option<(&'p Path<'static>, Span)>
-    ensures path { IfSome result (λ r. slice_get placed.now.paths.now number ≡ Some r.0.now) }
-    ensures span { IfSome result (λ r. slice_get placed.now.spans.now number ≡ Some (Some r.1)) }
+fn path_of<'p>(paths: &'p [Path<'static>], number: usize) -> Option<&'p Path<'static>>
+    ensures { option_map (λ path. path.now) result ≡ slice_get paths.now number }
 {
-    match (placed.paths.get(number), placed.spans.get(number)) {
-        (Some(path), Some(Some(span))) => Some((path, *span)),
+    paths.get(number)
+}
+
+fn span_of(spans: &[Option<Span>], number: usize) -> Option<Span>
+    ensures { result ≡ option_and_then (λ span. span) (slice_get spans.now number) }
+{
+    match spans.get(number) {
+        Some(Some(span)) => Some(*span),
         _ => None,
     }
+}
+
+// The path of that number, and the place that was found for it.
+fn place_at<'p>(placed: &Placed<'p>, number: usize) -> Option<(&'p Path<'static>, Span)>
+    requires { ArePlaces placed.now.bytes.now (view placed.now.document.now)
+        placed.now.paths.now placed.now.spans.now }
+    ensures path { IfSome result (λ r. slice_get placed.now.paths.now number ≡ Some r.0.now) }
+    ensures stands { IfSome result (λ r. Stands placed.now.bytes.now
+        (view placed.now.document.now) r.0.now.steps.items r.1) }
+    ensures nowhere { IfNone result ((path : Path) →
+        slice_get placed.now.paths.now number ≡ Some path →
+        StandsNowhere placed.now.bytes.now (view placed.now.document.now) path.steps.items) }
+{
+    let Some(path) = path_of(placed.paths, number) else {
+        return None;
+    };
+    let Some(span) = span_of(placed.spans, number) else {
+        return None;
+    };
+    Some((path, span))
 }
 
 // The site of the text of that number, where its place was found.
@@ -96,6 +122,9 @@ fn site_at(
     ensures place { IfOk result (λ found. IfSome found
         (IsInJson placed.now.bytes.now (view placed.now.document.now)
         (map (λ t. t.now) texts.now) (map json_steps placed.now.paths.now))) }
+    ensures none { IfOk result (λ found. IfNone found (HasNone
+        (IsInJson placed.now.bytes.now (view placed.now.document.now)
+        (map (λ t. t.now) texts.now) (map json_steps placed.now.paths.now)) number)) }
 {
     let Some((path, span)) = place_at(placed, number) else {
         return Ok(None);
@@ -115,7 +144,8 @@ fn site_at(
 
 // Whether the document has this text at the path.
 fn says(document: &Value, path: &Path<'_>, text: &str) -> bool
-    ensures { result ≡ true → json_text_at path.now.steps.items (view document.now) ≡ Some text.now }
+    ensures { IsTrue result
+        ↔ (json_text_at path.now.steps.items (view document.now) ≡ Some text.now) }
 {
     match text_at(document, path) {
         Some(other) => other == text,
@@ -135,6 +165,10 @@ fn sites_of(
     ensures texts { IfOk result (λ sites. map (λ (s : Site). s.text.items) sites.items
         ≡ filter (is_expression form) (map (λ t. t.now) texts.now)) }
     ensures err { IfErr result (spec.IsError placed.now.bytes.now) }
+    ensures placed { IfErr result (IfRefusedUnplaced (LacksSite
+        (IsInJson placed.now.bytes.now (view placed.now.document.now)
+        (map (λ t. t.now) texts.now) (map json_steps placed.now.paths.now))
+        (is_expression form) (map (λ t. t.now) texts.now))) }
     ensures places { IfOk result (λ sites.
         All (IsInJson placed.now.bytes.now (view placed.now.document.now)
         (map (λ t. t.now) texts.now) (map json_steps placed.now.paths.now)) sites.items) }
@@ -159,6 +193,7 @@ pub(crate) fn json_sites(
 ) -> Result<Vec<Site>, ManifestError>
     ensures ok { IfOk result (λ sites. AreSitesOfJson form bytes.now sites.items) }
     ensures err { IfErr result (spec.IsError bytes.now) }
+    ensures placed { IfErr result (IfRefusedUnplaced (IsUnplacedJson form bytes.now)) }
 {
     let document = document_in(alloc, bytes)?;
     let found = license_texts(alloc, &document)?;
@@ -181,7 +216,10 @@ pub(crate) fn json_with(
 ) -> Result<Option<Vec<u8>>, ManifestError>
     ensures ok { IfOk result (λ answer. IfSome answer (λ mended.
         spec.MendsJson bytes.now number new.now mended.items)) }
+    ensures none { IfOk result (λ answer. IfNone answer ((mended : List ℕ) →
+        spec.MendsJson bytes.now number new.now mended → ⊥)) }
     ensures err { IfErr result (spec.IsError bytes.now) }
+    ensures placed { IfErr result (IfRefusedUnplaced ⊥) }
 {
     let document = document_in(alloc, bytes)?;
     let found = license_texts(alloc, &document)?;
@@ -195,10 +233,7 @@ pub(crate) fn json_with(
     let Some(old) = text_of(found.texts.as_slice(), number) else {
         return Ok(None);
     };
-    match changed_at(alloc, &placed, number, old, new)? {
-        Some(mended) => Ok(Some(mended)),
-        None => Ok(None),
-    }
+    Ok(changed_at(alloc, &placed, number, old, new)?)
 }
 
 // The bytes with another text in place of the one of that number.
@@ -211,10 +246,14 @@ fn changed_at(
 ) -> Result<Option<Vec<u8>>, AllocError>
     requires { ArePlaces placed.now.bytes.now (view placed.now.document.now)
         placed.now.paths.now placed.now.spans.now }
-    ensures { IfOk result (λ answer. IfSome answer (λ mended.
+    ensures changed { IfOk result (λ answer. IfSome answer (λ mended.
         spec.ChangesJson placed.now.bytes.now (view placed.now.document.now)
         (slice_get (map json_steps placed.now.paths.now) number)
         old.now new.now mended.items)) }
+    ensures none { IfOk result (λ answer. IfNone answer ((mended : List ℕ) →
+        spec.ChangesJson placed.now.bytes.now (view placed.now.document.now)
+        (slice_get (map json_steps placed.now.paths.now) number)
+        old.now new.now mended → ⊥)) }
 {
     let Some((path, span)) = place_at(placed, number) else {
         return Ok(None);

@@ -1,13 +1,14 @@
 // The expressions of a manifest of TOML, each at its place.
 
-ghost use Rattle.std.specs.Prelude.{◌≡◌, All, IfErr, IfOk, IfSome, Some, true, map, slice_get};
+ghost use Rattle.std.specs.Prelude.{◌≡◌, ◌↔◌, ℕ, List, All, IfErr, IfNone, IfOk, IfSome, IsTrue, Some, true, map, option_and_then, option_map, slice_get};
 ghost use Rattle.toml.specs.Parse.{parse_document};
 ghost use Rattle.toml.specs.View.{table_view};
-ghost use Rattle.toml_places.specs.Places.{ArePlaces};
+ghost use Rattle.toml_places.specs.Places.{ArePlaces, Stands, StandsNowhere};
 ghost use Rattle.toml_places.specs.Paths.{text_at as toml_text_at};
 ghost use Rattle.manifests.specs.Steps.{toml_steps};
-ghost use Rattle.manifests.specs.Sites.{AreSitesOfToml, IsInToml, paths_of_toml, texts_of_toml};
+ghost use Rattle.manifests.specs.Sites.{AreSitesOfToml, HasNone, IfRefusedUnplaced, IsInToml, IsUnplacedToml, LacksSite, paths_of_toml, texts_of_toml};
 ghost use Rattle.manifests.specs.Sites as spec;
+ghost use Rattle.toml_places.specs.declared.path.Path.{Path};
 ghost use Rattle.manifests.specs.declared.site.Site.{Site};
 
 use crate::form::Form;
@@ -23,6 +24,7 @@ use toml_places::{Path, places, text_at, with_text};
 fn text_in(bytes: &[u8]) -> Result<&str, ManifestError>
     ensures ok { IfOk result (λ text. text.now ≡ bytes.now) }
     ensures err { IfErr result (spec.IsError bytes.now) }
+    ensures placed { IfErr result (IfRefusedUnplaced ⊥) }
 {
     match str::from_utf8(bytes) {
         Ok(text) => Ok(text),
@@ -37,6 +39,7 @@ fn text_in(bytes: &[u8]) -> Result<&str, ManifestError>
 fn document_in(alloc: Global, text: &str) -> Result<Table, ManifestError>
     ensures ok { IfOk result (λ document. parse_document text.now ≡ Some (table_view document)) }
     ensures err { IfErr result (spec.IsError text.now) }
+    ensures placed { IfErr result (IfRefusedUnplaced ⊥) }
 {
     match toml::table_from_str(alloc, text) {
         Ok(document) => Ok(document),
@@ -72,15 +75,39 @@ struct Placed<'p> {
     spans: &'p [Option<Span>],
 }
 
-// The path of that number, and the place that was found for it.
-fn place_at<'p>(placed: &Placed<'p>, number: usize) -> Option<(&'p Path<'static>, Span)>
-    ensures path { IfSome result (λ r. slice_get placed.now.paths.now number ≡ Some r.0.now) }
-    ensures span { IfSome result (λ r. slice_get placed.now.spans.now number ≡ Some (Some r.1)) }
+fn path_of<'p>(paths: &'p [Path<'static>], number: usize) -> Option<&'p Path<'static>>
+    ensures { option_map (λ path. path.now) result ≡ slice_get paths.now number }
 {
-    match (placed.paths.get(number), placed.spans.get(number)) {
-        (Some(path), Some(Some(span))) => Some((path, *span)),
+    paths.get(number)
+}
+
+fn span_of(spans: &[Option<Span>], number: usize) -> Option<Span>
+    ensures { result ≡ option_and_then (λ span. span) (slice_get spans.now number) }
+{
+    match spans.get(number) {
+        Some(Some(span)) => Some(*span),
         _ => None,
     }
+}
+
+// The path of that number, and the place that was found for it.
+fn place_at<'p>(placed: &Placed<'p>, number: usize) -> Option<(&'p Path<'static>, Span)>
+    requires { ArePlaces placed.now.text.now (table_view placed.now.document.now)
+        placed.now.paths.now placed.now.spans.now }
+    ensures path { IfSome result (λ r. slice_get placed.now.paths.now number ≡ Some r.0.now) }
+    ensures stands { IfSome result (λ r. Stands placed.now.text.now
+        (table_view placed.now.document.now) r.0.now.steps.items r.1) }
+    ensures nowhere { IfNone result ((path : Path) →
+        slice_get placed.now.paths.now number ≡ Some path →
+        StandsNowhere placed.now.text.now (table_view placed.now.document.now) path.steps.items) }
+{
+    let Some(path) = path_of(placed.paths, number) else {
+        return None;
+    };
+    let Some(span) = span_of(placed.spans, number) else {
+        return None;
+    };
+    Some((path, span))
 }
 
 // The site of the text of that number, where its place was found.
@@ -98,6 +125,9 @@ fn site_at(
     ensures place { IfOk result (λ found. IfSome found
         (IsInToml placed.now.text.now (table_view placed.now.document.now)
         (map (λ t. t.now) texts.now) (map toml_steps placed.now.paths.now))) }
+    ensures none { IfOk result (λ found. IfNone found (HasNone
+        (IsInToml placed.now.text.now (table_view placed.now.document.now)
+        (map (λ t. t.now) texts.now) (map toml_steps placed.now.paths.now)) number)) }
 {
     let Some((path, span)) = place_at(placed, number) else {
         return Ok(None);
@@ -117,7 +147,8 @@ fn site_at(
 
 // Whether the document has this text at the path.
 fn says(document: &Table, path: &Path<'_>, text: &str) -> bool
-    ensures { result ≡ true → toml_text_at path.now.steps.items (table_view document.now) ≡ Some text.now }
+    ensures { IsTrue result
+        ↔ (toml_text_at path.now.steps.items (table_view document.now) ≡ Some text.now) }
 {
     match text_at(document, path) {
         Some(other) => other == text,
@@ -132,6 +163,10 @@ fn sites_of(alloc: Global, placed: &Placed<'_>, texts: &[&str]) -> Result<Vec<Si
     ensures texts { IfOk result (λ sites. map (λ (s : Site). s.text.items) sites.items
         ≡ map (λ t. t.now) texts.now) }
     ensures err { IfErr result (spec.IsError placed.now.text.now) }
+    ensures placed { IfErr result (IfRefusedUnplaced (LacksSite
+        (IsInToml placed.now.text.now (table_view placed.now.document.now)
+        (map (λ t. t.now) texts.now) (map toml_steps placed.now.paths.now))
+        (λ text. true) (map (λ t. t.now) texts.now))) }
     ensures places { IfOk result (λ sites.
         All (IsInToml placed.now.text.now (table_view placed.now.document.now)
         (map (λ t. t.now) texts.now) (map toml_steps placed.now.paths.now)) sites.items) }
@@ -172,6 +207,7 @@ pub(crate) fn toml_sites(
 ) -> Result<Vec<Site>, ManifestError>
     ensures ok { IfOk result (λ sites. AreSitesOfToml form bytes.now sites.items) }
     ensures err { IfErr result (spec.IsError bytes.now) }
+    ensures placed { IfErr result (IfRefusedUnplaced (IsUnplacedToml form bytes.now)) }
 {
     let text = text_in(bytes)?;
     let document = document_in(alloc, text)?;
@@ -196,7 +232,10 @@ pub(crate) fn toml_with(
 ) -> Result<Option<Vec<u8>>, ManifestError>
     ensures ok { IfOk result (λ answer. IfSome answer (λ mended.
         spec.MendsToml form bytes.now number new.now mended.items)) }
+    ensures none { IfOk result (λ answer. IfNone answer ((mended : List ℕ) →
+        spec.MendsToml form bytes.now number new.now mended → ⊥)) }
     ensures err { IfErr result (spec.IsError bytes.now) }
+    ensures placed { IfErr result (IfRefusedUnplaced ⊥) }
 {
     let text = text_in(bytes)?;
     let document = document_in(alloc, text)?;
@@ -211,10 +250,7 @@ pub(crate) fn toml_with(
     let Some(old) = text_of(found.texts.as_slice(), number) else {
         return Ok(None);
     };
-    match changed_at(alloc, &placed, number, old, new)? {
-        Some(mended) => Ok(Some(mended)),
-        None => Ok(None),
-    }
+    Ok(changed_at(alloc, &placed, number, old, new)?)
 }
 
 // The bytes with another text in place of the one of that number.
@@ -227,10 +263,14 @@ fn changed_at(
 ) -> Result<Option<Vec<u8>>, AllocError>
     requires { ArePlaces placed.now.text.now (table_view placed.now.document.now)
         placed.now.paths.now placed.now.spans.now }
-    ensures { IfOk result (λ answer. IfSome answer (λ mended.
+    ensures changed { IfOk result (λ answer. IfSome answer (λ mended.
         spec.ChangesToml placed.now.text.now (table_view placed.now.document.now)
         (slice_get (map toml_steps placed.now.paths.now) number)
         old.now new.now mended.items)) }
+    ensures none { IfOk result (λ answer. IfNone answer ((mended : List ℕ) →
+        spec.ChangesToml placed.now.text.now (table_view placed.now.document.now)
+        (slice_get (map toml_steps placed.now.paths.now) number)
+        old.now new.now mended → ⊥)) }
 {
     let Some((path, span)) = place_at(placed, number) else {
         return Ok(None);

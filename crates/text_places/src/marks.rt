@@ -1,6 +1,6 @@
 //! A text with marks in place of its literals, by which it is told where each of them went when the text is read again.
 
-ghost use Rattle.std.specs.Prelude.{◌≡◌, ◌≤◌, ◌++◌, IfOk, OnOk, IfSome, length, slice_range, string_bytes};
+ghost use Rattle.std.specs.Prelude.{◌≡◌, ◌≢◌, ℕ, ◌^◌, ◌<◌, ◌≤◌, ◌++◌, IfOk, OnOk, IfSome, IfNone, length, slice_range, string_bytes};
 ghost use Rattle.text_places.specs.Marks.{mark, mark_text, marked};
 ghost use Rattle.text_places.specs.Order.{AreInOrder};
 
@@ -57,9 +57,14 @@ pub fn marked(alloc: Global, bytes: &[u8], spans: &[Span]) -> Result<Vec<u8>, Al
 ///
 /// Memory was refused.
 pub fn number_of(alloc: Global, text: &str) -> Result<Option<usize>, AllocError>
-    ensures { IfOk result (λ found. IfSome found (λ number. text.now ≡ mark_text number)) }
+    ensures some { IfOk result (λ found. IfSome found (λ number. text.now ≡ mark_text number)) }
+    ensures none { IfOk result (λ found. IfNone found
+        ((number : ℕ) → number < 2 ^ 64 → text.now ≢ mark_text number)) }
 {
-    let Some(Ok(number)) = text.strip_prefix("#").map(|digits| digits.parse::<usize>()) else {
+    let Some(digits) = text.strip_prefix("#") else {
+        return Ok(None);
+    };
+    let Ok(number) = digits.parse::<usize>() else {
         return Ok(None);
     };
     let mark = format!(in alloc; "#{number}")?;

@@ -1,3 +1,4 @@
+pub mod Literals
 pub mod Mended
 pub mod Paths
 pub mod Places

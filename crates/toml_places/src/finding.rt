@@ -1,11 +1,13 @@
 // The places of texts, certified by the reader.
 
-ghost use Rattle.std.specs.Prelude.{◌≡◌, ◌≢◌, ◌↔◌, Some, false, IsTrue, IsUtf8, IfOk, IfSome, length, slice_get};
+ghost use Rattle.std.specs.Prelude.{◌≡◌, ◌≢◌, ◌↔◌, ℕ, ◌^◌, ◌<◌, Some, None, IsTrue, IsUtf8, IfOk, IfSome, IfNone, length, slice_get};
 ghost use Rattle.toml.specs.Data.{string};
 ghost use Rattle.toml.specs.Parse.{parse_document, parse_value};
 ghost use Rattle.toml.specs.View.{view, table_view};
-ghost use Rattle.toml_places.specs.Places.{IsLiteral, Stands, ArePlaces};
-ghost use Rattle.text_places.specs.Marks.{marked};
+ghost use Rattle.toml_places.specs.Literals.{literals};
+ghost use Rattle.toml_places.specs.Paths as spec;
+ghost use Rattle.toml_places.specs.Places.{IsLiteral, IsPlace, ArePlaces};
+ghost use Rattle.text_places.specs.Marks.{mark_text, marked};
 ghost use Rattle.text_places.specs.Order.{AreInOrder};
 
 use crate::literals::literals;
@@ -14,12 +16,6 @@ use std::alloc::{AllocError, Global};
 use text_places::Span;
 use text_places::marks::{marked, number_of};
 use toml::{Table, Value};
-
-fn is_same_text(one: &str, other: &str) -> bool
-    ensures { result ≡ false → one.now ≢ other.now }
-{
-    one == other
-}
 
 fn span_at(spans: &[Span], number: usize) -> Option<Span>
     ensures { result ≡ slice_get spans.now number }
@@ -64,9 +60,15 @@ pub(crate) fn is_literal_at(
 
 // The document that the text with marks is, if it is one.
 fn marked_document(alloc: Global, text: &str, spans: &[Span]) -> Result<Option<Table>, AllocError>
-    requires { AreInOrder 0 spans.now (length text.now) }
-    ensures { IfOk result (λ found. IfSome found (λ marks.
-        parse_document (marked text.now spans.now) ≡ Some (table_view marks))) }
+    requires in_order { AreInOrder 0 spans.now (length text.now) }
+    requires spans { spans.now ≡ literals text.now }
+    ensures is_text { IfOk result (λ found. IfSome found (λ _.
+        IsUtf8 (marked text.now (literals text.now)))) }
+    ensures reads { IfOk result (λ found. IfSome found (λ marks.
+        parse_document (marked text.now (literals text.now)) ≡ Some (table_view marks))) }
+    ensures unread { IfOk result (λ found. IfNone found (
+        IsUtf8 (marked text.now (literals text.now))
+        → parse_document (marked text.now (literals text.now)) ≡ None)) }
 {
     let bytes = marked(alloc, text.as_bytes(), spans)?;
     match toml::table_from_slice(alloc, bytes.as_slice()) {
@@ -74,6 +76,32 @@ fn marked_document(alloc: Global, text: &str, spans: &[Span]) -> Result<Option<T
         Err(error) if error.is_memory() => Err(AllocError),
         Err(_) => Ok(None),
     }
+}
+
+// The number whose mark stands at the path of the document with marks, and not of the document itself.
+fn number_at(
+    alloc: Global,
+    document: &Table,
+    marks: &Table,
+    path: &Path<'_>,
+) -> Result<Option<usize>, AllocError>
+    ensures after { IfOk result (λ found. IfSome found (λ number.
+        spec.text_at path.now.steps.items (table_view marks.now) ≡ Some (mark_text number))) }
+    ensures before { IfOk result (λ found. IfSome found (λ number.
+        spec.text_at path.now.steps.items (table_view document.now)
+        ≢ Some (mark_text number))) }
+    ensures none { IfOk result (λ found. IfNone found ((number : ℕ) → number < 2 ^ 64
+        → spec.text_at path.now.steps.items (table_view marks.now) ≡ Some (mark_text number)
+        → spec.text_at path.now.steps.items (table_view document.now)
+        ≡ Some (mark_text number))) }
+{
+    let Some(mark) = text_at(marks, path) else {
+        return Ok(None);
+    };
+    if text_at(document, path) == Some(mark) {
+        return Ok(None);
+    }
+    number_of(alloc, mark)
 }
 
 // The literal that a path means, whose number stands at the path of the marked document.
@@ -85,22 +113,18 @@ fn place(
     marks: &Option<Table>,
     path: &Path<'_>,
 ) -> Result<Option<Span>, AllocError>
-    requires in_order { AreInOrder 0 spans.now (length text.now) }
-    requires marks { IfSome marks.now (λ marks.
-        parse_document (marked text.now spans.now) ≡ Some (table_view marks)) }
-    ensures { IfOk result (λ found.
-        IfSome found (Stands text.now (table_view document.now) path.now.steps.items)) }
+    requires spans { spans.now ≡ literals text.now }
+    requires is_text { IfSome marks.now (λ _. IsUtf8 (marked text.now (literals text.now))) }
+    requires reads { IfSome marks.now (λ marks.
+        parse_document (marked text.now (literals text.now)) ≡ Some (table_view marks)) }
+    requires unread { IfNone marks.now (IsUtf8 (marked text.now (literals text.now))
+        → parse_document (marked text.now (literals text.now)) ≡ None) }
+    ensures { IfOk result (IsPlace text.now (table_view document.now) path.now.steps.items) }
 {
     let Some(marks) = marks else {
         return Ok(None);
     };
-    let (Some(value), Some(mark)) = (text_at(document, path), text_at(marks, path)) else {
-        return Ok(None);
-    };
-    if is_same_text(value, mark) {
-        return Ok(None);
-    }
-    let Some(number) = number_of(alloc, mark)? else {
+    let Some(number) = number_at(alloc, document, marks, path)? else {
         return Ok(None);
     };
     let Some(span) = span_at(spans, number) else {
@@ -119,9 +143,12 @@ fn places_among(
     marks: &Option<Table>,
     paths: &[Path<'_>],
 ) -> Result<Vec<Option<Span>>, AllocError>
-    requires in_order { AreInOrder 0 spans.now (length text.now) }
-    requires marks { IfSome marks.now (λ marks.
-        parse_document (marked text.now spans.now) ≡ Some (table_view marks)) }
+    requires spans { spans.now ≡ literals text.now }
+    requires is_text { IfSome marks.now (λ _. IsUtf8 (marked text.now (literals text.now))) }
+    requires reads { IfSome marks.now (λ marks.
+        parse_document (marked text.now (literals text.now)) ≡ Some (table_view marks)) }
+    requires unread { IfNone marks.now (IsUtf8 (marked text.now (literals text.now))
+        → parse_document (marked text.now (literals text.now)) ≡ None) }
     ensures { IfOk result (λ found.
         ArePlaces text.now (table_view document.now) paths.now found.items) }
 {
@@ -133,8 +160,9 @@ fn places_among(
 }
 
 /// Where the texts at these paths stand, one answer a path, in order: the bytes of the literal, with its quotes. `None`
-/// where the document has no text at the path, or where its literal was not made out. `document` is what `text` is read
-/// as. It reads the text once more, with a mark in place of each literal, and is linear in the text and the paths.
+/// where no literal stands there: where the document has no text at the path, or the scan and the reader disagree, or the
+/// text is itself a mark, as `#7`. `document` is what `text` is read as. It reads the text once more, with a mark in place
+/// of each literal, and is linear in the text and the paths.
 ///
 /// # Errors
 ///

@@ -1,30 +1,46 @@
 // The literals of a TOML text that are values, found by a scan that knows quotes, comments, headers and keys.
 
-ghost use Rattle.std.specs.Prelude.{◌≡◌, ◌+◌, ◌<◌, ◌≤◌, IfOk, length};
+ghost use Rattle.std.specs.Prelude.{◌≡◌, ◌+◌, ◌^◌, ◌<◌, ◌≤◌, IfOk, false, length};
 ghost use Rattle.text_places.specs.Order.{AreInOrder};
+ghost use Rattle.toml_places.specs.Literals as spec;
 
 use std::alloc::{AllocError, Global};
 use text_places::Span;
 
-fn is_quote(byte: u8) -> bool {
+fn is_quote(byte: u8) -> bool
+    ensures { result ≡ spec.is_quote byte }
+{
     byte == b'"' || byte == b'\''
 }
 
-// Where these quotes stand first from a place on, or the length. A backslash escapes in basic texts.
-fn closing_place(bytes: &[u8], from: usize, closing: &[u8]) -> usize
-    ensures { result ≤ length bytes.now }
+fn is_escape(byte: u8, quotes: &[u8]) -> bool
+    ensures { result ≡ spec.is_escape quotes.now byte }
 {
-    let mut at = from;
-    while at < bytes.len() && !bytes[at..].starts_with(closing) {
-        let is_escape = bytes[at] == b'\\' && closing.starts_with(b"\"");
-        at = at.saturating_add(if is_escape { 2 } else { 1 });
+    byte == b'\\' && quotes.starts_with(b"\"")
+}
+
+// How many bytes stand before the end of a literal, with the quotes that end it. A backslash escapes in double quotes.
+fn quoted_len(bytes: &[u8], quotes: &[u8]) -> usize
+    ensures value { result ≡ spec.quoted_len quotes.now false bytes.now }
+    ensures within { result ≤ length bytes.now }
+{
+    let mut is_escaped = false;
+    for (at, byte) in bytes.iter().enumerate() {
+        if is_escaped {
+            is_escaped = false;
+        } else if bytes[at..].starts_with(quotes) {
+            return at + quotes.len();
+        } else {
+            is_escaped = is_escape(*byte, quotes);
+        }
     }
-    at.min(bytes.len())
+    bytes.len()
 }
 
 // How many of the quotes at the front belong to a text of several lines that closes before them.
 fn more_quotes(bytes: &[u8], quote: u8) -> usize
-    ensures { result ≤ length bytes.now }
+    ensures value { result ≡ spec.more_quotes quote bytes.now }
+    ensures within { result ≤ length bytes.now }
 {
     bytes
         .iter()
@@ -33,35 +49,26 @@ fn more_quotes(bytes: &[u8], quote: u8) -> usize
         .count()
 }
 
-// The length of the literal in these quotes at the front.
-fn quoted_len(bytes: &[u8], quotes: &[u8]) -> usize
-    ensures { result ≤ length bytes.now }
+// The length of the literal at the front, which begins with this quote.
+fn literal_len(bytes: &[u8], quote: u8) -> usize
+    requires { 0 < length bytes.now }
+    ensures value { result ≡ spec.literal_len quote bytes.now }
+    ensures some { 0 < result }
+    ensures within { result ≤ length bytes.now }
 {
-    let closing = closing_place(bytes, quotes.len(), quotes);
-    closing.saturating_add(quotes.len()).min(bytes.len())
-}
-
-// The length of the literal at the front, which begins with a quote.
-fn literal_len(bytes: &[u8]) -> usize
-    ensures { result ≤ length bytes.now }
-{
-    match bytes {
-        [b'"', b'"', b'"', ..] => {
-            let len = quoted_len(bytes, b"\"\"\"");
-            len + more_quotes(&bytes[len..], b'"')
-        }
-        [b'\'', b'\'', b'\'', ..] => {
-            let len = quoted_len(bytes, b"'''");
-            len + more_quotes(&bytes[len..], b'\'')
-        }
-        [b'"', ..] => quoted_len(bytes, b"\""),
-        _ => quoted_len(bytes, b"'"),
+    let three = [quote, quote, quote];
+    if bytes.starts_with(&three) {
+        let len = 3 + quoted_len(&bytes[3..], &three);
+        len + more_quotes(&bytes[len..], quote)
+    } else {
+        1 + quoted_len(&bytes[1..], &[quote])
     }
 }
 
 // The length of the comment at the front.
 fn comment_len(bytes: &[u8]) -> usize
-    ensures { result ≤ length bytes.now }
+    ensures value { result ≡ spec.comment_len bytes.now }
+    ensures within { result ≤ length bytes.now }
 {
     bytes.iter().take_while(|byte| **byte != b'\n').count()
 }
@@ -69,21 +76,36 @@ fn comment_len(bytes: &[u8]) -> usize
 // The length of the literal, the comment or the byte at the front.
 fn piece_len(bytes: &[u8]) -> usize
     requires { 0 < length bytes.now }
+    ensures value { result ≡ spec.piece_len bytes.now }
     ensures some { 0 < result }
     ensures within { result ≤ length bytes.now }
 {
-    let len = match bytes[0] {
-        b'"' | b'\'' => literal_len(bytes),
-        b'#' => comment_len(bytes),
-        _ => 1,
-    };
-    len.max(1)
+    let first = bytes[0];
+    if is_quote(first) {
+        literal_len(bytes, first)
+    } else if first == b'#' {
+        comment_len(bytes)
+    } else {
+        1
+    }
 }
 
-// A literal before these bytes is a key.
-fn is_key(bytes: &[u8]) -> bool {
-    let next = bytes.iter().find(|byte| **byte != b' ' && **byte != b'\t');
-    matches!(next, Some(b'=' | b'.'))
+fn is_blank(byte: u8) -> bool
+    ensures { result ≡ spec.is_blank byte }
+{
+    byte == b' ' || byte == b'\t'
+}
+
+// What stands before these bytes is a key.
+fn is_behind_key(bytes: &[u8]) -> bool
+    ensures { result ≡ spec.is_behind_key bytes.now }
+{
+    for byte in bytes {
+        if !is_blank(*byte) {
+            return *byte == b'=' || *byte == b'.';
+        }
+    }
+    false
 }
 
 // Where the scan is: how many brackets are open, whether only blanks stand before it in its line, and whether that
@@ -95,41 +117,69 @@ struct Line {
     is_header: bool,
 }
 
-// Behind a piece that begins with this byte.
-fn line_behind(line: Line, byte: u8) -> Line {
-    let begins_header = line.is_fresh && line.depth == 0;
+// How many brackets are open behind this byte.
+fn depth_behind(depth: usize, byte: u8) -> usize
+    requires { depth + 1 < 2 ^ 64 }
+    ensures value { result ≡ spec.depth_behind depth byte }
+    ensures within { result ≤ depth + 1 }
+{
     match byte {
-        b' ' | b'\t' | b'\r' => line,
-        b'\n' => Line {
+        b'[' => depth + 1,
+        b']' => depth.saturating_sub(1),
+        _ => depth,
+    }
+}
+
+fn opens_header(line: Line, byte: u8) -> bool
+    ensures { result ≡ spec.opens_header line byte }
+{
+    byte == b'[' && line.is_fresh && line.depth == 0
+}
+
+// Behind a piece that begins with this byte.
+fn line_behind(line: Line, byte: u8) -> Line
+    requires { line.depth + 1 < 2 ^ 64 }
+    ensures value { result ≡ spec.line_behind line byte }
+    ensures within { result.depth ≤ line.depth + 1 }
+{
+    if is_blank(byte) || byte == b'\r' {
+        return line;
+    }
+    if byte == b'\n' {
+        return Line {
             is_fresh: true,
             is_header: false,
             ..line
-        },
-        b'[' if begins_header => Line {
+        };
+    }
+    if line.is_header || opens_header(line, byte) {
+        return Line {
             is_fresh: false,
             is_header: true,
             ..line
-        },
-        b'[' if !line.is_header => Line {
-            depth: line.depth.saturating_add(1),
-            is_fresh: false,
-            ..line
-        },
-        b']' if !line.is_header => Line {
-            depth: line.depth.saturating_sub(1),
-            is_fresh: false,
-            ..line
-        },
-        _ => Line {
-            is_fresh: false,
-            ..line
-        },
+        };
     }
+    Line {
+        depth: depth_behind(line.depth, byte),
+        is_fresh: false,
+        is_header: false,
+    }
+}
+
+// The piece of this length at the front is a literal and no key.
+fn is_value(line: Line, bytes: &[u8], len: usize) -> bool
+    requires some { 0 < length bytes.now }
+    requires len { len ≡ spec.piece_len bytes.now }
+    requires within { len ≤ length bytes.now }
+    ensures { result ≡ spec.is_value line bytes.now }
+{
+    is_quote(bytes[0]) && !line.is_header && !is_behind_key(&bytes[len..])
 }
 
 /// The literals of texts that are values and no keys, as far as a scan can tell. Linear.
 pub(crate) fn literals(alloc: Global, bytes: &[u8]) -> Result<Vec<Span>, AllocError>
-    ensures { IfOk result (λ found. AreInOrder 0 found.items (length bytes.now)) }
+    ensures value { IfOk result (λ found. found.items ≡ spec.literals bytes.now) }
+    ensures in_order { IfOk result (λ found. AreInOrder 0 found.items (length bytes.now)) }
 {
     let mut found = Vec::new(alloc);
     let mut at = 0;
@@ -139,8 +189,10 @@ pub(crate) fn literals(alloc: Global, bytes: &[u8]) -> Result<Vec<Span>, AllocEr
         is_header: false,
     };
     while at < bytes.len() {
-        let end = at + piece_len(&bytes[at..]);
-        if is_quote(bytes[at]) && !line.is_header && !is_key(&bytes[end..]) {
+        let rest = &bytes[at..];
+        let len = piece_len(rest);
+        let end = at + len;
+        if is_value(line, rest, len) {
             found.push(Span { start: at, end })?;
         }
         line = line_behind(line, bytes[at]);

@@ -1,0 +1,15 @@
+use Rattle.std.proofs.Common.{sym}
+use Rattle.serde_json.specs.View.{view}
+use Rattle.manifests.proofs.JsonWays.{nothing_at, stands_at}
+use Rattle.manifests.proofs.json_sites.place_at.Goals as goal
+
+pub returns-in_default-span_of-clause-nowhere : goal.returns-in_default-span_of-clause-nowhere
+returns-in_default-span_of-clause-nowhere c = λ path at.
+    let p = c.args.placed.now in
+    nothing_at p.bytes.now (view p.document.now) p.paths.now p.spans.now c.args.number path c.requires at c.in_default-span_of.ensures
+
+pub returns-clause-stands : goal.returns-clause-stands
+returns-clause-stands c =
+    let p = c.args.placed.now in
+    stands_at p.bytes.now (view p.document.now) p.paths.now p.spans.now c.args.number c.in-Some.path.now c.in-Some-span_of.span c.requires
+    (sym c.in-Some.ensures) c.in-Some-span_of.ensures
