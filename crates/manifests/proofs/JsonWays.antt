@@ -20,15 +20,15 @@ use Rattle.manifests.specs.Sites.{ChangesJson, IsInJson, MendsJson}
 use Rattle.manifests.specs.declared.site.Site.{Site}
 
 -- what the way leads to
-abbrev behind : Step → Data → Option Data
+abbrev pub behind : Step → Data → Option Data
 behind (Key key) d = get key d
 behind (Item index) d = at index d
 
-abbrev way_at : List Step → Data → Option Data
+abbrev pub way_at : List Step → Data → Option Data
 way_at [] d = Some d
 way_at (x ∷ xs) d = option_and_then (way_at xs) (behind x d)
 
-value_at-way : (xs : List json.Step) (d : Data) → value_at xs d ≡ way_at (map of_json xs) d
+pub value_at-way : (xs : List json.Step) (d : Data) → value_at xs d ≡ way_at (map of_json xs) d
 value_at-way [] d = refl
 value_at-way (step.Key key ∷ xs) d = ap (λ f. option_and_then f (get key.now d)) (fun_ext (value_at-way xs))
 value_at-way (step.Item index ∷ xs) d = ap (λ f. option_and_then f (at index d)) (fun_ext (value_at-way xs))

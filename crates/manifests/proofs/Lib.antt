@@ -4,3 +4,5 @@ pub mod JsonWays
 pub mod Marks
 pub mod SoFar
 pub mod TomlWays
+pub mod Led
+pub mod Mendable

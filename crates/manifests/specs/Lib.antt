@@ -4,3 +4,4 @@ pub mod OldTable
 pub mod Sites
 pub mod Steps
 pub mod Toml
+pub mod Written

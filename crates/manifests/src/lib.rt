@@ -23,6 +23,6 @@ mod toml_texts;
 
 pub use crate::declared::{reads_slash, sites, with_expression};
 pub use crate::form::{Form, form_named, form_of};
-pub use crate::laws::ways_are_told_once;
+pub use crate::laws::{json_texts_are_mended, ways_are_told_once};
 pub use crate::old_table::has_license_table;
 pub use crate::site::{Fault, ManifestError, Reason, Site};
