@@ -7,7 +7,7 @@
 //! let spans = places(alloc, bytes, &document, found.paths.as_slice())?;
 //! ```
 //!
-//! It stands on `text_places` and `serde_json`.
+//! It stands on `text_places` and `serde_json`, and by its proofs on `json`.
 #![tactic(auto)]
 
 mod changes;
