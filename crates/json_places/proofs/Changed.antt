@@ -206,14 +206,6 @@ text_at-retext ls d f e =
     let t = tagged ls d e in
     (reword (by_tag f) t.document, t.read f, λ steps s is. let at = led_unchanged ls t d steps s e is in (at.0, at.1, leads_to ls t f _ steps at.0 s (t.read f) at.2))
 
--- A path that leads to a text once the texts are others led to the text that it was.
-pub text_at-retext_back : (ls : List Lexeme) (d dm : Data) (f : Change) (steps : List Step) (v : List ℕ) → read_lexemes ls ≡ Some d → read_lexemes (retext f 0 ls) ≡ Some dm → text_at steps dm ≡ Some v
-    → (n : ℕ) × (s : List ℕ) × (slice_get (texts_of ls) n ≡ Some s) × (text_at steps d ≡ Some s) × (f n s ≡ v)
-text_at-retext_back ls d dm f steps v e g is =
-    let t = tagged ls d e in
-    let at = led_to ls t f dm steps v g is in
-    (at.0, at.1, at.2, leads_to ls t (λ n s. s) d steps at.0 at.1 (ap read_lexemes (retext-same 0 ls) ∙ e) at.3, at.4)
-
 -- the change of one text
 abbrev pub only : ℕ → List ℕ → Change
 only k new n s = if n == k then new else s

@@ -18,7 +18,8 @@ use Rattle.json_places.proofs.Retext.{retext, texts_of, read_lexemes, IsText}
 use Rattle.json_places.proofs.Pieces.{Good}
 use Rattle.json_places.proofs.Good.{Good-read}
 use Rattle.json_places.proofs.Lexed.{lex-respelled, text_of_literal, literal_of_text}
-use Rattle.json_places.proofs.Spelled.{ArePlain, IsText-plain, IsText-mark, read-IsText, respelled-marks, respelled-one, literals-in_order}
+use Rattle.json_places.proofs.Scan.{literals-in_order}
+use Rattle.json_places.proofs.Spelled.{ArePlain, IsText-plain, IsText-mark, read-IsText, respelled-marks, respelled-one}
 use Rattle.json_places.proofs.Changed.{text_at-retext, set_at-retext}
 use Rattle.json_places.proofs.Utf8.{IsQuoted, AreUtf8, AreUtf8-around, IsUtf8-marked, IsUtf8-with_literal}
 

@@ -1,5 +1,5 @@
 -- Places found one after the other.
-use Rattle.std.proofs.Common.{◌≡◌, ℕ, zero, suc, ◌<◌, ◌^◌, List, [], ◌∷◌, ◌++◌, Option, Some, None, length, drop, refl, ap, subst, arith}
+use Rattle.std.proofs.Common.{◌≡◌, ℕ, ◌<◌, ◌^◌, List, [], ◌∷◌, ◌++◌, Option, Some, length, drop, refl, ap, subst, arith}
 use Rattle.std.specs.Prelude.{slice_get}
 use Rattle.std.proofs.lemmas.Option.{slice_get_within}
 use Rattle.std.proofs.lemmas.Fmt.{decimal_injective}
@@ -10,7 +10,7 @@ use Rattle.json_places.specs.declared.path.Path.{Path}
 use Rattle.json_places.specs.declared.path.Step.{Step}
 use Rattle.json_places.specs.Literals.{literals}
 use Rattle.json_places.specs.Paths.{text_at}
-use Rattle.json_places.specs.Places.{Stands, StandsNowhere, IsPlace, IsRead, ArePlaces}
+use Rattle.json_places.specs.Places.{Stands, IsPlace, IsRead, ArePlaces}
 
 pub ArePlaces-push : (text : List ℕ) (document : Data) (paths : List Path) (places : List (Option Span)) (path : Path) (place : Option Span)
     → ArePlaces text document paths places → IsPlace text document path.steps.items place
@@ -19,38 +19,6 @@ ArePlaces-push text document [] [] path place h here = (here, tt)
 ArePlaces-push text document [] (p ∷ places) path place h here = absurd h
 ArePlaces-push text document (q ∷ paths) [] path place h here = absurd h
 ArePlaces-push text document (q ∷ paths) (p ∷ places) path place h here = (h.0, ArePlaces-push text document paths places path place h.1 here)
-
--- what was found for the path of the same number
-pub ArePlaces-place : (text : List ℕ) (document : Data) (paths : List Path) (places : List (Option Span)) (number : ℕ) (path : Path) (place : Option Span)
-    → ArePlaces text document paths places → slice_get paths number ≡ Some path → slice_get places number ≡ Some place
-    → IsPlace text document path.steps.items place
-ArePlaces-place text document [] places number path place h at found = absurd (cc)
-ArePlaces-place text document (q ∷ paths) [] number path place h at found = absurd h
-ArePlaces-place text document (q ∷ paths) (p ∷ places) zero path place h at found =
-    let same : q ≡ path = cc in
-    let here : p ≡ place = cc in
-    subst (λ (r : Path). IsPlace text document r.steps.items place) same (subst (IsPlace text document q.steps.items) here h.0)
-ArePlaces-place text document (q ∷ paths) (p ∷ places) (suc number) path place h at found =
-    ArePlaces-place text document paths places number path place h.1 at found
-
--- the place that was found for it
-pub ArePlaces-at : (text : List ℕ) (document : Data) (paths : List Path) (places : List (Option Span)) (number : ℕ) (path : Path) (span : Span)
-    → ArePlaces text document paths places → slice_get paths number ≡ Some path → slice_get places number ≡ Some (Some span)
-    → Stands text document path.steps.items span
-ArePlaces-at text document paths places number path span h at found = (ArePlaces-place text document paths places number path (Some span) h at found).0
-
--- or that there is none
-pub ArePlaces-nowhere : (text : List ℕ) (document : Data) (paths : List Path) (places : List (Option Span)) (number : ℕ) (path : Path)
-    → ArePlaces text document paths places → slice_get paths number ≡ Some path → slice_get places number ≡ Some None
-    → StandsNowhere text document path.steps.items
-ArePlaces-nowhere text document paths places number path h at found = (ArePlaces-place text document paths places number path None h at found).1
-
-pub ArePlaces-length : (text : List ℕ) (document : Data) (paths : List Path) (places : List (Option Span)) → ArePlaces text document paths places
-    → length places ≡ length paths
-ArePlaces-length text document [] [] h = refl
-ArePlaces-length text document [] (p ∷ places) h = absurd h
-ArePlaces-length text document (q ∷ paths) [] h = absurd h
-ArePlaces-length text document (q ∷ paths) (p ∷ places) h = ap suc (ArePlaces-length text document paths places h.1)
 
 mark-injective : (m n : ℕ) → m < 2 ^ 64 → n < 2 ^ 64 → mark_text m ≡ mark_text n → m ≡ n
 mark-injective m n small low same = decimal_injective m n small low (ap (drop 1) same)

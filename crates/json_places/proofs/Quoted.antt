@@ -270,12 +270,6 @@ lex-IsText literal s rest t =
     let passed : lex in_string (t.inner ++ 34 ∷ rest) ≡ lex between rest = ap (λ l. lex in_string (l ++ 34 ∷ rest)) same.0 ∙ c.lexes rest in
     ap (lex between) joined ∙ ap₂ (λ o l. token (string_token o) ∷ l) (t.is rest) passed
 
--- a literal has one text
-pub IsText-unique : (literal s t : List ℕ) → IsText literal s → IsText literal t → s ≡ t
-IsText-unique literal s t a b =
-    let e : token (string s) ∷ lex between [] ≡ token (string t) ∷ lex between [] = sym (lex-IsText literal s [] a) ∙ lex-IsText literal t [] b in
-    cc
-
 -- the literal whose first quote stands before a text
 pub record LiteralBefore (xs s : List ℕ) : Type 0 where
   pub inner : List ℕ

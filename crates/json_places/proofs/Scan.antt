@@ -14,10 +14,6 @@ pub quoted_len-more : (e : Bool) (bs : List ℕ) (i : ℕ) → i < length bs →
 quoted_len-more true bs i lt h = ap (quoted_len true) (drop_more bs i 0 lt)
 quoted_len-more false bs i lt h = ap (quoted_len false) (drop_more bs i 0 lt) ∙ ends_not (get_or bs i 0) (drop (i + 1) bs) h
 
--- the byte that ends one
-pub quoted_len-end : (bs : List ℕ) (i : ℕ) → i < length bs → get_or bs i 0 ≡ 34 → quoted_len false (drop i bs) ≡ 1
-quoted_len-end bs i lt e = ap (quoted_len false) (drop_more bs i 0 lt ∙ ap (λ (b : ℕ). b ∷ drop (i + 1) bs) e)
-
 -- what was read is passed over
 pub literals_from-skip : (at skip : ℕ) (bs : List ℕ) → literals_from at skip bs ≡ literals_from (at + skip) 0 (drop skip bs)
 literals_from-skip at zero [] = refl

@@ -14,7 +14,7 @@ use Rattle.json.specs.Lex.{token, between, lex, punctuate}
 use Rattle.json.specs.Json.{items, members, value}
 use Rattle.serde_json.specs.Data.{string}
 use Rattle.serde_json.specs.Read.{read}
-use Rattle.json_places.specs.Literals.{quoted_len, begins_colon, literals_from, literals}
+use Rattle.json_places.specs.Literals.{quoted_len}
 use Rattle.json_places.specs.Mended.{with_literal}
 use Rattle.json_places.proofs.Retext.{IsText, respelled, read_lexemes}
 use Rattle.json_places.proofs.Quoted.{quoted_len-inside, content-inside, lex-IsText}
@@ -139,54 +139,3 @@ respelled-one text spans k span new h found =
     let zeroth : k ≡ 0 + k = omega arith in
     let whole : span.start - 0 ≡ span.start = omega arith in
     (one_from text k new 0 0 (length text) k spans span zeroth h found).1 ∙ ap (λ n. take n text ++ (34 ∷ (new ++ (34 ∷ drop span.end text)))) whole
-
--- ---- the literals of a text are in order
-
-one_longer : (b : Bool) (n l : ℕ) → n ≤ l → cond b 1 (1 + n) ≤ suc l
-one_longer true n l h = omega arith
-one_longer false n l h = omega arith
-
-quoted_len-le : (is_escaped : Bool) (xs : List ℕ) → quoted_len is_escaped xs ≤ length xs
-quoted_len-le true [] = omega arith
-quoted_len-le false [] = omega arith
-quoted_len-le true (x ∷ xs) = let rest = quoted_len-le false xs in omega arith
-quoted_len-le false (x ∷ xs) = one_longer (x == 34) (quoted_len (x == 92) xs) (length xs) (quoted_len-le (x == 92) xs)
-
-AreInOrder-from : (low later : ℕ) (spans : List Span) (high : ℕ) → AreInOrder later spans high → low ≤ later → AreInOrder low spans high
-AreInOrder-from low later [] high h le = omega arith
-AreInOrder-from low later (s ∷ spans) high h le = let first = h.0 in (omega arith, h.1, h.2)
-
-first_in_order : (b c : Bool) (at n high : ℕ) (found : ℕ → List Span) → ((k : ℕ) → k ≡ cond b n 0 → AreInOrder (at + 1 + k) (found k) high)
-    → AreInOrder (at + 0) (cond b (cond c [] (record { start = at; end = at + (1 + n) } ∷ [])) [] ++ found (cond b (1 + n) 1 - 1)) high
-first_in_order true true at n high found h =
-    let less : 1 + n - 1 ≡ n = omega arith in
-    AreInOrder-from (at + 0) (at + 1 + (1 + n - 1)) (found (1 + n - 1)) high (h (1 + n - 1) less) (omega arith)
-first_in_order true false at n high found h =
-    let less : 1 + n - 1 ≡ n = omega arith in
-    (omega arith, omega arith, AreInOrder-from (at + (1 + n)) (at + 1 + (1 + n - 1)) (found (1 + n - 1)) high (h (1 + n - 1) less) (omega arith))
-first_in_order false c at n high found h = AreInOrder-from (at + 0) (at + 1 + 0) (found 0) high (h 0 refl) (omega arith)
-
-choice_le : (b : Bool) (n l : ℕ) → n ≤ l → cond b n 0 ≤ l
-choice_le true n l h = h
-choice_le false n l h = omega arith
-
-in_order : (at skip : ℕ) (xs : List ℕ) → skip ≤ length xs → AreInOrder (at + skip) (literals_from at skip xs) (at + length xs)
-in_order at zero [] h = omega arith
-in_order at (suc skip) [] h = omega arith
-in_order at (suc skip) (x ∷ xs) h =
-    let low : at + 1 + skip ≡ at + suc skip = omega arith in
-    let high : at + 1 + length xs ≡ at + suc (length xs) = omega arith in
-    subst (λ n. AreInOrder n (literals_from (at + 1) skip xs) (at + suc (length xs))) low
-    (subst (λ n. AreInOrder (at + 1 + skip) (literals_from (at + 1) skip xs) n) high (in_order (at + 1) skip xs (omega arith)))
-in_order at zero (x ∷ xs) h =
-    let len = quoted_len false xs in
-    let high : at + 1 + length xs ≡ at + suc (length xs) = omega arith in
-    first_in_order (x == 34) (begins_colon (drop len xs)) at len (at + suc (length xs)) (λ k. literals_from (at + 1) k xs)
-    (λ k e.
-    (let fits : k ≤ length xs = subst (λ n. n ≤ length xs) (sym e) (choice_le (x == 34) len (length xs) (quoted_len-le false xs)) in
-    subst (λ n. AreInOrder (at + 1 + k) (literals_from (at + 1) k xs) n) high (in_order (at + 1) k xs fits)))
-
-pub literals-in_order : (text : List ℕ) → AreInOrder 0 (literals text) (length text)
-literals-in_order text =
-    let zeroth : 0 + length text ≡ length text = omega arith in
-    subst (λ n. AreInOrder 0 (literals text) n) zeroth (in_order 0 0 text (omega arith))

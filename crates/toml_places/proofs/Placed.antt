@@ -1,5 +1,5 @@
 -- Places found one after the other.
-use Rattle.std.proofs.Common.{◌≡◌, ℕ, zero, suc, ◌^◌, ◌<◌, List, [], ◌∷◌, ◌++◌, Option, Some, None, length, ap, ◌∙◌, subst, arith}
+use Rattle.std.proofs.Common.{◌≡◌, ℕ, ◌^◌, ◌<◌, List, [], ◌∷◌, ◌++◌, Option, Some, None, length, ap, ◌∙◌, subst, arith}
 use Rattle.std.specs.Prelude.{slice_get}
 use Rattle.std.proofs.lemmas.Fmt.{decimal_injective}
 use Rattle.std.proofs.lemmas.Option.{slice_get_within}
@@ -75,35 +75,3 @@ ArePlaces-push text document [] [] path place h here = (here, tt)
 ArePlaces-push text document [] (p ∷ places) path place h here = absurd h
 ArePlaces-push text document (q ∷ paths) [] path place h here = absurd h
 ArePlaces-push text document (q ∷ paths) (p ∷ places) path place h here = (h.0, ArePlaces-push text document paths places path place h.1 here)
-
--- there is one for each path
-pub ArePlaces-length : (text : List ℕ) (document : Members) (paths : List Path) (places : List (Option Span)) → ArePlaces text document paths places
-    → length places ≡ length paths
-ArePlaces-length text document [] [] h = omega arith
-ArePlaces-length text document [] (p ∷ places) h = absurd h
-ArePlaces-length text document (q ∷ paths) [] h = absurd h
-ArePlaces-length text document (q ∷ paths) (p ∷ places) h = let rest = ArePlaces-length text document paths places h.1 in omega arith
-
--- what was found for the path of the same number
-ArePlaces-found : (text : List ℕ) (document : Members) (paths : List Path) (places : List (Option Span)) (number : ℕ) (path : Path) (place : Option Span)
-    → ArePlaces text document paths places → slice_get paths number ≡ Some path → slice_get places number ≡ Some place
-    → IsPlace text document path.steps.items place
-ArePlaces-found text document [] places number path place h at found = absurd (cc)
-ArePlaces-found text document (q ∷ paths) [] number path place h at found = absurd h
-ArePlaces-found text document (q ∷ paths) (p ∷ places) zero path place h at found =
-    let same : q ≡ path = cc in
-    let here : p ≡ place = cc in
-    subst (λ (r : Path). IsPlace text document r.steps.items place) same (subst (IsPlace text document q.steps.items) here h.0)
-ArePlaces-found text document (q ∷ paths) (p ∷ places) (suc number) path place h at found = ArePlaces-found text document paths places number path place h.1 at found
-
--- the place that was found for it
-pub ArePlaces-at : (text : List ℕ) (document : Members) (paths : List Path) (places : List (Option Span)) (number : ℕ) (path : Path) (span : Span)
-    → ArePlaces text document paths places → slice_get paths number ≡ Some path → slice_get places number ≡ Some (Some span)
-    → Stands text document path.steps.items span
-ArePlaces-at text document paths places number path span h at found = (ArePlaces-found text document paths places number path (Some span) h at found).0
-
--- and where none was, the text stands nowhere
-pub ArePlaces-nowhere : (text : List ℕ) (document : Members) (paths : List Path) (places : List (Option Span)) (number : ℕ) (path : Path)
-    → ArePlaces text document paths places → slice_get paths number ≡ Some path → slice_get places number ≡ Some None
-    → StandsNowhere text document path.steps.items
-ArePlaces-nowhere text document paths places number path h at found = (ArePlaces-found text document paths places number path None h at found).1
