@@ -1,22 +1,15 @@
 // What begins a comment up to the end of its line, by the kind of file.
 
-ghost use Rattle.std.specs.Prelude.{◌≡◌};
+ghost use Rattle.std.specs.Prelude.{◌≡◌, map};
 ghost use Rattle.license_tags.specs.Comments.{
-  is_hash_build_name,
-  is_hash_tool_name,
-  is_hash_dot_name,
-  is_hash_shell,
-  is_hash_script,
-  is_hash_language,
-  is_hash_data,
-  is_hash_build,
-  is_semicolon,
-  is_percent,
-  is_hash_name,
-  is_hash_extension,
   begins_comment,
   comment_named,
   comment_of,
+  hash_extensions,
+  hash_names,
+  is_among,
+  percent_extensions,
+  semicolon_extensions,
 };
 
 use std::path::Path;
@@ -34,203 +27,144 @@ pub enum Comment {
     Other,
 }
 
-// Names of build files whose comments begin with `#`.
-#[tactic(auto, unfolding(crate::specs::Comments::is_hash_build_name))]
-fn is_hash_build_name(name: &str) -> bool
-    ensures { result ≡ is_hash_build_name name.now }
-{
-    name == "Makefile"
-        || name == "makefile"
-        || name == "GNUmakefile"
-        || name == "Kconfig"
-        || name == "Kbuild"
-        || name == "CMakeLists.txt"
-        || name == "meson.build"
-        || name == "BUILD"
-        || name == "WORKSPACE"
-        || name == "SConstruct"
-        || name == "SConscript"
-}
+// Names of files whose comments begin with `#`: of build files, of other tools, hidden ones.
+static HASH_NAMES: [&str; 32] = [
+    "Makefile",
+    "makefile",
+    "GNUmakefile",
+    "Kconfig",
+    "Kbuild",
+    "CMakeLists.txt",
+    "meson.build",
+    "BUILD",
+    "WORKSPACE",
+    "SConstruct",
+    "SConscript",
+    "Dockerfile",
+    "Containerfile",
+    "Gemfile",
+    "Rakefile",
+    "Vagrantfile",
+    "Pipfile",
+    "requirements.txt",
+    "PKGBUILD",
+    "Justfile",
+    "justfile",
+    "CODEOWNERS",
+    ".gitignore",
+    ".gitattributes",
+    ".gitmodules",
+    ".mailmap",
+    ".editorconfig",
+    ".dockerignore",
+    ".npmignore",
+    ".bashrc",
+    ".profile",
+    ".env",
+];
 
-// Names of other tools' files whose comments begin with `#`.
-#[tactic(auto, unfolding(crate::specs::Comments::is_hash_tool_name))]
-fn is_hash_tool_name(name: &str) -> bool
-    ensures { result ≡ is_hash_tool_name name.now }
-{
-    name == "Dockerfile"
-        || name == "Containerfile"
-        || name == "Gemfile"
-        || name == "Rakefile"
-        || name == "Vagrantfile"
-        || name == "Pipfile"
-        || name == "requirements.txt"
-        || name == "PKGBUILD"
-        || name == "Justfile"
-        || name == "justfile"
-        || name == "CODEOWNERS"
-}
-
-// Names of hidden files whose comments begin with `#`.
-#[tactic(auto, unfolding(crate::specs::Comments::is_hash_dot_name))]
-fn is_hash_dot_name(name: &str) -> bool
-    ensures { result ≡ is_hash_dot_name name.now }
-{
-    name == ".gitignore"
-        || name == ".gitattributes"
-        || name == ".gitmodules"
-        || name == ".mailmap"
-        || name == ".editorconfig"
-        || name == ".dockerignore"
-        || name == ".npmignore"
-        || name == ".bashrc"
-        || name == ".profile"
-        || name == ".env"
-}
-
-// Extensions of shells and of what is used in them.
-#[tactic(auto, unfolding(crate::specs::Comments::is_hash_shell))]
-fn is_hash_shell(extension: &str) -> bool
-    ensures { result ≡ is_hash_shell extension.now }
-{
-    extension == "sh"
-        || extension == "bash"
-        || extension == "zsh"
-        || extension == "ksh"
-        || extension == "fish"
-        || extension == "bats"
-        || extension == "awk"
-        || extension == "sed"
-        || extension == "ps1"
-        || extension == "psm1"
-        || extension == "psd1"
-}
-
-// Extensions of languages whose comments begin with `#`.
-#[tactic(auto, unfolding(crate::specs::Comments::is_hash_script))]
-fn is_hash_script(extension: &str) -> bool
-    ensures { result ≡ is_hash_script extension.now }
-{
-    extension == "py"
-        || extension == "pyi"
-        || extension == "pyx"
-        || extension == "pl"
-        || extension == "pm"
-        || extension == "rb"
-        || extension == "rake"
-        || extension == "gemspec"
-        || extension == "r"
-        || extension == "R"
-}
-
-// Extensions of more languages whose comments begin with `#`.
-#[tactic(auto, unfolding(crate::specs::Comments::is_hash_language))]
-fn is_hash_language(extension: &str) -> bool
-    ensures { result ≡ is_hash_language extension.now }
-{
-    extension == "jl"
-        || extension == "tcl"
-        || extension == "ex"
-        || extension == "exs"
-        || extension == "cr"
-        || extension == "nim"
-        || extension == "coffee"
-        || extension == "raku"
-        || extension == "robot"
-        || extension == "star"
-        || extension == "graphql"
-}
-
-// Extensions of data whose comments begin with `#`.
-#[tactic(auto, unfolding(crate::specs::Comments::is_hash_data))]
-fn is_hash_data(extension: &str) -> bool
-    ensures { result ≡ is_hash_data extension.now }
-{
-    extension == "yml"
-        || extension == "yaml"
-        || extension == "toml"
-        || extension == "lock"
-        || extension == "cfg"
-        || extension == "conf"
-        || extension == "properties"
-        || extension == "po"
-        || extension == "pot"
-        || extension == "service"
-        || extension == "desktop"
-}
-
-// Extensions of build files whose comments begin with `#`.
-#[tactic(auto, unfolding(crate::specs::Comments::is_hash_build))]
-fn is_hash_build(extension: &str) -> bool
-    ensures { result ≡ is_hash_build extension.now }
-{
-    extension == "cmake"
-        || extension == "mk"
-        || extension == "mak"
-        || extension == "am"
-        || extension == "bzl"
-        || extension == "ninja"
-        || extension == "nix"
-        || extension == "tf"
-        || extension == "tfvars"
-        || extension == "hcl"
-        || extension == "spec"
-}
+// Extensions of files whose comments begin with `#`: of shells, scripts, other languages, data, build files.
+static HASH_EXTENSIONS: [&str; 54] = [
+    "sh",
+    "bash",
+    "zsh",
+    "ksh",
+    "fish",
+    "bats",
+    "awk",
+    "sed",
+    "ps1",
+    "psm1",
+    "psd1",
+    "py",
+    "pyi",
+    "pyx",
+    "pl",
+    "pm",
+    "rb",
+    "rake",
+    "gemspec",
+    "r",
+    "R",
+    "jl",
+    "tcl",
+    "ex",
+    "exs",
+    "cr",
+    "nim",
+    "coffee",
+    "raku",
+    "robot",
+    "star",
+    "graphql",
+    "yml",
+    "yaml",
+    "toml",
+    "lock",
+    "cfg",
+    "conf",
+    "properties",
+    "po",
+    "pot",
+    "service",
+    "desktop",
+    "cmake",
+    "mk",
+    "mak",
+    "am",
+    "bzl",
+    "ninja",
+    "nix",
+    "tf",
+    "tfvars",
+    "hcl",
+    "spec",
+];
 
 // Extensions of files whose comments begin with `;`: Lisps, assemblers, INI and others.
-#[tactic(auto, unfolding(crate::specs::Comments::is_semicolon))]
-fn is_semicolon(extension: &str) -> bool
-    ensures { result ≡ is_semicolon extension.now }
-{
-    extension == "lisp"
-        || extension == "lsp"
-        || extension == "el"
-        || extension == "scm"
-        || extension == "ss"
-        || extension == "rkt"
-        || extension == "clj"
-        || extension == "cljs"
-        || extension == "cljc"
-        || extension == "edn"
-        || extension == "asm"
-        || extension == "nasm"
-        || extension == "ini"
-        || extension == "ll"
-}
+static SEMICOLON_EXTENSIONS: [&str; 14] = [
+    "lisp", "lsp", "el", "scm", "ss", "rkt", "clj", "cljs", "cljc", "edn", "asm", "nasm", "ini",
+    "ll",
+];
 
 // Extensions of files whose comments begin with `%`: TeX, Erlang and PostScript.
-#[tactic(auto, unfolding(crate::specs::Comments::is_percent))]
-fn is_percent(extension: &str) -> bool
-    ensures { result ≡ is_percent extension.now }
+static PERCENT_EXTENSIONS: [&str; 13] = [
+    "tex", "sty", "cls", "ltx", "dtx", "ins", "bst", "bbx", "cbx", "erl", "hrl", "escript", "ps",
+];
+
+// Whether the text is one of the words.
+fn is_among(words: &[&str], text: &str) -> bool
+    ensures { result ≡ is_among (map (λ word. word.now) words.now) text.now }
 {
-    extension == "tex"
-        || extension == "sty"
-        || extension == "cls"
-        || extension == "ltx"
-        || extension == "dtx"
-        || extension == "ins"
-        || extension == "bst"
-        || extension == "bbx"
-        || extension == "cbx"
-        || extension == "erl"
-        || extension == "hrl"
-        || extension == "escript"
-        || extension == "ps"
+    words.contains(&text)
 }
 
+#[tactic(auto, unfolding(crate::specs::Comments::hash_names))]
 fn is_hash_name(name: &str) -> bool
-    ensures { result ≡ is_hash_name name.now }
+    ensures { result ≡ is_among hash_names name.now }
 {
-    is_hash_build_name(name) || is_hash_tool_name(name) || is_hash_dot_name(name)
+    is_among(HASH_NAMES.as_slice(), name)
 }
 
+#[tactic(auto, unfolding(crate::specs::Comments::hash_extensions))]
 fn is_hash_extension(extension: &str) -> bool
-    ensures { result ≡ is_hash_extension extension.now }
+    ensures { result ≡ is_among hash_extensions extension.now }
 {
-    is_hash_shell(extension)
-        || is_hash_script(extension)
-        || is_hash_language(extension)
-        || is_hash_data(extension)
-        || is_hash_build(extension)
+    is_among(HASH_EXTENSIONS.as_slice(), extension)
+}
+
+#[tactic(auto, unfolding(crate::specs::Comments::semicolon_extensions))]
+fn is_semicolon(extension: &str) -> bool
+    ensures { result ≡ is_among semicolon_extensions extension.now }
+{
+    is_among(SEMICOLON_EXTENSIONS.as_slice(), extension)
+}
+
+#[tactic(auto, unfolding(crate::specs::Comments::percent_extensions))]
+fn is_percent(extension: &str) -> bool
+    ensures { result ≡ is_among percent_extensions extension.now }
+{
+    is_among(PERCENT_EXTENSIONS.as_slice(), extension)
 }
 
 fn comment_named(name: &str, extension: &str) -> Comment
