@@ -11,7 +11,7 @@ use Rattle.manifests.specs.declared.site.Fault.{Fault}
 use Rattle.manifests.specs.declared.site.Reason.{Reason}
 use Rattle.manifests.specs.declared.site.Reason.TheVariants.{NotUtf8, NotJson, NotToml, NoPlace}
 use Rattle.manifests.specs.declared.site.Site.{Site}
-use Rattle.manifests.specs.Sites.{AreSites, IsReason, reads_slash}
+use Rattle.manifests.specs.Sites.{AreSites, IsFault, reads_slash}
 use Rattle.finding_forms.specs.Finding.{Seen, Told, nothing}
 use Rattle.finding_forms.specs.Forms.{finding_text}
 use Rattle.check_sources.specs.Lines.{line_of, within}
@@ -99,12 +99,12 @@ pub record ChecksSites (check : Check) (is_first : Bool) (form : Form) (source :
   pub finds : ChecksWritten (check_in form check) is_first source (map declared_at sites) text
       summary
 
--- the file isn't what its form is written in: it is told itself, at the place of its fault, and
--- counts as one expression, which is refused
-pub record IsRefusedWhole (check : Check) (is_first : Bool) (source : Source) (text : List ℕ)
-    (summary : Summary) : Type 0 where
+-- the file is no manifest of the form: it is told itself, at the place of its fault, and counts
+-- as one expression, which is refused
+pub record IsRefusedWhole (check : Check) (is_first : Bool) (form : Form) (source : Source)
+    (text : List ℕ) (summary : Summary) : Type 0 where
   pub fault : Fault
-  pub why : IsReason source.bytes fault.reason
+  pub why : IsFault form source.bytes fault.reason fault.offset
   pub text_is : text ≡ finding_text check.format is_first (told_of_file source fault)
   pub summary_is : summary ≡ record { lines = 1; refused = 1 }
 
@@ -118,4 +118,4 @@ abbrev pub ChecksManifest :
 ChecksManifest check is_first form source (Some sites) text summary =
     ChecksSites check is_first form source sites text summary
 ChecksManifest check is_first form source None text summary =
-    IsRefusedWhole check is_first source text summary
+    IsRefusedWhole check is_first form source text summary

@@ -26,7 +26,7 @@ module _ (c : Rows) (form : Form) (old : List ℕ) where
       subst (λ (b : Option (Vec ℕ)). IsFixed c form old b fixed.is_left) (sym h.0)
       (inr (record { changes = changes; new = new.items; goes = goes; some = sym s; other = subst (DeclaresOther form new.items) t h.2; left_is = h.1 }))
 
-  error_at : (bytes : Option (Vec ℕ)) (error : ManifestError) → IsSomeAnd bytes (λ new. IsError new.items error) → IsError (bytes_after old bytes) error
+  error_at : (bytes : Option (Vec ℕ)) (error : ManifestError) → IsSomeAnd bytes (λ new. IsError form new.items error) → IsError form (bytes_after old bytes) error
   error_at None error h = absurd h
   error_at (Some new) error h = h
 
@@ -43,7 +43,7 @@ module _ (c : Rows) (form : Form) (old : List ℕ) where
     laws_of (Ok fixed) settled = laws c form old fixed (fixed_of fixed settled)
     laws_of (Err error) settled = tt
 
-    pub error_of : (r : Result FixedManifest ManifestError) → IfErr r (IsErrorAfter mending) → IfErr r (IsErrorOf c form old)
+    pub error_of : (r : Result FixedManifest ManifestError) → IfErr r (IsErrorAfter form mending) → IfErr r (IsErrorOf c form old)
     error_of (Ok fixed) e = tt
     error_of (Err error) e = inr (record {
       changes = h.changes;

@@ -162,11 +162,11 @@ pub record IsErrorAmid (c : Rows) (form : Form) (old : List ℕ)
   pub declared : AreSites form old (sites_of changes ++ later)
   pub bytes : List ℕ
   pub goes : Goes c form old changes bytes
-  pub is : IsError bytes error
+  pub is : IsError form bytes error
 
 -- why nothing can be told: the error of the manifest, or of what comes of it
 abbrev pub IsErrorOf : Rows → Form → List ℕ → ManifestError → Type 0
-IsErrorOf c form old error = IsError old error ⊎ IsErrorAmid c form old error
+IsErrorOf c form old error = IsError form old error ⊎ IsErrorAmid c form old error
 
 abbrev pub bytes_after : List ℕ → Option (Vec ℕ) → List ℕ
 bytes_after old (Some new) = new.items

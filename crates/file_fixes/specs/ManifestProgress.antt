@@ -43,7 +43,7 @@ pub record IsErrorWithin (c : Rows) (form : Form) (old : List ℕ) (found : List
   pub sites : sites_of changes ++ later ≡ found
   pub bytes : List ℕ
   pub goes : Goes c form old changes bytes
-  pub is : IsError bytes error
+  pub is : IsError form bytes error
 
 -- the mending's bytes declare what they are to declare, or else nothing is replaced
 abbrev pub IsSettledTo : Form → List (List ℕ) → Bool → Option (Vec ℕ) → FixedManifest → Type 0
@@ -58,5 +58,5 @@ IsSettled form mending fixed =
     IsSettledTo form (texts_in mending.texts.items) mending.is_left mending.bytes fixed
 
 -- the error of the bytes that come of it, for some do
-abbrev pub IsErrorAfter : Mending → ManifestError → Type 0
-IsErrorAfter mending error = IsSomeAnd mending.bytes (λ new. IsError new.items error)
+abbrev pub IsErrorAfter : Form → Mending → ManifestError → Type 0
+IsErrorAfter form mending error = IsSomeAnd mending.bytes (λ new. IsError form new.items error)

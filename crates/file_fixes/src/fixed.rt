@@ -38,7 +38,7 @@ fn declares(
         → Declares form bytes.now (texts_in texts.now)) }
     ensures no { IfOk result (λ is. is ≡ false
         → DeclaresOther form bytes.now (texts_in texts.now)) }
-    ensures err { IfErr result (IsError bytes.now) }
+    ensures err { IfErr result (IsError form bytes.now) }
 {
     let again = sites(alloc, form, bytes)?;
     Ok(are_texts(&again, texts))
@@ -47,7 +47,7 @@ fn declares(
 // What becomes of a manifest, by its mending: where the new bytes declare something else, nothing is replaced.
 fn settled(alloc: Global, form: Form, mending: Mending) -> Result<FixedManifest, ManifestError>
     ensures ok { IfOk result (IsSettled form mending) }
-    ensures err { IfErr result (IsErrorAfter mending) }
+    ensures err { IfErr result (IsErrorAfter form mending) }
 {
     let Mending {
         bytes,

@@ -67,7 +67,8 @@ fn with_fix(
     ensures stays { IfOk result (λ answer. IfNone answer
         (Stays manifest.now.form (bytes_after manifest.now.bytes.now mended.now)
         number fix.now)) }
-    ensures err { IfErr result (IsError (bytes_after manifest.now.bytes.now mended.now)) }
+    ensures err { IfErr result (IsError manifest.now.form
+        (bytes_after manifest.now.bytes.now mended.now)) }
 {
     match mended {
         Some(bytes) => with_expression(alloc, manifest.form, bytes, number, fix),
@@ -85,7 +86,7 @@ fn mend_site(
     ensures ok { OnOk result ((fate : Fate)
         × IsStepped manifest.now.catalogue.now manifest.now.form manifest.now.bytes.now
         site fate mending.old mending.new) }
-    ensures err { IfErr result (IsError
+    ensures err { IfErr result (IsError manifest.now.form
         (bytes_after manifest.now.bytes.now mending.old.bytes)) }
 {
     match need_of(alloc, manifest.catalogue, manifest.form, &site.text)? {

@@ -73,4 +73,4 @@ placed form bytes un lacks =
     let small : length bytes < 2 ^ 63 = un.small in
     let short = text_short bytes d to.steps text is to.at in
     let site : Site = record { span = span; quotes = 1; number = number; text = holding text (omega arith) } in
-    lacks.lacks.nowhere site refl (record { number = lacks.lacks.declared; steps = to.steps; path = to.path; text = to.at; stands = stands })
+    lacks.lacks.nowhere site refl (record { number = lacks.lacks.declared; steps = to.steps; path = to.path; text = to.at; stands = stands; quotes = refl })

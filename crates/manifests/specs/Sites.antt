@@ -1,7 +1,8 @@
 -- The expressions of a manifest, each at its place.
-use Rattle.std.specs.Prelude.{◌≡◌, nat_eq, ℕ, Bool, true, false, not, ◌||◌, bytes_eq, List, [], ◌∷◌, codes, Option, Some, None, map, All, filter, slice_get, ⊤}
-use Rattle.std.specs.Str.{IsUtf8}
+use Rattle.std.specs.Prelude.{◌≡◌, ◌≤◌, nat_eq, length, ℕ, Bool, true, false, not, ◌||◌, if◌then◌else◌, bytes_eq, List, [], ◌∷◌, codes, Option, Some, None, map, All, drop, filter, slice_get, ⊤}
+use Rattle.std.specs.Str.{IsUtf8, IsValidUpTo}
 use Rattle.std.specs.List.{starts_with}
+use Rattle.std.specs.List.Sorted.{IsStrictlyIncreasing}
 use Rattle.serde_json.specs.Data.{Data}
 use Rattle.serde_json.specs.Read.{read}
 use Rattle.toml.specs.Data.{Members}
@@ -49,15 +50,21 @@ pub record IsInJson (bytes : List ℕ) (document : Data) (texts : List (List ℕ
   pub path : slice_get paths site.number ≡ Some (map of_json steps)
   pub text : json_paths.text_at steps document ≡ Some site.text.items
   pub stands : json_places.Stands bytes document steps site.span
+  pub quotes : site.quotes ≡ 1
 
--- the sites are the expressions that the document declares, in the order of its members, each at
--- its place
+-- the numbers of these sites
+abbrev pub numbers_of : List Site → List ℕ
+numbers_of sites = map (λ (s : Site). s.number) sites
+
+-- the sites are the expressions that the document declares, each once, in the order of its members
+-- and so of their numbers, each at its place
 pub record AreSitesOfJson (form : Form) (bytes : List ℕ) (sites : List Site) : Type 0 where
   pub document : Data
   pub reads : read bytes ≡ Some document
   pub texts : map (λ (s : Site). s.text.items) sites ≡ filter (is_expression form)
       (license_texts document)
   pub places : All (IsInJson bytes document (license_texts document) (license_paths document)) sites
+  pub ascend : IsStrictlyIncreasing (numbers_of sites)
 
 -- what the document of a form declares
 abbrev pub texts_of_toml : Form → Members → List (List ℕ)
@@ -71,6 +78,16 @@ paths_of_toml Cargo document = cargo_paths document
 paths_of_toml Pyproject document = pyproject_paths document
 paths_of_toml form document = reuse_paths document
 
+-- three quotes of one kind, which open a text that may go over several lines
+abbrev pub opens_with_three : List ℕ → Bool
+opens_with_three bytes =
+    starts_with nat_eq bytes (codes "\"\"\"") || starts_with nat_eq bytes (codes "'''")
+
+-- how many bytes of quotes stand before the text of the literal that starts there: three of them
+-- open it, or one
+abbrev pub quotes_at : List ℕ → ℕ → ℕ
+quotes_at bytes start = if opens_with_three (drop start bytes) then 3 else 1
+
 -- the same of TOML
 pub record IsInToml (bytes : List ℕ) (document : Members) (texts : List (List ℕ))
     (paths : List (List Step)) (site : Site) : Type 0 where
@@ -79,14 +96,17 @@ pub record IsInToml (bytes : List ℕ) (document : Members) (texts : List (List 
   pub path : slice_get paths site.number ≡ Some (map of_toml steps)
   pub text : toml_paths.text_at steps document ≡ Some site.text.items
   pub stands : toml_places.Stands bytes document steps site.span
+  pub quotes : site.quotes ≡ quotes_at bytes site.span.start
 
--- the sites are the expressions that the document declares, each at its place
+-- the sites are the expressions that the document declares, each once, in the order of their
+-- numbers, each at its place
 pub record AreSitesOfToml (form : Form) (bytes : List ℕ) (sites : List Site) : Type 0 where
   pub document : Members
   pub reads : parse_document bytes ≡ Some document
   pub texts : map (λ (s : Site). s.text.items) sites ≡ texts_of_toml form document
   pub places : All (IsInToml bytes document (texts_of_toml form document)
       (paths_of_toml form document)) sites
+  pub ascend : IsStrictlyIncreasing (numbers_of sites)
 
 -- the site is the one of a file of fields or elements, which has no quotes in its place
 pub record IsPlain (found : PlainSite) (site : Site) : Type 0 where
@@ -132,24 +152,6 @@ AreSites Reuse bytes sites = AreSitesOfToml Reuse bytes sites
 AreSites (Plain form) bytes sites = AreSitesOfPlain form bytes sites
 AreSites form bytes sites = AreSitesOfJson form bytes sites
 
--- the bytes are not what the reason says that they aren't; a place that isn't known says nothing of
--- the bytes
-abbrev pub IsReason : List ℕ → Reason → Type 0
-IsReason bytes NotUtf8 = IsUtf8 bytes → ⊥
-IsReason bytes NotJson = IsUtf8 bytes → read bytes ≡ None
-IsReason bytes NotToml = parse_document bytes ≡ None
-IsReason bytes NoPlace = ⊤
-
--- why the expressions of a manifest aren't told
-abbrev pub IsError : List ℕ → ManifestError → Type 0
-IsError bytes (Refused fault) = IsReason bytes fault.reason
-IsError bytes NoMemory = ⊤
-
--- bytes are refused for their mark, if they are
-abbrev pub IsMarked : List ℕ → ManifestError → Type 0
-IsMarked bytes (Refused fault) = is_utf16 bytes ≡ true
-IsMarked bytes NoMemory = ⊤
-
 -- no site has the number
 abbrev pub HasNone : (Site → Type 0) → ℕ → Type 0
 HasNone IsSite number = (site : Site) → site.number ≡ number → IsSite site → ⊥
@@ -178,23 +180,41 @@ pub record IsUnplacedToml (form : Form) (bytes : List ℕ) : Type 0 where
       (IsInToml bytes document (texts_of_toml form document) (paths_of_toml form document))
       (λ text. true) (texts_of_toml form document)
 
--- where a place isn't known, this is so
-abbrev pub IfUnplaced : Type 0 → Reason → Type 0
-IfUnplaced unplaced NoPlace = unplaced
-IfUnplaced unplaced reason = ⊤
+-- what is wrong with bytes that are no manifest of JSON, and at which of them: they are no JSON, or
+-- an expression that they declare has no site
+abbrev pub IsFaultOfJson : Form → List ℕ → Reason → ℕ → Type 0
+IsFaultOfJson form bytes NotJson at = (IsUtf8 bytes → read bytes ≡ None) × (at ≤ length bytes)
+IsFaultOfJson form bytes NoPlace at = IsUnplacedJson form bytes × (at ≡ 0)
+IsFaultOfJson form bytes reason at = ⊥
 
-abbrev pub IfRefusedUnplaced : Type 0 → ManifestError → Type 0
-IfRefusedUnplaced unplaced (Refused fault) = IfUnplaced unplaced fault.reason
-IfRefusedUnplaced unplaced NoMemory = ⊤
+-- the same of TOML; where they are no UTF-8, it is the first byte that is part of no character
+abbrev pub IsFaultOfToml : Form → List ℕ → Reason → ℕ → Type 0
+IsFaultOfToml form bytes NotUtf8 at = (IsUtf8 bytes → ⊥) × IsValidUpTo bytes at
+IsFaultOfToml form bytes NotToml at = (parse_document bytes ≡ None) × (at ≤ length bytes)
+IsFaultOfToml form bytes NoPlace at = IsUnplacedToml form bytes × (at ≡ 0)
+IsFaultOfToml form bytes reason at = ⊥
 
--- a file of fields or elements is refused for its mark alone; a place isn't known only where a
--- declared expression has none
-abbrev pub IsRefusedFor : Form → List ℕ → ManifestError → Type 0
-IsRefusedFor Cargo bytes error = IfRefusedUnplaced (IsUnplacedToml Cargo bytes) error
-IsRefusedFor Pyproject bytes error = IfRefusedUnplaced (IsUnplacedToml Pyproject bytes) error
-IsRefusedFor Reuse bytes error = IfRefusedUnplaced (IsUnplacedToml Reuse bytes) error
-IsRefusedFor (Plain form) bytes error = IsMarked bytes error
-IsRefusedFor form bytes error = IfRefusedUnplaced (IsUnplacedJson form bytes) error
+-- the same of fields or elements, which are refused for a mark of UTF-16 and nothing else
+abbrev pub IsFaultOfPlain : List ℕ → Reason → ℕ → Type 0
+IsFaultOfPlain bytes NotUtf8 at = (is_utf16 bytes ≡ true) × (IsUtf8 bytes → ⊥) × (at ≡ 0)
+IsFaultOfPlain bytes reason at = ⊥
+
+-- what is wrong with bytes that are no manifest of the form, and at which of them
+abbrev pub IsFault : Form → List ℕ → Reason → ℕ → Type 0
+IsFault Cargo bytes reason at = IsFaultOfToml Cargo bytes reason at
+IsFault Pyproject bytes reason at = IsFaultOfToml Pyproject bytes reason at
+IsFault Reuse bytes reason at = IsFaultOfToml Reuse bytes reason at
+IsFault (Plain form) bytes reason at = IsFaultOfPlain bytes reason at
+IsFault form bytes reason at = IsFaultOfJson form bytes reason at
+
+-- the fault is this, if it is no want of memory
+abbrev pub IsErrorBy : (Reason → ℕ → Type 0) → ManifestError → Type 0
+IsErrorBy Is (Refused fault) = Is fault.reason fault.offset
+IsErrorBy Is NoMemory = ⊤
+
+-- why the expressions of a manifest aren't told
+abbrev pub IsError : Form → List ℕ → ManifestError → Type 0
+IsError form bytes error = IsErrorBy (IsFault form bytes) error
 
 -- the literal of the text to which this way leads is replaced by the new text in quotes, every
 -- other byte stays, and what is read is the document with the new text where the old one stood, and

@@ -1,7 +1,7 @@
 // The expressions of a manifest of any form.
 
 ghost use Rattle.std.specs.Prelude.{◌≡◌, IfErr, IfNone, IfOk, IfSome};
-ghost use Rattle.manifests.specs.Sites.{AreSites, IsError, IsLegible, IsRefusedFor, Mends, Stays, reads_slash};
+ghost use Rattle.manifests.specs.Sites.{AreSites, IsError, IsLegible, Mends, Stays, reads_slash};
 
 use crate::form::Form;
 use crate::json_sites::{json_sites, json_with};
@@ -27,11 +27,11 @@ pub fn reads_slash(form: Form) -> bool
 ///
 /// The bytes aren't what the form is written in, as a file of fields or elements isn't that begins with a mark of UTF-16,
 /// which is refused for nothing else; or it isn't known where one of the expressions stands, for the scan of
-/// literals and the reader disagree; or memory was refused.
+/// literals and the reader disagree; or memory was refused. The fault is told at a byte: in a file of TOML that is no UTF-8 at the
+/// first that is part of no character; at byte 0 for a mark or where a place isn't known; else where the form's reader breaks off.
 pub fn sites(alloc: Global, form: Form, bytes: &[u8]) -> Result<Vec<Site>, ManifestError>
     ensures ok { IfOk result (λ sites. AreSites form bytes.now sites.items) }
-    ensures err { IfErr result (IsError bytes.now) }
-    ensures mark { IfErr result (IsRefusedFor form bytes.now) }
+    ensures err { IfErr result (IsError form bytes.now) }
 {
     match form {
         Form::Cargo | Form::Pyproject | Form::Reuse => toml_sites(alloc, form, bytes),
@@ -61,8 +61,7 @@ pub fn with_expression(
     ensures stays { IfOk result (λ answer. IfNone answer
         (Stays form bytes.now number new.now)) }
     ensures legible { IfOk result (λ _. IsLegible form bytes.now) }
-    ensures err { IfErr result (IsError bytes.now) }
-    ensures mark { IfErr result (IsRefusedFor form bytes.now) }
+    ensures err { IfErr result (IsError form bytes.now) }
 {
     match form {
         Form::Cargo | Form::Pyproject | Form::Reuse => {

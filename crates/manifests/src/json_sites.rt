@@ -1,14 +1,16 @@
 // The expressions of a manifest of JSON, each at its place.
 
-ghost use Rattle.std.specs.Prelude.{◌≡◌, ◌↔◌, ℕ, List, All, IfErr, IfNone, IfOk, IfSome, IsTrue, Some, true, filter, map, option_and_then, option_map, slice_get};
+ghost use Rattle.std.specs.Prelude.{◌≡◌, ◌≤◌, ◌↔◌, length, ℕ, List, All, IfErr, IfNone, IfOk, IfSome, IsTrue, Some, true, filter, map, option_and_then, option_map, slice_get};
+ghost use Rattle.std.specs.List.Sorted.{IsStrictlyIncreasing};
 ghost use Rattle.serde_json.specs.Read.{read};
 ghost use Rattle.serde_json.specs.View.{view};
 ghost use Rattle.json_places.specs.Places.{ArePlaces, Stands, StandsNowhere};
 ghost use Rattle.json_places.specs.Paths.{text_at as json_text_at};
 ghost use Rattle.manifests.specs.Steps.{json_steps};
-ghost use Rattle.manifests.specs.Sites.{AreSitesOfJson, HasNone, IfRefusedUnplaced, IsInJson, IsUnplacedJson, LacksSite, is_expression};
+ghost use Rattle.manifests.specs.Sites.{AreSitesOfJson, HasNone, IsErrorBy, IsFaultOfJson, IsInJson, LacksSite, is_expression, numbers_of};
 ghost use Rattle.manifests.specs.Sites as spec;
 ghost use Rattle.json_places.specs.declared.path.Path.{Path};
+ghost use Rattle.manifests.specs.declared.form.Form.{Form};
 ghost use Rattle.manifests.specs.declared.site.Site.{Site};
 
 use crate::form::Form;
@@ -39,8 +41,7 @@ fn is_expression(form: Form, text: &str) -> bool
 // The one value that the bytes hold.
 fn document_in(alloc: Global, bytes: &[u8]) -> Result<Value, ManifestError>
     ensures ok { IfOk result (λ document. read bytes.now ≡ Some (view document)) }
-    ensures err { IfErr result (spec.IsError bytes.now) }
-    ensures placed { IfErr result (IfRefusedUnplaced ⊥) }
+    ensures err { (form : Form) → IfErr result (IsErrorBy (IsFaultOfJson form bytes.now)) }
 {
     match Value::from_slice(alloc, bytes) {
         Ok(document) => Ok(document),
@@ -53,7 +54,9 @@ fn document_in(alloc: Global, bytes: &[u8]) -> Result<Value, ManifestError>
 }
 
 // Where the column of a line begins, both counted from 1; the end where there is no such place.
-fn offset_of(bytes: &[u8], line: usize, column: usize) -> usize {
+fn offset_of(bytes: &[u8], line: usize, column: usize) -> usize
+    ensures { result ≤ length bytes.now }
+{
     let lines = bytes.split(|byte| *byte == b'\n');
     let before = lines.take(line.saturating_sub(1));
     let mut offset = column.saturating_sub(1);
@@ -119,6 +122,7 @@ fn site_at(
     requires places { ArePlaces placed.now.bytes.now (view placed.now.document.now)
         placed.now.paths.now placed.now.spans.now }
     ensures text { IfOk result (λ found. IfSome found (λ site. site.text.items ≡ text.now)) }
+    ensures number { IfOk result (λ found. IfSome found (λ site. site.number ≡ number)) }
     ensures place { IfOk result (λ found. IfSome found
         (IsInJson placed.now.bytes.now (view placed.now.document.now)
         (map (λ t. t.now) texts.now) (map json_steps placed.now.paths.now))) }
@@ -153,36 +157,38 @@ fn says(document: &Value, path: &Path<'_>, text: &str) -> bool
     }
 }
 
-// The sites of the texts that are expressions.
+// The sites of the texts that are expressions; none where one of these has none.
 fn sites_of(
     alloc: Global,
     form: Form,
     placed: &Placed<'_>,
     texts: &[&str],
-) -> Result<Vec<Site>, ManifestError>
+) -> Result<Option<Vec<Site>>, AllocError>
     requires { ArePlaces placed.now.bytes.now (view placed.now.document.now)
         placed.now.paths.now placed.now.spans.now }
-    ensures texts { IfOk result (λ sites. map (λ (s : Site). s.text.items) sites.items
-        ≡ filter (is_expression form) (map (λ t. t.now) texts.now)) }
-    ensures err { IfErr result (spec.IsError placed.now.bytes.now) }
-    ensures placed { IfErr result (IfRefusedUnplaced (LacksSite
+    ensures texts { IfOk result (λ found. IfSome found (λ sites.
+        map (λ (s : Site). s.text.items) sites.items
+        ≡ filter (is_expression form) (map (λ t. t.now) texts.now))) }
+    ensures places { IfOk result (λ found. IfSome found (λ sites.
+        All (IsInJson placed.now.bytes.now (view placed.now.document.now)
+        (map (λ t. t.now) texts.now) (map json_steps placed.now.paths.now)) sites.items)) }
+    ensures ascend { IfOk result (λ found. IfSome found (λ sites.
+        IsStrictlyIncreasing (numbers_of sites.items))) }
+    ensures lacks { IfOk result (λ found. IfNone found (LacksSite
         (IsInJson placed.now.bytes.now (view placed.now.document.now)
         (map (λ t. t.now) texts.now) (map json_steps placed.now.paths.now))
         (is_expression form) (map (λ t. t.now) texts.now))) }
-    ensures places { IfOk result (λ sites.
-        All (IsInJson placed.now.bytes.now (view placed.now.document.now)
-        (map (λ t. t.now) texts.now) (map json_steps placed.now.paths.now)) sites.items) }
 {
     let mut sites = Vec::new(alloc);
     for (number, text) in texts.iter().enumerate() {
         if is_expression(form, *text) {
             let Some(site) = site_at(alloc, placed, number, *text, texts)? else {
-                return Err(no_place());
+                return Ok(None);
             };
             sites.push(site)?;
         }
     }
-    Ok(sites)
+    Ok(Some(sites))
 }
 
 /// The expressions that a manifest of JSON declares, each at its place.
@@ -192,8 +198,7 @@ pub(crate) fn json_sites(
     bytes: &[u8],
 ) -> Result<Vec<Site>, ManifestError>
     ensures ok { IfOk result (λ sites. AreSitesOfJson form bytes.now sites.items) }
-    ensures err { IfErr result (spec.IsError bytes.now) }
-    ensures placed { IfErr result (IfRefusedUnplaced (IsUnplacedJson form bytes.now)) }
+    ensures err { IfErr result (IsErrorBy (IsFaultOfJson form bytes.now)) }
 {
     let document = document_in(alloc, bytes)?;
     let found = license_texts(alloc, &document)?;
@@ -204,7 +209,10 @@ pub(crate) fn json_sites(
         paths: found.paths.as_slice(),
         spans: spans.as_slice(),
     };
-    sites_of(alloc, form, &placed, found.texts.as_slice())
+    match sites_of(alloc, form, &placed, found.texts.as_slice())? {
+        Some(sites) => Ok(sites),
+        None => Err(no_place()),
+    }
 }
 
 /// The bytes with another text in place of the declared one of that number, in its literal's place.
@@ -218,8 +226,7 @@ pub(crate) fn json_with(
         spec.MendsJson bytes.now number new.now mended.items)) }
     ensures none { IfOk result (λ answer. IfNone answer ((mended : List ℕ) →
         spec.MendsJson bytes.now number new.now mended → ⊥)) }
-    ensures err { IfErr result (spec.IsError bytes.now) }
-    ensures placed { IfErr result (IfRefusedUnplaced ⊥) }
+    ensures err { (form : Form) → IfErr result (IsErrorBy (IsFaultOfJson form bytes.now)) }
 {
     let document = document_in(alloc, bytes)?;
     let found = license_texts(alloc, &document)?;

@@ -2,7 +2,7 @@
 
 ghost use Rattle.std.specs.Prelude.{◌≡◌, IfErr, IfOk, IfSome, IfNone, false};
 ghost use Rattle.plain_manifests.specs.Sites.{MendsPlain, StaysPlain};
-ghost use Rattle.manifests.specs.Sites.{AreEach, AreSitesOfPlain, IsError, IsMarked};
+ghost use Rattle.manifests.specs.Sites.{AreEach, AreSitesOfPlain, IsErrorBy, IsFaultOfPlain};
 ghost use Rattle.manifests.specs.Sites as spec;
 
 use crate::site::{Fault, ManifestError, Reason, Site};
@@ -20,8 +20,7 @@ fn is_utf16(bytes: &[u8]) -> bool
 #[tactic(auto, using(crate::proofs::Marks::no_utf8))]
 fn legible(bytes: &[u8]) -> Result<(), ManifestError>
     ensures ok { IfOk result (λ _. spec.is_utf16 bytes.now ≡ false) }
-    ensures err { IfErr result (IsError bytes.now) }
-    ensures mark { IfErr result (IsMarked bytes.now) }
+    ensures err { IfErr result (IsErrorBy (IsFaultOfPlain bytes.now)) }
 {
     if is_utf16(bytes) {
         return Err(ManifestError::Refused(Fault {
@@ -39,8 +38,7 @@ pub(crate) fn plain_sites_of(
     bytes: &[u8],
 ) -> Result<Vec<Site>, ManifestError>
     ensures ok { IfOk result (λ sites. AreSitesOfPlain form bytes.now sites.items) }
-    ensures err { IfErr result (IsError bytes.now) }
-    ensures mark { IfErr result (IsMarked bytes.now) }
+    ensures err { IfErr result (IsErrorBy (IsFaultOfPlain bytes.now)) }
 {
     legible(bytes)?;
     let found = plain_sites(alloc, form, bytes)?;
@@ -60,8 +58,7 @@ pub(crate) fn plain_with(
     ensures stays { IfOk result (λ answer. IfNone answer
         (StaysPlain form bytes.now number new.now)) }
     ensures legible { IfOk result (λ _. spec.is_utf16 bytes.now ≡ false) }
-    ensures err { IfErr result (IsError bytes.now) }
-    ensures mark { IfErr result (IsMarked bytes.now) }
+    ensures err { IfErr result (IsErrorBy (IsFaultOfPlain bytes.now)) }
 {
     legible(bytes)?;
     Ok(with_plain_text(alloc, form, bytes, number, new)?)

@@ -1,14 +1,16 @@
 // The expressions of a manifest of TOML, each at its place.
 
 ghost use Rattle.std.specs.Prelude.{◌≡◌, ◌↔◌, ℕ, List, All, IfErr, IfNone, IfOk, IfSome, IsTrue, Some, true, map, option_and_then, option_map, slice_get};
+ghost use Rattle.std.specs.List.Sorted.{IsStrictlyIncreasing};
 ghost use Rattle.toml.specs.Parse.{parse_document};
 ghost use Rattle.toml.specs.View.{table_view};
 ghost use Rattle.toml_places.specs.Places.{ArePlaces, Stands, StandsNowhere};
 ghost use Rattle.toml_places.specs.Paths.{text_at as toml_text_at};
 ghost use Rattle.manifests.specs.Steps.{toml_steps};
-ghost use Rattle.manifests.specs.Sites.{AreSitesOfToml, HasNone, IfRefusedUnplaced, IsInToml, IsUnplacedToml, LacksSite, paths_of_toml, texts_of_toml};
+ghost use Rattle.manifests.specs.Sites.{AreSitesOfToml, HasNone, IsErrorBy, IsFaultOfToml, IsInToml, LacksSite, numbers_of, paths_of_toml, quotes_at, texts_of_toml};
 ghost use Rattle.manifests.specs.Sites as spec;
 ghost use Rattle.toml_places.specs.declared.path.Path.{Path};
+ghost use Rattle.manifests.specs.declared.form.Form.{Form};
 ghost use Rattle.manifests.specs.declared.site.Site.{Site};
 
 use crate::form::Form;
@@ -23,8 +25,7 @@ use toml_places::{Path, places, text_at, with_text};
 // The text that the bytes are.
 fn text_in(bytes: &[u8]) -> Result<&str, ManifestError>
     ensures ok { IfOk result (λ text. text.now ≡ bytes.now) }
-    ensures err { IfErr result (spec.IsError bytes.now) }
-    ensures placed { IfErr result (IfRefusedUnplaced ⊥) }
+    ensures err { (form : Form) → IfErr result (IsErrorBy (IsFaultOfToml form bytes.now)) }
 {
     match str::from_utf8(bytes) {
         Ok(text) => Ok(text),
@@ -38,8 +39,7 @@ fn text_in(bytes: &[u8]) -> Result<&str, ManifestError>
 // The document that the text is.
 fn document_in(alloc: Global, text: &str) -> Result<Table, ManifestError>
     ensures ok { IfOk result (λ document. parse_document text.now ≡ Some (table_view document)) }
-    ensures err { IfErr result (spec.IsError text.now) }
-    ensures placed { IfErr result (IfRefusedUnplaced ⊥) }
+    ensures err { (form : Form) → IfErr result (IsErrorBy (IsFaultOfToml form text.now)) }
 {
     match toml::table_from_str(alloc, text) {
         Ok(document) => Ok(document),
@@ -51,18 +51,25 @@ fn document_in(alloc: Global, text: &str) -> Result<Table, ManifestError>
     }
 }
 
-fn start_of(span: Option<Range<usize>>) -> usize {
+fn start_of(span: Option<Range<usize>>) -> usize
+    ensures some { IfSome span (λ range. result ≡ range.start) }
+    ensures none { IfNone span (result ≡ 0) }
+{
     match span {
         Some(span) => span.start,
         None => 0,
     }
 }
 
-// How many bytes of quotes stand before a text.
-fn quotes_at(bytes: &[u8], start: usize) -> usize {
-    match bytes.get(start..) {
-        Some([b'"', b'"', b'"', ..] | [b'\'', b'\'', b'\'', ..]) => 3,
-        _ => 1,
+// How many bytes of quotes stand before the text of the literal that starts there.
+fn quotes_at(bytes: &[u8], start: usize) -> usize
+    ensures { result ≡ quotes_at bytes.now start }
+{
+    let literal = bytes.get(start..).unwrap_or(&[]);
+    if literal.starts_with(b"\"\"\"") || literal.starts_with(b"'''") {
+        3
+    } else {
+        1
     }
 }
 
@@ -122,6 +129,7 @@ fn site_at(
     requires places { ArePlaces placed.now.text.now (table_view placed.now.document.now)
         placed.now.paths.now placed.now.spans.now }
     ensures text { IfOk result (λ found. IfSome found (λ site. site.text.items ≡ text.now)) }
+    ensures number { IfOk result (λ found. IfSome found (λ site. site.number ≡ number)) }
     ensures place { IfOk result (λ found. IfSome found
         (IsInToml placed.now.text.now (table_view placed.now.document.now)
         (map (λ t. t.now) texts.now) (map toml_steps placed.now.paths.now))) }
@@ -156,29 +164,34 @@ fn says(document: &Table, path: &Path<'_>, text: &str) -> bool
     }
 }
 
-// The sites of the texts.
-fn sites_of(alloc: Global, placed: &Placed<'_>, texts: &[&str]) -> Result<Vec<Site>, ManifestError>
+// The sites of the texts; none where one of these has none.
+fn sites_of(
+    alloc: Global,
+    placed: &Placed<'_>,
+    texts: &[&str],
+) -> Result<Option<Vec<Site>>, AllocError>
     requires { ArePlaces placed.now.text.now (table_view placed.now.document.now)
         placed.now.paths.now placed.now.spans.now }
-    ensures texts { IfOk result (λ sites. map (λ (s : Site). s.text.items) sites.items
-        ≡ map (λ t. t.now) texts.now) }
-    ensures err { IfErr result (spec.IsError placed.now.text.now) }
-    ensures placed { IfErr result (IfRefusedUnplaced (LacksSite
+    ensures texts { IfOk result (λ found. IfSome found (λ sites.
+        map (λ (s : Site). s.text.items) sites.items ≡ map (λ t. t.now) texts.now)) }
+    ensures places { IfOk result (λ found. IfSome found (λ sites.
+        All (IsInToml placed.now.text.now (table_view placed.now.document.now)
+        (map (λ t. t.now) texts.now) (map toml_steps placed.now.paths.now)) sites.items)) }
+    ensures ascend { IfOk result (λ found. IfSome found (λ sites.
+        IsStrictlyIncreasing (numbers_of sites.items))) }
+    ensures lacks { IfOk result (λ found. IfNone found (LacksSite
         (IsInToml placed.now.text.now (table_view placed.now.document.now)
         (map (λ t. t.now) texts.now) (map toml_steps placed.now.paths.now))
         (λ text. true) (map (λ t. t.now) texts.now))) }
-    ensures places { IfOk result (λ sites.
-        All (IsInToml placed.now.text.now (table_view placed.now.document.now)
-        (map (λ t. t.now) texts.now) (map toml_steps placed.now.paths.now)) sites.items) }
 {
     let mut sites = Vec::new(alloc);
     for (number, text) in texts.iter().enumerate() {
         let Some(site) = site_at(alloc, placed, number, *text, texts)? else {
-            return Err(no_place());
+            return Ok(None);
         };
         sites.push(site)?;
     }
-    Ok(sites)
+    Ok(Some(sites))
 }
 
 // What a document of this form declares.
@@ -206,8 +219,7 @@ pub(crate) fn toml_sites(
     bytes: &[u8],
 ) -> Result<Vec<Site>, ManifestError>
     ensures ok { IfOk result (λ sites. AreSitesOfToml form bytes.now sites.items) }
-    ensures err { IfErr result (spec.IsError bytes.now) }
-    ensures placed { IfErr result (IfRefusedUnplaced (IsUnplacedToml form bytes.now)) }
+    ensures err { IfErr result (IsErrorBy (IsFaultOfToml form bytes.now)) }
 {
     let text = text_in(bytes)?;
     let document = document_in(alloc, text)?;
@@ -219,7 +231,10 @@ pub(crate) fn toml_sites(
         paths: found.paths.as_slice(),
         spans: spans.as_slice(),
     };
-    sites_of(alloc, &placed, found.texts.as_slice())
+    match sites_of(alloc, &placed, found.texts.as_slice())? {
+        Some(sites) => Ok(sites),
+        None => Err(no_place()),
+    }
 }
 
 /// The bytes with another text in place of the declared one of that number, in its literal's place.
@@ -234,8 +249,7 @@ pub(crate) fn toml_with(
         spec.MendsToml form bytes.now number new.now mended.items)) }
     ensures none { IfOk result (λ answer. IfNone answer ((mended : List ℕ) →
         spec.MendsToml form bytes.now number new.now mended → ⊥)) }
-    ensures err { IfErr result (spec.IsError bytes.now) }
-    ensures placed { IfErr result (IfRefusedUnplaced ⊥) }
+    ensures err { IfErr result (IsErrorBy (IsFaultOfToml form bytes.now)) }
 {
     let text = text_in(bytes)?;
     let document = document_in(alloc, text)?;

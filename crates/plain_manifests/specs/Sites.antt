@@ -2,6 +2,7 @@
 -- one.
 use Rattle.std.specs.Prelude.{◌≡◌, ◌≢◌, ◌⊎◌, ℕ, Bool, ◌&&◌, not, List, ◌++◌, None, Some, map, filter, All, set, take, drop, slice_get}
 use Rattle.std.specs.List.{list_any}
+use Rattle.std.specs.List.Sorted.{IsStrictlyIncreasing}
 use Rattle.text_places.specs.declared.Span.{Span}
 use Rattle.text_places.specs.Names.{is_one_of}
 use Rattle.plain_manifests.specs.declared.form.PlainForm.{PlainForm}
@@ -24,13 +25,18 @@ pub record IsDeclared (bytes : List ℕ) (places : List Span) (site : PlainSite)
   pub place : slice_get places site.number ≡ Some site.span
   pub text : site.text.items ≡ text_at bytes site.span
 
--- the sites are the expressions that the file declares, in the order of their numbers
+-- the numbers of these sites
+abbrev pub numbers_of : List PlainSite → List ℕ
+numbers_of sites = map (λ (s : PlainSite). s.number) sites
+
+-- the sites are the expressions that the file declares, each once, in the order of their numbers
 pub record ArePlainSites (form : PlainForm) (bytes : List ℕ) (sites : List PlainSite) : Type 0 where
   pub places : List Span
   pub declared : ArePlaces form bytes places
   pub texts : map (λ (s : PlainSite). s.text.items) sites ≡ filter (is_expression form)
       (texts_at bytes places)
   pub each : All (IsDeclared bytes places) sites
+  pub ascend : IsStrictlyIncreasing (numbers_of sites)
 
 -- the bytes with the new text at the place
 abbrev pub with_text : List ℕ → Span → List ℕ → List ℕ

@@ -1,10 +1,11 @@
 // The expressions of a file of fields or elements, each at its place, and the file with another one.
 
-ghost use Rattle.std.specs.Prelude.{◌≡◌, ◌≢◌, ◌<◌, [], ◌∷◌, ◌++◌, All, IfOk, OnOk, IfSome, IfNone, drop, filter, length, map, slice_get, take, true, false, Some};
-ghost use Rattle.plain_manifests.specs.Sites.{ArePlainSites, IsDeclared, MendsPlain, ReadsOther, ReadsSo, StaysPlain, is_expression, texts_at, wanted, with_text};
+ghost use Rattle.std.specs.Prelude.{◌≡◌, ◌≢◌, ◌<◌, [], ◌∷◌, ◌++◌, ◌+◌, All, IfOk, OnOk, IfSome, IfNone, drop, filter, length, map, slice_get, take, true, false, Some};
+ghost use Rattle.plain_manifests.specs.Sites.{ArePlainSites, IsDeclared, MendsPlain, ReadsOther, ReadsSo, StaysPlain, is_expression, numbers_of, texts_at, wanted, with_text};
 ghost use Rattle.plain_manifests.specs.Places.{text_at};
 ghost use Rattle.text_places.specs.Names.{is_one_of};
 ghost use Rattle.std.specs.List.{list_any};
+ghost use Rattle.std.specs.List.Sorted.{IsStrictlyIncreasing};
 ghost use Rattle.plain_manifests.specs.declared.sites.PlainSite.{PlainSite};
 
 use crate::form::PlainForm;
@@ -61,6 +62,7 @@ fn site_at(
     requires place { slice_get declared.now.places.now number ≡ Some span }
     requires text { text.now ≡ text_at declared.now.bytes.now span }
     ensures text { IfOk result (λ site. site.text.items ≡ text.now) }
+    ensures number { IfOk result (λ site. site.number ≡ number) }
     ensures each { IfOk result (IsDeclared declared.now.bytes.now declared.now.places.now) }
 {
     let mut bytes = Vec::new(alloc);
@@ -88,6 +90,9 @@ fn push_site(
     ensures each { OnOk result (
         All (IsDeclared declared.now.bytes.now declared.now.places.now) sites.old.items
         → All (IsDeclared declared.now.bytes.now declared.now.places.now) sites.new.items) }
+    ensures ascend { OnOk result (
+        IsStrictlyIncreasing (numbers_of sites.old.items ++ number ∷ [])
+        → IsStrictlyIncreasing (numbers_of sites.new.items ++ (number + 1) ∷ [])) }
 {
     let text = text_at(declared.bytes, span);
     if is_expression(form, text) {
@@ -106,6 +111,7 @@ fn sites_at(
         ≡ filter (is_expression form) (texts_at declared.now.bytes.now declared.now.places.now)) }
     ensures each { IfOk result (λ sites.
         All (IsDeclared declared.now.bytes.now declared.now.places.now) sites.items) }
+    ensures ascend { IfOk result (λ sites. IsStrictlyIncreasing (numbers_of sites.items)) }
 {
     let mut sites = Vec::new(alloc);
     for (number, span) in declared.places.iter().enumerate() {

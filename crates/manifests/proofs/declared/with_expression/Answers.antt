@@ -1,4 +1,4 @@
-use Rattle.std.proofs.Common.{◌≡◌, ◌⊎◌, inl, inr, ℕ, List, subst, sym}
+use Rattle.std.proofs.Common.{rules, ◌≡◌, ◌⊎◌, inl, inr, ℕ, List, subst, sym}
 use Rattle.manifests.specs.declared.form.Form.{Form}
 use Rattle.manifests.specs.declared.form.Form.TheVariants.{Cargo, Pyproject, Reuse}
 use Rattle.manifests.specs.Sites.{MendsToml, Stays}
@@ -16,3 +16,6 @@ pub returns-in-Cargo-clause-stays : goal.returns-in-Cargo-clause-stays
 returns-in-Cargo-clause-stays c =
     let follows = stays c.args.form c.args.bytes.now c.args.number c.args.new.now c.in-Cargo.is in
     ok_none c.toml_with.result _ _ follows c.toml_with.ensures.none
+
+pub returns-in_default : goal.returns-in_default
+returns-in_default c = let is = c.json_with.ensures.err c.args.form in search rules

@@ -1,4 +1,4 @@
-use Rattle.std.proofs.Common.{◌≡◌, ℕ, List, Bor, Some, map, sym, ap, ◌∙◌}
+use Rattle.std.proofs.Common.{rules, ◌≡◌, ℕ, List, Bor, Some, map, sym, ap, ◌∙◌}
 use Rattle.std.specs.Prelude.{slice_get}
 use Rattle.serde_json.specs.View.{view}
 use Rattle.manifests.specs.Steps.{json_steps}
@@ -16,3 +16,6 @@ returns-clause-none c =
     if_none c.in_ok-changed_at.field-0 _ _
     (λ none mended. mends_nothing c.args.bytes.now d c.as_slice-2.result.now c.args.number old c.args.new.now mended c.in_ok-document.ensures.ok declared are none)
     c.in_ok-changed_at.ensures.none
+
+pub returns-in_err-document-clause-err : goal.returns-in_err-document-clause-err
+returns-in_err-document-clause-err c = λ form. let is = c.in_err-document.ensures.err form in search rules

@@ -1,4 +1,4 @@
-use Rattle.std.proofs.Common.{arith, ◌≡◌, Some, map, ap, ◌∙◌}
+use Rattle.std.proofs.Common.{arith, ◌≡◌, Some, map, ap, ◌∙◌, refl}
 use Rattle.std.proofs.lemmas.Option.{slice_get-map}
 use Rattle.std.specs.Prelude.{option_map}
 use Rattle.std.proofs.lemmas.Grind.{common_steps}
@@ -31,4 +31,5 @@ returns-clause-place c =
       path = slice_get-map json_steps c.args.placed.now.paths.now c.args.number ∙ ap (option_map json_steps) c.in-Some.ensures.path;
       text = rw bytes says;
       stands = c.in-Some.ensures.stands;
+      quotes = refl;
     }

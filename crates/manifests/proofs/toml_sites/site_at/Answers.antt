@@ -31,4 +31,5 @@ returns-clause-place c =
       path = slice_get-map toml_steps c.args.placed.now.paths.now c.args.number ∙ ap (option_map toml_steps) c.in-Some.ensures.path;
       text = rw bytes says;
       stands = c.in-Some.ensures.stands;
+      quotes = grind (arith, common_steps);
     }

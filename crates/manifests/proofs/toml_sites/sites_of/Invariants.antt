@@ -1,8 +1,9 @@
-use Rattle.std.proofs.Common.{◌≡◌, ◌++◌, map, drop, List, ℕ, Bor}
+use Rattle.std.proofs.Common.{◌≡◌, ◌++◌, ◌∷◌, [], map, drop, List, ℕ, Bor}
 use Rattle.std.specs.Prelude.{All}
 use Rattle.toml.specs.View.{table_view}
+use Rattle.std.specs.List.Sorted.{IsStrictlyIncreasing}
 use Rattle.manifests.specs.declared.site.Site.{Site}
-use Rattle.manifests.specs.Sites.{IsInToml}
+use Rattle.manifests.specs.Sites.{IsInToml, numbers_of}
 use Rattle.manifests.specs.Steps.{toml_steps}
 use Rattle.manifests.proofs.toml_sites.sites_of.Given as goal
 
@@ -14,4 +15,5 @@ invariant-loop-number l =
       texts : map shown l.texts
           ≡ map text l.sites.items ++ map shown (drop l.number l.texts);
       places : All (IsInToml l.placed.text.now (table_view l.placed.document.now) (map shown l.texts) (map toml_steps l.placed.paths.now)) l.sites.items;
+      ascend : IsStrictlyIncreasing (numbers_of l.sites.items ++ l.number ∷ []);
     }

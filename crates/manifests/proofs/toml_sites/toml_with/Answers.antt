@@ -1,4 +1,4 @@
-use Rattle.std.proofs.Common.{◌≡◌, ℕ, List, Bor, Some, map, sym, subst, ap, ◌∙◌}
+use Rattle.std.proofs.Common.{rules, ◌≡◌, ℕ, List, Bor, Some, map, sym, subst, ap, ◌∙◌}
 use Rattle.std.specs.Prelude.{slice_get}
 use Rattle.toml.specs.View.{table_view}
 use Rattle.manifests.specs.Steps.{toml_steps}
@@ -19,3 +19,10 @@ returns-clause-none c =
     mends_nothing c.args.form text d c.as_slice-2.result.now c.args.number old c.args.new.now mended c.in_ok-document.ensures.ok declared are none
     (subst (λ (bytes : List ℕ). MendsToml c.args.form bytes c.args.number c.args.new.now mended) (sym c.in_ok-text.ensures.ok) m))
     c.in_ok-changed_at.ensures.none
+
+pub returns-in_err-text-clause-err : goal.returns-in_err-text-clause-err
+returns-in_err-text-clause-err c = let is = c.in_err-text.ensures.err c.args.form in search rules
+
+pub returns-in_err-document-clause-err : goal.returns-in_err-document-clause-err
+returns-in_err-document-clause-err c =
+    let is = rw c.in_ok-text.ensures.ok at c.in_err-document.ensures.err c.args.form in search rules

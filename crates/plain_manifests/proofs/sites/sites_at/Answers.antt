@@ -4,7 +4,8 @@ use Rattle.std.proofs.lemmas.List.Elements.{filter-append}
 use Rattle.text_places.specs.declared.Span.{Span}
 use Rattle.plain_manifests.specs.declared.sites.PlainSite.{PlainSite}
 use Rattle.plain_manifests.specs.Places.{text_at}
-use Rattle.plain_manifests.specs.Sites.{is_expression, texts_at}
+use Rattle.plain_manifests.specs.Sites.{is_expression, numbers_of, texts_at}
+use Rattle.plain_manifests.proofs.Ascending.{so_far}
 use Rattle.plain_manifests.proofs.sites.sites_at.Goals as goal
 
 pub loop-number-preserved : goal.loop-number-preserved
@@ -27,4 +28,8 @@ loop-number-preserved c =
           ∙ sym (append_assoc (map text c.loop-number.sites.items) (kept first) (kept later))
           ∙ ap (λ ts. ts ++ kept later) (sym pushed);
       each = c.in_ok-push_site.ensures.each c.loop-number.invariant.each;
+      ascend = c.in_ok-push_site.ensures.ascend c.loop-number.invariant.ascend;
     }
+
+pub returns-clause-ascend : goal.returns-clause-ascend
+returns-clause-ascend c = so_far (numbers_of c.loop-number.sites.items) c.loop-number.number c.loop-number.invariant.ascend
