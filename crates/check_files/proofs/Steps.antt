@@ -4,7 +4,7 @@ use Rattle.std.specs.Prelude.{String, string_bytes}
 use Rattle.std.specs.declared.alloc.Global.{Global}
 use Rattle.std.specs.declared.io.Error.{Error}
 use Rattle.line_engine.specs.Device.{Told}
-use Rattle.shelves.specs.Shelf.{Shelved}
+use Rattle.shelves.specs.Shelf.{Shelved, to_read}
 use Rattle.source_trees.specs.declared.reading.Taken.{Taken}
 use Rattle.spdx_check.specs.declared.check.Check.{Check}
 use Rattle.check_files.specs.declared.trouble.CheckTrouble.{CheckTrouble}
@@ -30,7 +30,7 @@ passed out heard heard' name Fails old new n e named fails p =
 -- so it is with a file of which something is taken
 pub file_passed : (out : Told) (heard heard' : Account CheckTrouble) (s : Shelved) (check : Check) (t : Taken) (folder : Option (List ℕ)) (path : List ℕ)
     (old new : Tally) (noted : Notes) (n : String Global) (e : Error) → is_wanted t path ≡ true
-    → string_bytes n ≡ path → s.Fails path e → PassesOver (trouble.Unreadable n e) heard heard' old new
+    → string_bytes n ≡ path → s.Fails to_read path e → PassesOver (trouble.Unreadable n e) heard heard' old new
     → Does out out heard heard' (λ text told. IsFileStep s check t folder path old noted text told new noted)
 file_passed out heard heard' s check t folder path old new noted n e wanted named fails p =
     heard_alone out heard heard' (trouble.Unreadable n e ∷ []) (λ text told. IsFileStep s check t folder path old noted text told new noted) p.tells

@@ -2,7 +2,7 @@
 use Rattle.std.specs.Prelude.{◌≡◌, ◌⊎◌, ℕ, ◌==◌, ◌&&◌, ◌||◌, Bool, true, false, not, List, [], ◌++◌, Option, Some, None, is_some}
 use Rattle.manifests.specs.declared.form.Form.{Form}
 use Rattle.manifests.specs.declared.site.Site.{Site}
-use Rattle.shelves.specs.Shelf.{Shelved}
+use Rattle.shelves.specs.Shelf.{Shelved, to_read}
 use Rattle.source_trees.specs.Readings.{form_below}
 use Rattle.source_trees.specs.declared.reading.Taken.{Taken}
 use Rattle.spdx_check.specs.declared.check.Check.{Check}
@@ -84,7 +84,7 @@ IsStepBy false s check t folder path old noted text told new noted' =
 IsStepBy true s check t folder path old noted text told new noted' =
     ((bytes : List ℕ) × s.Holds path bytes
     × IsFileChecked s check t folder path bytes old noted text new noted' × (told ≡ []))
-    ⊎ (IsPassed path (s.Fails path) old text told new × (noted' ≡ noted))
+    ⊎ (IsPassed path (s.Fails to_read path) old text told new × (noted' ≡ noted))
 
 abbrev pub IsFileStep : Shelved → Check → Taken → Option (List ℕ) → List ℕ → Tally → Notes →
     List ℕ → List CheckTrouble → Tally → Notes → Type 0

@@ -7,7 +7,7 @@ use Rattle.license_tags.specs.Comments.{comment_of}
 use Rattle.license_tags.specs.Tags.{tags_of}
 use Rattle.manifests.specs.declared.form.Form.{Form}
 use Rattle.manifests.specs.declared.site.Site.{Site}
-use Rattle.shelves.specs.Shelf.{Shelved}
+use Rattle.shelves.specs.Shelf.{Shelved, to_look}
 use Rattle.shelves.specs.declared.shelf.Kind.{Kind}
 use Rattle.spdx_lexer.specs.declared.token.ParseMode.{ParseMode}
 use Rattle.spdx_requirement.specs.Rows.{Rows}
@@ -102,7 +102,7 @@ IsUseOfTags check (Some folder) source names =
 
 -- nothing can be looked at there
 abbrev pub IsNothingAt : Shelved → List ℕ → Bool → Type 0
-IsNothingAt s path true = (e : Error) × s.Fails path e
+IsNothingAt s path true = (e : Error) × s.Fails to_look path e
 IsNothingAt s path false = (k : Kind) × s.IsOf path k
 
 -- a file that has to tell a license has none, and none beside it tells one

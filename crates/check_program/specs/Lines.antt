@@ -7,7 +7,7 @@ use Rattle.line_engine.specs.Lines.{cut, lines_of}
 use Rattle.line_engine.specs.Output.{capped, output_of, summary_of, text_of}
 use Rattle.line_engine.specs.Rule.{Rule}
 use Rattle.open_shelves.specs.Opened.{MayHave}
-use Rattle.shelves.specs.Shelf.{Shelved}
+use Rattle.shelves.specs.Shelf.{Shelved, to_open, to_read}
 use Rattle.source_trees.specs.Readings.{is_input}
 use Rattle.spdx_check.specs.declared.check.Check.{Check}
 use Rattle.spdx_check.specs.Checking.{heirs_in, is_white, rule_by}
@@ -26,7 +26,8 @@ pub record Content : Type 1 where
   pub Fails : Error → Type 0
 
 abbrev pub of_file : Shelved → List ℕ → Content
-of_file s path = record { Holds = s.Holds path; Breaks = s.Breaks path; Fails = s.Fails path }
+of_file s path =
+    record { Holds = s.Holds path; Breaks = s.Breaks path; Fails = s.Fails to_open path }
 
 abbrev pub of_input : Shelved → Content
 of_input s = record { Holds = s.IsInput; Breaks = s.InputBreaks; Fails = s.InputFails }
@@ -45,8 +46,13 @@ content_at s path = content_by (is_input path) s path
 abbrev pub Gives : Shelved → List ℕ → List ℕ → Type 0
 Gives s path bytes = (content_at s path).Holds bytes
 
+-- why it can't be read at once
+abbrev pub FailsBy : Bool → Shelved → List ℕ → Error → Type 0
+FailsBy true s path e = s.InputFails e
+FailsBy false s path e = s.Fails to_read path e
+
 abbrev pub Fails : Shelved → List ℕ → Error → Type 0
-Fails s path e = (content_at s path).Fails e
+Fails s path e = FailsBy (is_input path) s path e
 
 -- what it is called
 abbrev pub name_at : List ℕ → List ℕ

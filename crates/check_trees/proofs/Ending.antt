@@ -8,7 +8,7 @@ use Rattle.std.specs.declared.io.ErrorKind.TheVariants.{OutOfMemory}
 use Rattle.std.proofs.lemmas.Bool.{true≢false}
 use Rattle.std.proofs.lemmas.List.{append-nil}
 use Rattle.line_engine.specs.Device.{Told}
-use Rattle.shelves.specs.Shelf.{Shelved}
+use Rattle.shelves.specs.Shelf.{Shelved, to_look}
 use Rattle.source_trees.specs.Readings.{is_all}
 use Rattle.source_trees.specs.declared.stops.Stop.{Stop}
 use Rattle.source_trees.specs.Walks.{IsBegun}
@@ -136,7 +136,7 @@ tree_checked s check m path folder stops noted noted' a b c h k l old between ne
 
 -- the folder can't be looked at
 pub tree_passed : (s : Shelved) (check : Check) (m : Manner) (path : List ℕ) (n : String Global) (e : Error) (out : Told) (heard heard' : Account CheckTrouble) (old new : Tally)
-    → string_bytes n ≡ path → s.Fails path e ⊎ (error_kind e ≡ OutOfMemory) → PassesOver (trouble.Unreadable n e) heard heard' old new
+    → string_bytes n ≡ path → s.Fails to_look path e ⊎ (error_kind e ≡ OutOfMemory) → PassesOver (trouble.Unreadable n e) heard heard' old new
     → Does out out heard heard' (λ text told. IsTreeStep s check m path old text told new)
 tree_passed s check m path n e out heard heard' old new named (inr f) p = absurd (true≢false (sym (no_memory e f) ∙ p.has_memory))
 tree_passed s check m path n e out heard heard' old new named (inl f) p =

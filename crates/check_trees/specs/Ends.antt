@@ -6,7 +6,7 @@ use Rattle.std.specs.declared.alloc.Global.{Global}
 use Rattle.std.specs.IoError.{error_kind}
 use Rattle.std.specs.declared.io.Error.{Error}
 use Rattle.std.specs.declared.io.ErrorKind.TheVariants.{OutOfMemory}
-use Rattle.shelves.specs.Shelf.{Shelved}
+use Rattle.shelves.specs.Shelf.{Shelved, to_look}
 use Rattle.source_trees.specs.Stops.{below}
 use Rattle.source_trees.specs.declared.walk.Seen.{Seen}
 use Rattle.source_trees.specs.declared.walk.Seen.TheVariants as seen
@@ -24,7 +24,7 @@ use Rattle.check_trees.specs.Steps.{ArePassed, trouble_of}
 
 -- looking at it fails, by an error that says that nothing is there, or by another one
 abbrev pub FailsAt : Shelved → List ℕ → Bool → Type 0
-FailsAt s path is_gone = (e : Error) × s.Fails path e × (is_not_found e ≡ is_gone)
+FailsAt s path is_gone = (e : Error) × s.Fails to_look path e × (is_not_found e ≡ is_gone)
 
 -- a folder's own, where it is one or can't be looked at; none where nothing is there
 abbrev pub IsOwnFolder : Shelved → List ℕ → Option (List ℕ) → Type 0
@@ -58,7 +58,7 @@ pub record AreSortedOut (all : List Seen) (files : List (List ℕ)) (troubles : 
 abbrev pub AreTexts : Shelved → List ℕ → List (List ℕ) → List CheckTrouble → Type 0
 AreTexts s folder files troubles =
     ((all : List Seen) × AreBelow s folder all × AreSortedOut all files troubles)
-    ⊎ ((e : Error) × s.Fails folder e × IsUnseenBy folder e files troubles)
+    ⊎ ((e : Error) × s.Fails to_look folder e × IsUnseenBy folder e files troubles)
 
 -- the same, where it isn't known yet that memory wasn't refused
 abbrev pub AreTextsOr : Shelved → List ℕ → List (List ℕ) → List CheckTrouble → Type 0

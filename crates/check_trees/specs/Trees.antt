@@ -1,7 +1,7 @@
 -- What is done with all that is below a folder.
 use Rattle.std.specs.Prelude.{◌≡◌, ◌⊎◌, ℕ, Bool, List, ◌++◌, Option}
 use Rattle.std.specs.Option.{option_copied}
-use Rattle.shelves.specs.Shelf.{Shelved}
+use Rattle.shelves.specs.Shelf.{Shelved, to_look}
 use Rattle.source_trees.specs.Readings.{is_all}
 use Rattle.source_trees.specs.declared.reading.Taken.{Taken}
 use Rattle.source_trees.specs.declared.walk.Seen.{Seen}
@@ -53,4 +53,4 @@ abbrev pub IsTreeStep : Shelved → Check → Manner → List ℕ → Tally → 
     Tally → Type 0
 IsTreeStep s check m path old text told new =
     IsTreeChecked s check m path old text told new
-    ⊎ IsPassed path (s.Fails path) old text told new
+    ⊎ IsPassed path (s.Fails to_look path) old text told new

@@ -1,8 +1,8 @@
 -- What is done with a file.
-use Rattle.std.specs.Prelude.{◌≡◌, ℕ, Bool, true, false, ◌&&◌, List, Option, None, Some, is_some, bytes_eq, codes, string_bytes, if◌then◌else◌}
+use Rattle.std.specs.Prelude.{◌≡◌, ◌⊎◌, ℕ, Bool, true, false, ◌&&◌, List, Option, None, Some, is_some, bytes_eq, codes, string_bytes, if◌then◌else◌}
 use Rattle.std.specs.Global.{Vec}
 use Rattle.std.specs.declared.io.Error.{Error}
-use Rattle.shelves.specs.Shelf.{Shelved}
+use Rattle.shelves.specs.Shelf.{Shelved, to_look, to_read}
 use Rattle.shelves.specs.declared.shelf.Kind.{Kind}
 use Rattle.shelves.specs.declared.shelf.Kind.TheVariants as kind
 use Rattle.shelves.specs.declared.shelf.Stamp.{Stamp}
@@ -62,9 +62,10 @@ IsUnreadAs name fails (trouble.Unreadable n e) = (string_bytes n ≡ name) × fa
 IsUnreadAs name fails trouble.Memory = Unit {0}
 IsUnreadAs name fails t = ⊥
 
--- or it is a special file
+-- it can't be looked at or read, or is a special file
 abbrev pub IsNotRegular : Shelved → List ℕ → FixTrouble → Type 0
-IsNotRegular s path (trouble.Unreadable n e) = (string_bytes n ≡ path) × s.Fails path e
+IsNotRegular s path (trouble.Unreadable n e) =
+    (string_bytes n ≡ path) × (s.Fails to_look path e ⊎ s.Fails to_read path e)
 IsNotRegular s path (trouble.Special n) = (string_bytes n ≡ path) × s.IsOf path kind.Other
 IsNotRegular s path trouble.Memory = Unit {0}
 IsNotRegular s path t = ⊥
@@ -72,7 +73,7 @@ IsNotRegular s path t = ⊥
 abbrev pub IsUnreadBy : Bool → Bool → Shelved → List ℕ → FixTrouble → Type 0
 IsUnreadBy input true s path t = IsUnreadAs (codes "<stdin>") s.InputFails t
 IsUnreadBy true false s path t = IsNotRegular s path t
-IsUnreadBy false false s path t = IsUnreadAs path (s.Fails path) t
+IsUnreadBy false false s path t = IsUnreadAs path (s.Fails to_read path) t
 
 -- why it isn't read
 abbrev pub IsUnread : Shelved → Bool → List ℕ → FixTrouble → Type 0

@@ -3,7 +3,7 @@ use Rattle.std.specs.Prelude.{◌≡◌, ◌⊎◌, ℕ, Bool, true, false, List
 use Rattle.std.specs.declared.alloc.Global.{Global}
 use Rattle.std.specs.declared.io.Error.{Error}
 use Rattle.manifests.specs.declared.form.Form.{Form}
-use Rattle.shelves.specs.Shelf.{Shelved}
+use Rattle.shelves.specs.Shelf.{Shelved, to_look}
 use Rattle.source_trees.specs.declared.stops.Stop.{Stop}
 use Rattle.source_trees.specs.Readings.{form_below}
 use Rattle.source_trees.specs.declared.reading.Taken.{Taken}
@@ -84,7 +84,7 @@ AreWalkEnds s c w t stops ends =
 abbrev pub AreTreeEnds : Shelved → Rows → Bool → Taken → List ℕ → List FileEnd → Type 0
 AreTreeEnds s c w t path ends =
     ((stops : List Stop) × IsBegun s path stops × AreWalkEnds s c w t stops ends)
-    ⊎ ((e : Error) × s.Fails path e × IsUnreadEnd path e ends)
+    ⊎ ((e : Error) × s.Fails to_look path e × IsUnreadEnd path e ends)
 
 -- ---- one more
 

@@ -1,5 +1,6 @@
 // What is done with a file, over a shelf.
 
+ghost use Rattle.shelves.specs.Shelf.{to_read};
 ghost use Rattle.std.specs.Prelude.{◌≡◌, Bool, false, IfErr, IfOk, OnOk, codes};
 ghost use Rattle.fix_program.specs.Files as spec;
 ghost use Rattle.fix_program.specs.Files.{
@@ -204,7 +205,8 @@ fn file<S: Shelf>(alloc: Global, shelf: &S, path: &str) -> Result<Stamped, FixTr
     ensures ok { IfOk result (λ file. (S.told shelf.now).Holds path.now file.bytes.items) }
     ensures stamp { IfOk result (λ file.
         (S.told shelf.now).HoldsAs path.now file.bytes.items file.stamp) }
-    ensures err { IfErr result (IsUnreadAs path.now ((S.told shelf.now).Fails path.now)) }
+    ensures err { IfErr result (IsUnreadAs path.now
+        ((S.told shelf.now).Fails to_read path.now)) }
 {
     match shelf.read_stamped(alloc, path) {
         Ok(file) => Ok(file),

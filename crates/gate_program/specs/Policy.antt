@@ -1,7 +1,7 @@
 -- The policy that packages are judged by.
 use Rattle.std.specs.Prelude.{◌≡◌, ℕ, List, Ok, Err, map, string_bytes}
 use Rattle.std.specs.List.{AllZip}
-use Rattle.shelves.specs.Shelf.{Shelved}
+use Rattle.shelves.specs.Shelf.{Shelved, to_read}
 use Rattle.spdx_requirement.specs.Rows.{Rows}
 use Rattle.spdx_alternatives.specs.Heirs.{Heir, IsHeirOf, Restated}
 use Rattle.spdx_list.specs.Files.{ExtraRows, InsteadRow, extras_in}
@@ -31,7 +31,7 @@ pub record IsPolicyAt (s : Shelved) (heirs : List ℕ) (c : Rows) (path : List �
 
 -- the file at the path can't be read; nothing is said of memory
 abbrev pub IsUnread : Shelved → List ℕ → PolicyTrouble → Type 0
-IsUnread s path (trouble.Unreadable n e) = (string_bytes n ≡ path) × s.Fails path e
+IsUnread s path (trouble.Unreadable n e) = (string_bytes n ≡ path) × s.Fails to_read path e
 IsUnread s path trouble.Memory = Unit {0}
 IsUnread s path t = ⊥
 
@@ -42,7 +42,8 @@ AreNoHeirs heirs t = ⊥
 
 -- why there is no policy at the path
 abbrev pub IsNoPolicyAt : Shelved → List ℕ → Rows → List ℕ → PolicyTrouble → Type 0
-IsNoPolicyAt s heirs c path (trouble.Unreadable n e) = (string_bytes n ≡ path) × s.Fails path e
+IsNoPolicyAt s heirs c path (trouble.Unreadable n e) =
+    (string_bytes n ≡ path) × s.Fails to_read path e
 IsNoPolicyAt s heirs c path (trouble.NoPolicy n f) =
     (bytes : List ℕ) × s.Holds path bytes × (string_bytes n ≡ path) × IsRefusedText c bytes f
 IsNoPolicyAt s heirs c path (trouble.NoHeirs f) = extras_in heirs ≡ Err f

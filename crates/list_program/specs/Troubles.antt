@@ -11,7 +11,7 @@ use Rattle.list_program.specs.declared.read.LinesFault.TheVariants as fault
 use Rattle.spdx_list.specs.declared.error.ListFault.{ListFault}
 use Rattle.spdx_list.specs.Files.{ExtraRows, extras_in}
 use Rattle.spdx_list.specs.Made.{Makes, IsRefused}
-use Rattle.shelves.specs.Shelf.{Shelved}
+use Rattle.shelves.specs.Shelf.{Shelved, Access, to_look, to_read}
 use Rattle.list_program.specs.declared.trouble.ListTrouble.{ListTrouble}
 use Rattle.list_program.specs.declared.trouble.ListTrouble.TheVariants as trouble
 use Rattle.list_program.specs.Named.{InsideBytes, no_extras, of_listed}
@@ -42,17 +42,20 @@ pub record IsNoListOfFolder (s : Shelved) (extras folder name : List ℕ)
   pub holds_exceptions : s.Holds (path_join folder (codes "exceptions.json")) exceptions
   pub refused : IsRefusedWith rows licenses exceptions f
 
--- the path, or one of the two files below it
-pub data IsPartOf (path : List ℕ) : List ℕ → Type 0 where
-  itself : IsPartOf path path
-  its_licenses : IsPartOf path (path_join path (codes "licenses.json"))
-  its_exceptions : IsPartOf path (path_join path (codes "exceptions.json"))
+-- what is wanted of the path, and of which part of it: what is there, and the bytes of the file, or
+-- of one of the two files below it
+pub data IsPartOf (path : List ℕ) : Access → List ℕ → Type 0 where
+  the_path : IsPartOf path to_look path
+  itself : IsPartOf path to_read path
+  its_licenses : IsPartOf path to_read (path_join path (codes "licenses.json"))
+  its_exceptions : IsPartOf path to_read (path_join path (codes "exceptions.json"))
 
--- the file at the path can't be read, as the shelf tells; nothing is said of memory
-abbrev pub IsUnreadable : Shelved → List ℕ → ListTrouble → Type 0
-IsUnreadable s path (trouble.Unreadable n e) = (string_bytes n ≡ path) × s.Fails path e
-IsUnreadable s path trouble.Memory = Unit {0}
-IsUnreadable s path t = ⊥
+-- this access to the path fails, as the shelf tells; nothing is said of memory
+abbrev pub IsUnreadable : Shelved → Access → List ℕ → ListTrouble → Type 0
+IsUnreadable s access path (trouble.Unreadable n e) =
+    (string_bytes n ≡ path) × s.Fails access path e
+IsUnreadable s access path trouble.Memory = Unit {0}
+IsUnreadable s access path t = ⊥
 
 -- these bytes hold no extras
 abbrev pub AreNoExtras : List ℕ → ListTrouble → Type 0
@@ -66,7 +69,7 @@ IsNoListAt s extras path (trouble.NoList n f) = IsNoListOfFile s path (string_by
 IsNoListAt s extras path (trouble.NotMade n f) = IsNoListOfFolder s extras path (string_bytes n) f
 IsNoListAt s extras path (trouble.NoExtras f) = extras_in extras ≡ Err f
 IsNoListAt s extras path (trouble.Unreadable n e) =
-    IsPartOf path (string_bytes n) × s.Fails (string_bytes n) e
+    (access : Access) × IsPartOf path access (string_bytes n) × s.Fails access (string_bytes n) e
 IsNoListAt s extras path trouble.Memory = Unit {0}
 IsNoListAt s extras path trouble.Nameless = ⊥
 IsNoListAt s extras path trouble.Output = ⊥

@@ -5,7 +5,7 @@ use Rattle.line_engine.specs.Progress.{AppendsBeginning}
 use Rattle.spdx_list.specs.declared.error.ListFault.{ListFault}
 use Rattle.spdx_list.specs.Files.{ExtraRows, extras_in}
 use Rattle.spdx_list.specs.Made.{IsTextOf, IsRefused}
-use Rattle.shelves.specs.Shelf.{Shelved}
+use Rattle.shelves.specs.Shelf.{Shelved, to_read}
 use Rattle.list_program.specs.declared.trouble.ListTrouble.{ListTrouble}
 use Rattle.list_program.specs.declared.trouble.ListTrouble.TheVariants as trouble
 use Rattle.list_program.specs.Named.{no_extras}
@@ -61,7 +61,7 @@ pub data IsNoListOf (s : Shelved) (paths : MadePaths) : List ℕ → ListFault �
 -- why the files make no text; nothing is said of memory
 abbrev pub IsNoText : Shelved → MadePaths → ListTrouble → Type 0
 IsNoText s paths (trouble.Unreadable n e) =
-    IsOneOf paths (string_bytes n) × s.Fails (string_bytes n) e
+    IsOneOf paths (string_bytes n) × s.Fails to_read (string_bytes n) e
 IsNoText s paths (trouble.NotMade n f) = IsNoListOf s paths (string_bytes n) f
 IsNoText s paths trouble.Memory = Unit {0}
 IsNoText s paths t = ⊥

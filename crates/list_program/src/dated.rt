@@ -74,7 +74,7 @@ fn date_said<S: Shelf>(alloc: Global, shelf: &S, path: &str) -> Result<Option<St
     date_at(alloc, shelf, path)
 }
 
-#[tactic(auto, using(crate::proofs::Causes::unread_itself))]
+#[tactic(auto, using(crate::proofs::Causes::unlooked))]
 fn date_at<S: Shelf>(alloc: Global, shelf: &S, path: &str) -> Result<Option<String>, ListTrouble>
     ensures ok { IfOk result (λ date.
         IsDateAt (S.told shelf.now) path.now (option_map string_bytes date)) }

@@ -1,6 +1,6 @@
 // The command `list make`: the list that SPDX's files make, written.
 
-ghost use Rattle.std.specs.Prelude.{◌≡◌, ℕ, List, Some, IfErr, IfOk, OnOk, string_bytes};
+ghost use Rattle.std.specs.Prelude.{◌≡◌, true, ℕ, List, Some, IfErr, IfOk, OnOk, string_bytes};
 ghost use Rattle.std.specs.Option.{option_copied};
 ghost use Rattle.spdx_list.specs.Shown.{shown_extras};
 ghost use Rattle.list_program.specs.Written.{
@@ -12,6 +12,7 @@ ghost use Rattle.list_program.specs.Written.{
   WritesList,
   made_of,
 };
+ghost use Rattle.list_program.specs.declared.trouble.ListTrouble.TheVariants.{Output};
 
 use crate::named::bytes_of;
 use crate::trouble::ListTrouble;
@@ -52,6 +53,7 @@ pub fn put_made_list<S: Shelf, O: Sink>(
         (made_of paths.entry.licenses.now paths.entry.exceptions.now
         (option_copied paths.entry.extras))
         (O.told output.old).bytes (O.told output.new).bytes) }
+    ensures failed { IfErr result (λ t. t ≡ Output → (O.told output.new).has_failed ≡ true) }
 {
     let mut text = made_text(alloc, shelf, paths)?;
     text.push('\n')?;

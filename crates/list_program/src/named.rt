@@ -1,5 +1,6 @@
 // The list that expressions are read by.
 
+ghost use Rattle.shelves.specs.Shelf.{to_look, to_read};
 ghost use Rattle.std.specs.Prelude.{◌≡◌, ◌⊎◌, ℕ, List, Ok, IfOk, IfErr, filter, map};
 ghost use Rattle.std.specs.Option.{option_copied};
 ghost use Rattle.std.specs.Path.{path_join};
@@ -99,7 +100,7 @@ fn list_said<S: Shelf>(
 /// # Errors
 ///
 /// A file can't be read, or holds no list; or memory was refused.
-#[tactic(auto, using(crate::proofs::Causes::unread_itself))]
+#[tactic(auto, using(crate::proofs::Causes::unlooked))]
 pub fn list_at<S: Shelf>(
     alloc: Global,
     shelf: &S,
@@ -119,7 +120,7 @@ pub fn list_at<S: Shelf>(
 // Whether a folder is at the path.
 pub(crate) fn is_folder<S: Shelf>(alloc: Global, shelf: &S, path: &str) -> Result<bool, ListTrouble>
     ensures ok { IfOk result (λ is. (S.told shelf.now).IsFolder path.now is) }
-    ensures err { IfErr result (IsUnreadable (S.told shelf.now) path.now) }
+    ensures err { IfErr result (IsUnreadable (S.told shelf.now) to_look path.now) }
 {
     match shelf.is_folder(path) {
         Ok(is_folder) => Ok(is_folder),
@@ -134,7 +135,7 @@ pub(crate) fn bytes_of<S: Shelf>(
     path: &str,
 ) -> Result<Vec<u8>, ListTrouble>
     ensures ok { IfOk result (λ bytes. (S.told shelf.now).Holds path.now bytes.items) }
-    ensures err { IfErr result (IsUnreadable (S.told shelf.now) path.now) }
+    ensures err { IfErr result (IsUnreadable (S.told shelf.now) to_read path.now) }
 {
     match shelf.read(alloc, path) {
         Ok(bytes) => Ok(bytes),
@@ -233,7 +234,7 @@ pub(crate) fn bytes_below<S: Shelf>(
 ) -> Result<Vec<u8>, ListTrouble>
     ensures ok { IfOk result (λ bytes.
         (S.told shelf.now).Holds (path_join folder.now name.now) bytes.items) }
-    ensures err { IfErr result (IsUnreadable (S.told shelf.now)
+    ensures err { IfErr result (IsUnreadable (S.told shelf.now) to_read
         (path_join folder.now name.now)) }
 {
     let path = Path::new(folder).join(alloc, name)?;

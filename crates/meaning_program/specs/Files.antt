@@ -8,7 +8,7 @@ use Rattle.std.specs.declared.io.Error.{Error}
 use Rattle.std.specs.declared.io.ErrorKind.{ErrorKind}
 use Rattle.std.specs.declared.io.ErrorKind.TheVariants as kind
 use Rattle.line_engine.specs.Lines.{lines_of}
-use Rattle.shelves.specs.Shelf.{Shelved}
+use Rattle.shelves.specs.Shelf.{Shelved, to_read}
 use Rattle.spdx_requirement.specs.Rows.{Rows}
 use Rattle.list_program.specs.Named.{InsideBytes, IsNamedList}
 use Rattle.list_program.specs.Troubles.{IsNoNamedList}
@@ -41,7 +41,7 @@ IsContent s path bytes = IsContentBy (is_input path) s path bytes
 -- why it can't be read
 abbrev pub FailsBy : Bool → Shelved → List ℕ → Error → Type 0
 FailsBy true s path e = s.InputFails e
-FailsBy false s path e = s.Fails path e
+FailsBy false s path e = s.Fails to_read path e
 
 abbrev pub Fails : Shelved → List ℕ → Error → Type 0
 Fails s path e = FailsBy (is_input path) s path e

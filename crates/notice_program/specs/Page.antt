@@ -3,7 +3,7 @@ use Rattle.std.specs.Prelude.{◌≡◌, ◌≢◌, ◌⊎◌, ℕ, Bool, true, 
 use Rattle.std.specs.Borrow.{Bor}
 use Rattle.std.specs.Global.{Vec}
 use Rattle.std.specs.declared.alloc.Global.{Global}
-use Rattle.shelves.specs.Shelf.{Shelved}
+use Rattle.shelves.specs.Shelf.{Shelved, to_look}
 use Rattle.text_files.specs.declared.trouble.Obstacle.TheVariants as obstacle
 use Rattle.text_files.specs.declared.trouble.TextTrouble.{TextTrouble}
 use Rattle.text_files.specs.Trouble.{IsOf}
@@ -110,7 +110,7 @@ IsFolderThere s own.Installed = Unit {0}
 -- there is none, or it can't be looked at
 abbrev pub IsNoFolderAt : Shelved → List ℕ → TextTrouble → Type 0
 IsNoFolderAt s path t =
-    IsFailing s path path t ⊎ (s.IsFolder path false × IsOf path path obstacle.NoFolder t)
+    IsFailing s to_look path path t ⊎ (s.IsFolder path false × IsOf path path obstacle.NoFolder t)
 
 abbrev pub IsNoFolder : Shelved → OwnTexts → TextTrouble → Type 0
 IsNoFolder s (own.Below all) t = IsNoFolderAt s all.now t

@@ -1,5 +1,6 @@
 // What gives files piece by piece.
 
+ghost use Rattle.shelves.specs.Shelf.{to_open};
 ghost use Rattle.std.specs.Prelude.{IfErr, IfOk};
 ghost use Rattle.open_shelves.specs.Opened.{Gives};
 
@@ -24,7 +25,8 @@ pub trait OpenShelf: Shelf {
             Gives (Self.File.told file) ((Self.Shelf.told self.now).Holds path.now)) }
         ensures breaks { IfOk result (λ file.
             Self.File.MayFail file → (Self.Shelf.told self.now).Breaks path.now) }
-        ensures err { IfErr result (λ error. (Self.Shelf.told self.now).Fails path.now error) };
+        ensures err { IfErr result (λ error.
+            (Self.Shelf.told self.now).Fails to_open path.now error) };
 
     /// Gives the bytes of standard input.
     ///

@@ -2,7 +2,7 @@
 use Rattle.std.specs.Prelude.{◌≡◌, ◌⊎◌, ℕ, Bool, true, false, List, [], ◌++◌, Option, None, Some, codes, option_map, string_bytes, unwrap_or, if◌then◌else◌}
 use Rattle.std.specs.Path.{path_join, path_parent}
 use Rattle.std.specs.declared.io.Error.{Error}
-use Rattle.shelves.specs.Shelf.{Shelved}
+use Rattle.shelves.specs.Shelf.{Shelved, to_look}
 use Rattle.package_items.specs.declared.package.Package.{Package}
 use Rattle.notice_texts.specs.Paths.{is_inside}
 use Rattle.owed_texts.specs.declared.home.Folders.{Folders}
@@ -18,7 +18,7 @@ use Rattle.text_files.specs.Within.{IsFailing, IsOutside, IsWithin}
 abbrev pub IsFolderAt : Shelved → List ℕ → Bool → Type 0
 IsFolderAt s path true = s.IsFolder path true
 IsFolderAt s path false =
-    s.IsFolder path false ⊎ ((e : Error) × s.Fails path e × (is_not_found e ≡ true))
+    s.IsFolder path false ⊎ ((e : Error) × s.Fails to_look path e × (is_not_found e ≡ true))
 
 pub record IsHomeAt (folder inside : List ℕ) (h : Home) : Type 0 where
   pub folder_is : string_bytes h.folder ≡ folder
@@ -57,7 +57,7 @@ IsHomeBelow s follow all p home = IsHomeOf s follow all (place_in all (folder_na
 
 -- it can't be looked at, or leads out
 abbrev pub IsNoHomeIn : Shelved → List ℕ → List ℕ → List ℕ → TextTrouble → Type 0
-IsNoHomeIn s all name folder t = IsFailing s name folder t ⊎ IsOutside s name all folder t
+IsNoHomeIn s all name folder t = IsFailing s to_look name folder t ⊎ IsOutside s name all folder t
 
 abbrev pub IsNoHomeOf : Shelved → List ℕ → List ℕ → List ℕ → Option (List ℕ) → TextTrouble →
     Type 0
@@ -85,7 +85,7 @@ IsHomeSaid s file (Some said) home = IsHomeBeside s (beside file said) home
 
 abbrev pub IsNoHomeSaid : Shelved → List ℕ → List ℕ → Option (List ℕ) → TextTrouble → Type 0
 IsNoHomeSaid s name file None t = ⊥
-IsNoHomeSaid s name file (Some said) t = IsFailing s name (beside file said) t
+IsNoHomeSaid s name file (Some said) t = IsFailing s to_look name (beside file said) t
 
 -- ---- either
 

@@ -3,7 +3,7 @@ use Rattle.std.specs.Prelude.{◌≡◌, ◌⊎◌, ℕ, Bool, true, false, List
 use Rattle.std.specs.List.{AllZip}
 use Rattle.std.specs.Option.{option_to_list}
 use Rattle.std.specs.declared.io.Error.{Error}
-use Rattle.shelves.specs.Shelf.{Shelved}
+use Rattle.shelves.specs.Shelf.{Shelved, to_look}
 use Rattle.shelves.specs.declared.shelf.Kind.{Kind}
 use Rattle.package_files.specs.declared.listed.Source.{Source}
 use Rattle.package_files.specs.declared.listed.Source.TheVariants as source
@@ -35,7 +35,7 @@ place_of f o = place.Said
 -- something is there, or can't be looked at
 abbrev pub IsThere : Shelved → List ℕ → Bool → Type 0
 IsThere s path true = (k : Kind) × s.IsOf path k
-IsThere s path false = (e : Error) × s.Fails path e
+IsThere s path false = (e : Error) × s.Fails to_look path e
 
 abbrev pub IsThereAt : Shelved → Option (List ℕ) → Bool → Type 0
 IsThereAt s None is = is ≡ false

@@ -3,7 +3,7 @@ use Rattle.std.specs.Prelude.{◌<◌, ◌⊎◌, ℕ, List, [], ◌∷◌, IsPe
 use Rattle.std.specs.Cmp.Lexicographic.{slice_cmp}
 use Rattle.std.specs.Ordering.{nat_cmp}
 use Rattle.std.specs.declared.alloc.Global.{Global}
-use Rattle.shelves.specs.Shelf.{Named, Shelved}
+use Rattle.shelves.specs.Shelf.{Named, Shelved, to_list}
 use Rattle.shelves.specs.declared.shelf.Kind.{Kind}
 use Rattle.shelves.specs.declared.shelf.Kind.TheVariants as kind
 use Rattle.text_files.specs.declared.trouble.Obstacle.TheVariants as obstacle
@@ -41,4 +41,4 @@ IsUnnamed s folder = (entries : List Named) × (unnamed : ℕ) ×
 
 abbrev pub AreNoNames : Shelved → List ℕ → List ℕ → TextTrouble → Type 0
 AreNoNames s name folder t =
-    IsFailing s name folder t ⊎ (IsUnnamed s folder × IsOf name folder obstacle.Unnamed t)
+    IsFailing s to_list name folder t ⊎ (IsUnnamed s folder × IsOf name folder obstacle.Unnamed t)

@@ -1,5 +1,6 @@
 // The folders that packages lie in.
 
+ghost use Rattle.shelves.specs.Shelf.{to_look};
 ghost use Rattle.std.specs.Prelude.{◌≡◌, IfErr, IfOk, option_map, string_bytes};
 ghost use Rattle.std.specs.Option.{option_copied};
 ghost use Rattle.spdx_requirement.specs.Failures.{IfRefused};
@@ -161,7 +162,7 @@ fn home_beside<S: Shelf>(
     said: &str,
 ) -> Result<Option<Home>, Failure<TextTrouble>>
     ensures ok { IfOk result (spec.IsHomeBeside (S.told shelf.now) (beside file.now said.now)) }
-    ensures err { IfErr result (IfRefused (IsFailing (S.told shelf.now) name.now
+    ensures err { IfErr result (IfRefused (IsFailing (S.told shelf.now) to_look name.now
         (beside file.now said.now))) }
 {
     let folder = beside(alloc, file, said)?;
@@ -191,7 +192,8 @@ fn is_there<S: Shelf>(
     folder: &str,
 ) -> Result<bool, Failure<TextTrouble>>
     ensures ok { IfOk result (IsFolderAt (S.told shelf.now) folder.now) }
-    ensures err { IfErr result (IfRefused (IsFailing (S.told shelf.now) name.now folder.now)) }
+    ensures err { IfErr result (IfRefused (IsFailing (S.told shelf.now) to_look
+        name.now folder.now)) }
 {
     match shelf.is_folder(folder) {
         Ok(is) => Ok(is),

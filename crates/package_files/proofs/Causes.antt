@@ -1,6 +1,6 @@
 -- A fault of a part is one of the whole.
 use Rattle.std.specs.Prelude.{ℕ, List}
-use Rattle.shelves.specs.Shelf.{Shelved}
+use Rattle.shelves.specs.Shelf.{Shelved, to_read}
 use Rattle.package_files.specs.declared.fault.FileFault.{FileFault}
 use Rattle.package_files.specs.declared.fault.FileFault.TheVariants as fault
 use Rattle.package_files.specs.declared.listed.Source.{Source}
@@ -20,7 +20,7 @@ not_read s w path bytes fault.Memory content is = is
 not_read s w path bytes (fault.Unreadable n e) content is = absurd is
 not_read s w path bytes (fault.Empty n) content is = absurd is
 
-pub unread_before : (s : Shelved) (how : Source) (path : List ℕ) (f : FileFault) → IsUnreadAs path (s.Fails path) f → IsNotListedBefore s how path f
+pub unread_before : (s : Shelved) (how : Source) (path : List ℕ) (f : FileFault) → IsUnreadAs path (s.Fails to_read path) f → IsNotListedBefore s how path f
 unread_before s how path (fault.Unreadable n e) is = is
 unread_before s how path fault.Memory is = is
 unread_before s how path (fault.Source n f) is = absurd is

@@ -3,7 +3,7 @@ use Rattle.std.specs.Prelude.{◌≡◌, ℕ, Bool, true, false, List, [], Optio
 use Rattle.std.specs.declared.io.Error.{Error}
 use Rattle.package_items.specs.Rows.{fault_of}
 use Rattle.package_sources.specs.declared.form.Form.{Form}
-use Rattle.shelves.specs.Shelf.{Shelved}
+use Rattle.shelves.specs.Shelf.{Shelved, to_read}
 use Rattle.package_files.specs.declared.fault.FileFault.{FileFault}
 use Rattle.package_files.specs.declared.fault.FileFault.TheVariants as fault
 use Rattle.package_files.specs.declared.listed.Listed.{Listed}
@@ -20,7 +20,7 @@ IsUnreadAs told Fails f = ⊥
 
 abbrev pub FailsBy : Bool → Shelved → List ℕ → Error → Type 0
 FailsBy true s path e = s.InputFails e
-FailsBy false s path e = s.Fails path e
+FailsBy false s path e = s.Fails to_read path e
 
 -- the file at the path, or standard input, can't be read
 abbrev pub IsUnread : Shelved → List ℕ → FileFault → Type 0
@@ -66,7 +66,8 @@ IsNotEarlier how path bytes fault.Memory = Unit {0}
 IsNotEarlier how path bytes f = ⊥
 
 abbrev pub IsNotListedBefore : Shelved → Source → List ℕ → FileFault → Type 0
-IsNotListedBefore s how path (fault.Unreadable n e) = (string_bytes n ≡ path) × s.Fails path e
+IsNotListedBefore s how path (fault.Unreadable n e) =
+    (string_bytes n ≡ path) × s.Fails to_read path e
 IsNotListedBefore s how path (fault.Source n f) =
     (bytes : List ℕ) × s.Holds path bytes × (string_bytes n ≡ path) ×
     (read_before how path bytes ≡ Err (fault_of f))

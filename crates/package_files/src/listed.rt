@@ -1,5 +1,6 @@
 // The packages of a file, over a shelf.
 
+ghost use Rattle.shelves.specs.Shelf.{to_read};
 ghost use Rattle.std.specs.Prelude.{◌≡◌, ℕ, IfErr, IfOk, List, codes, map, string_bytes};
 ghost use Rattle.std.specs.Char.{is_ascii_whitespace};
 ghost use Rattle.std.specs.List.{list_all};
@@ -225,7 +226,8 @@ fn input_bytes<S: Shelf>(alloc: Global, shelf: &S) -> Result<Vec<u8>, FileFault>
 
 fn file_bytes<S: Shelf>(alloc: Global, shelf: &S, path: &str) -> Result<Vec<u8>, FileFault>
     ensures ok { IfOk result (λ bytes. (S.told shelf.now).Holds path.now bytes.items) }
-    ensures err { IfErr result (IsUnreadAs path.now ((S.told shelf.now).Fails path.now)) }
+    ensures err { IfErr result (IsUnreadAs path.now
+        ((S.told shelf.now).Fails to_read path.now)) }
 {
     match shelf.read(alloc, path) {
         Ok(bytes) => Ok(bytes),

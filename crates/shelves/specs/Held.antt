@@ -11,7 +11,7 @@ use Rattle.shelves.specs.declared.held.HeldVariable.{HeldVariable}
 use Rattle.shelves.specs.declared.held.HeldLink.{HeldLink}
 use Rattle.shelves.specs.declared.shelf.Kind.{Kind}
 use Rattle.shelves.specs.declared.shelf.Kind.TheVariants as kind
-use Rattle.shelves.specs.Shelf.{Named, Shelved, entry_of}
+use Rattle.shelves.specs.Shelf.{Access, Named, Shelved, entry_of, to_follow, to_list, to_look, to_open, to_read}
 
 -- the bytes of the first file of that path
 abbrev pub bytes_at : List HeldFile → List ℕ → Option (List ℕ)
@@ -51,10 +51,18 @@ kind_of None false = None
 abbrev pub kind_at : Held → List ℕ → Option Kind
 kind_at shelf path = kind_of (bytes_at shelf.files.items path) (has_folder shelf.folders.items path)
 
--- memory was refused; or there is no file, or no folder
-abbrev pub IsFault : Option (List ℕ) → Option (List Named) → Error → Type 0
-IsFault bytes entries error = (error_kind error ≡ OutOfMemory) ⊎
-    ((error_kind error ≡ NotFound) × ((bytes ≡ None) ⊎ (entries ≡ None)))
+-- what is wanted isn't there
+abbrev pub Lacks : Held → Access → List ℕ → Type 0
+Lacks shelf to_read path = bytes_at shelf.files.items path ≡ None
+Lacks shelf to_open path = bytes_at shelf.files.items path ≡ None
+Lacks shelf to_look path = kind_at shelf path ≡ None
+Lacks shelf to_list path = entries_at shelf.folders.items path ≡ None
+Lacks shelf to_follow path = ⊥
+
+-- memory was refused, or what is wanted isn't there
+abbrev pub IsFault : Held → Access → List ℕ → Error → Type 0
+IsFault shelf access path error = (error_kind error ≡ OutOfMemory) ⊎
+    ((error_kind error ≡ NotFound) × Lacks shelf access path)
 
 -- a file is known by its length alone, and nothing breaks off
 abbrev pub shelved : Held → Shelved
@@ -67,8 +75,7 @@ shelved shelf = record {
   Lists = λ path entries unnamed.
       (entries_at shelf.folders.items path ≡ Some entries) × (unnamed ≡ 0);
   IsReal = λ path real. real_path shelf.links.items path ≡ real;
-  Fails = λ path error.
-      IsFault (bytes_at shelf.files.items path) (entries_at shelf.folders.items path) error;
+  Fails = λ access path error. IsFault shelf access path error;
   Breaks = λ path. ⊥;
   Says = λ name text. says shelf.variables.items name ≡ text;
   IsNoText = λ name. ⊥;

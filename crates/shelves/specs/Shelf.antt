@@ -13,6 +13,15 @@ pub record Named : Type 0 where
 abbrev pub entry_of : Entry → Named
 entry_of e = record { name = string_bytes e.name; kind = e.kind }
 
+-- what is wanted of a path: its bytes, at once or piece by piece, what is there, what is in the
+-- folder, and where its links lead
+pub data Access : Type 0 where
+  to_read : Access
+  to_open : Access
+  to_look : Access
+  to_list : Access
+  to_follow : Access
+
 -- which bytes the file at a path holds and by what it is known then, what is there, what is in a
 -- folder, what a variable says, and which bytes the input has; and of each why it isn't told
 pub record Shelved : Type 1 where
@@ -26,8 +35,8 @@ pub record Shelved : Type 1 where
   pub Lists : List ℕ → List Named → ℕ → Type 0
   -- with all links followed the path is this one
   pub IsReal : List ℕ → List ℕ → Type 0
-  -- what is at the path can't be looked at, or not be read
-  pub Fails : List ℕ → Error → Type 0
+  -- this access to the path fails
+  pub Fails : Access → List ℕ → Error → Type 0
   -- what is read piece by piece of the path may break off
   pub Breaks : List ℕ → Type 0
   pub Says : List ℕ → Option (List ℕ) → Type 0
@@ -46,7 +55,7 @@ silent = record {
   IsOf = λ path kind. Unit {0};
   Lists = λ path entries unnamed. Unit {0};
   IsReal = λ path real. Unit {0};
-  Fails = λ path error. Unit {0};
+  Fails = λ access path error. Unit {0};
   Breaks = λ path. Unit {0};
   Says = λ name text. Unit {0};
   IsNoText = λ name. Unit {0};

@@ -1,7 +1,7 @@
 // What a shelf is asked.
 
 ghost use Rattle.std.specs.Prelude.{IfErr, IfOk, map, option_map, string_bytes};
-ghost use Rattle.shelves.specs.Shelf.{Shelved, entry_of};
+ghost use Rattle.shelves.specs.Shelf.{Shelved, entry_of, to_follow, to_list, to_look, to_read};
 ghost use Rattle.shelves.specs.Variables.{IsUntold};
 
 use std::alloc::Global;
@@ -70,7 +70,8 @@ pub trait Shelf {
     /// No file is there, it can't be read, or memory was refused.
     fn read(&self, alloc: Global, path: &str) -> io::Result<Vec<u8>>
         ensures ok { IfOk result (λ bytes. (told self.now).Holds path.now bytes.items) }
-        ensures err { IfErr result (λ error. (told self.now).Fails path.now error) };
+        ensures err { IfErr result (λ error.
+            (told self.now).Fails to_read path.now error) };
 
     /// The same, with what tells later whether the file has changed.
     ///
@@ -81,7 +82,8 @@ pub trait Shelf {
         ensures ok { IfOk result (λ file. (told self.now).Holds path.now file.bytes.items) }
         ensures stamp { IfOk result (λ file.
             (told self.now).HoldsAs path.now file.bytes.items file.stamp) }
-        ensures err { IfErr result (λ error. (told self.now).Fails path.now error) };
+        ensures err { IfErr result (λ error.
+            (told self.now).Fails to_read path.now error) };
 
     /// Whether a folder is at the path.
     ///
@@ -90,7 +92,8 @@ pub trait Shelf {
     /// Nothing is there, or it can't be looked at.
     fn is_folder(&self, path: &str) -> io::Result<bool>
         ensures ok { IfOk result (λ is. (told self.now).IsFolder path.now is) }
-        ensures err { IfErr result (λ error. (told self.now).Fails path.now error) };
+        ensures err { IfErr result (λ error.
+            (told self.now).Fails to_look path.now error) };
 
     /// What stands at the path, or where the link there leads.
     ///
@@ -99,7 +102,8 @@ pub trait Shelf {
     /// Nothing is there, or it can't be looked at.
     fn kind(&self, path: &str) -> io::Result<Kind>
         ensures ok { IfOk result (λ kind. (told self.now).IsOf path.now kind) }
-        ensures err { IfErr result (λ error. (told self.now).Fails path.now error) };
+        ensures err { IfErr result (λ error.
+            (told self.now).Fails to_look path.now error) };
 
     /// What is in the folder at the path.
     ///
@@ -109,7 +113,8 @@ pub trait Shelf {
     fn entries(&self, alloc: Global, path: &str) -> io::Result<Entries>
         ensures ok { IfOk result (λ entries. (told self.now).Lists path.now
             (map entry_of entries.named.items) entries.unnamed) }
-        ensures err { IfErr result (λ error. (told self.now).Fails path.now error) };
+        ensures err { IfErr result (λ error.
+            (told self.now).Fails to_list path.now error) };
 
     /// The path of what is at this one, with all links followed.
     ///
@@ -118,7 +123,8 @@ pub trait Shelf {
     /// Nothing is there, it can't be looked at, or memory was refused.
     fn real_path(&self, alloc: Global, path: &str) -> io::Result<String>
         ensures ok { IfOk result (λ real. (told self.now).IsReal path.now (string_bytes real)) }
-        ensures err { IfErr result (λ error. (told self.now).Fails path.now error) };
+        ensures err { IfErr result (λ error.
+            (told self.now).Fails to_follow path.now error) };
 
     /// What the variable says; none, where it isn't set.
     ///

@@ -3,7 +3,7 @@ use Rattle.std.proofs.Common.{◌≡◌, refl, ap, sym, ◌∙◌, subst, ℕ, B
 use Rattle.std.specs.declared.alloc.Global.{Global}
 use Rattle.std.proofs.lemmas.List.{reverse-append, reverse-reverse, append_assoc}
 use Rattle.std.specs.declared.io.Error.{Error}
-use Rattle.shelves.specs.Shelf.{Named, Shelved}
+use Rattle.shelves.specs.Shelf.{Named, Shelved, to_list}
 use Rattle.source_trees.specs.declared.stops.Stop.{Stop}
 use Rattle.source_trees.specs.declared.stops.Visit.TheVariants as visit
 use Rattle.source_trees.specs.declared.walk.Seen.{Seen}
@@ -108,9 +108,9 @@ on_top old children =
 
 -- a folder that isn't read has nothing behind it
 pub not_opened : (s : Shelved) (before after : List Stop) (path : String Global) (e : Error)
-    → s.Fails (string_bytes path) e → after ≡ before → IsOpened s before path after (seen.Unread path e)
+    → s.Fails to_list (string_bytes path) e → after ≡ before → IsOpened s before path after (seen.Unread path e)
 not_opened s before after path e fails is stop at visits =
-    let fails_it = subst (λ q. s.Fails (string_bytes q) e) (sym at) fails in
+    let fails_it = subst (λ q. s.Fails to_list (string_bytes q) e) (sym at) fails in
     subst (λ q. IsTaken s (stop ∷ before) (seen.Unread q e) after) at
     (subst (λ stops. IsTaken s (stop ∷ before) (seen.Unread stop.path e) stops) (sym is)
     (an_unread stop e visits fails_it))

@@ -1,6 +1,6 @@
 -- As what a file is read, or a folder.
 use Rattle.std.specs.Prelude.{◌≡◌, ℕ, Bool, true, false, List, Option, Some, None, option_map, codes, bytes_eq, string_bytes, ◌&&◌, if◌then◌else◌}
-use Rattle.shelves.specs.Shelf.{Shelved}
+use Rattle.shelves.specs.Shelf.{Shelved, to_look}
 use Rattle.manifests.specs.declared.form.Form.{Form}
 use Rattle.manifests.specs.Names.{form_of, form_named}
 use Rattle.source_trees.specs.declared.reading.Reading.{Reading}
@@ -59,7 +59,7 @@ IsReading s wanted path r =
 -- it can't be looked at
 abbrev pub IsUnlooked : Shelved → List ℕ → ReadingFault → Type 0
 IsUnlooked s path (fault.Unreadable n e) =
-    (string_bytes n ≡ path) × (is_input path ≡ false) × s.Fails path e
+    (string_bytes n ≡ path) × (is_input path ≡ false) × s.Fails to_look path e
 IsUnlooked s path (fault.NoManifest n) = ⊥
 IsUnlooked s path (fault.Folder n) = ⊥
 IsUnlooked s path fault.Memory = Unit {0}

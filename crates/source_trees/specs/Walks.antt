@@ -2,7 +2,7 @@
 use Rattle.std.specs.Prelude.{◌≡◌, ℕ, Bool, true, false, List, [], ◌∷◌, ◌++◌, Option, Some, None, Contains, All, map, reverse, String, string_bytes}
 use Rattle.std.specs.declared.alloc.Global.{Global}
 use Rattle.std.specs.declared.io.Error.{Error}
-use Rattle.shelves.specs.Shelf.{Named, Shelved}
+use Rattle.shelves.specs.Shelf.{Named, Shelved, to_list}
 use Rattle.source_trees.specs.declared.stops.Stop.{Stop}
 use Rattle.source_trees.specs.declared.stops.Visit.{Visit}
 use Rattle.source_trees.specs.declared.stops.Visit.TheVariants as visit
@@ -29,7 +29,7 @@ pub data AreSeen (s : Shelved) : List Stop → List Seen → Type 0 where
       AreSeen s children within → AreSeen s stops after →
       AreSeen s (stop ∷ stops) (seen.Folder stop.path unnamed ∷ (within ++ after))
   unread : {stops : List Stop} {after : List Seen} (stop : Stop) (e : Error) →
-      stop.visit ≡ visit.Folder → s.Fails (string_bytes stop.path) e →
+      stop.visit ≡ visit.Folder → s.Fails to_list (string_bytes stop.path) e →
       AreSeen s stops after → AreSeen s (stop ∷ stops) (seen.Unread stop.path e ∷ after)
 
 -- what a walk has yet to come to, the next one first
@@ -66,7 +66,7 @@ pub data IsTaken (s : Shelved) : List Stop → Seen → List Stop → Type 0 whe
       AreStopsIn (string_bytes stop.path) inside children →
       IsTaken s (stop ∷ stops) (seen.Folder stop.path unnamed) (children ++ stops)
   an_unread : {stops : List Stop} (stop : Stop) (e : Error) → stop.visit ≡ visit.Folder →
-      s.Fails (string_bytes stop.path) e →
+      s.Fails to_list (string_bytes stop.path) e →
       IsTaken s (stop ∷ stops) (seen.Unread stop.path e) stops
 
 -- these are seen one after the other, behind which that is yet to come

@@ -1,5 +1,6 @@
 // The files below a path.
 
+ghost use Rattle.shelves.specs.Shelf.{to_look};
 ghost use Rattle.std.specs.Prelude.{◌≡◌, ◌⊎◌, ◌∷◌, [], IfErr, IfOk};
 ghost use Rattle.std.specs.IoError.{error_kind};
 ghost use Rattle.std.specs.declared.io.ErrorKind.TheVariants.{OutOfMemory};
@@ -61,7 +62,7 @@ impl Walk {
     pub fn new<S: Shelf>(alloc: Global, shelf: &S, path: &str) -> io::Result<Walk>
         ensures ok { IfOk result (λ walk. IsBegun (S.told shelf.now) path.now (waiting walk)) }
         ensures err { IfErr result (λ error.
-            (S.told shelf.now).Fails path.now error ⊎ (error_kind error ≡ OutOfMemory)) }
+            (S.told shelf.now).Fails to_look path.now error ⊎ (error_kind error ≡ OutOfMemory)) }
     {
         let is_folder = shelf.is_folder(path)?;
         Ok(Walk::alone(alloc, path, is_folder)?)

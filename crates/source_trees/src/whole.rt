@@ -1,5 +1,6 @@
 // All that is below a path.
 
+ghost use Rattle.shelves.specs.Shelf.{to_look};
 ghost use Rattle.std.specs.Prelude.{◌⊎◌, All, IfErr, IfOk, ◌≡◌};
 ghost use Rattle.std.specs.IoError.{error_kind};
 ghost use Rattle.std.specs.declared.io.ErrorKind.TheVariants.{OutOfMemory};
@@ -19,7 +20,7 @@ use std::io;
 pub fn all_seen<S: Shelf>(alloc: Global, shelf: &S, path: &str) -> io::Result<Vec<Seen>>
     ensures ok { IfOk result (λ all. AreBelow (S.told shelf.now) path.now all.items) }
     ensures err { IfErr result (λ error.
-        (S.told shelf.now).Fails path.now error ⊎ (error_kind error ≡ OutOfMemory)) }
+        (S.told shelf.now).Fails to_look path.now error ⊎ (error_kind error ≡ OutOfMemory)) }
     ensures below { IfOk result (λ all. AreAllBelow (S.told shelf.now) path.now all.items) }
 {
     let walk = Walk::new(alloc, shelf, path)?;

@@ -10,7 +10,7 @@ use Rattle.std.specs.List.{list_any}
 use Rattle.std.specs.Ordering.{nat_cmp}
 use Rattle.std.specs.Path.{rsplit_once}
 use Rattle.std.specs.String.{string_cmp}
-use Rattle.shelves.specs.Shelf.{Named, Shelved}
+use Rattle.shelves.specs.Shelf.{Named, Shelved, to_list, to_look}
 use Rattle.shelves.specs.declared.shelf.Kind.{Kind}
 use Rattle.shelves.specs.declared.shelf.Kind.TheVariants as kind
 use Rattle.source_trees.specs.Stops.{below}
@@ -48,7 +48,7 @@ pub data AreLeftIn (s : Shelved) (folder : List ℕ) (left : List (String Global
   listed : (inside : List Named) (unnamed : ℕ) → s.Lists folder inside unnamed →
       IsPermutation (flat_map (left_at folder) inside) (map string_bytes left) →
       IsSorted string_cmp left → AreLeftIn s folder left
-  unread : (e : Error) → s.Fails folder e → left ≡ [] → AreLeftIn s folder left
+  unread : (e : Error) → s.Fails to_list folder e → left ≡ [] → AreLeftIn s folder left
 
 -- ---- a path
 
@@ -56,7 +56,7 @@ pub data AreLeftIn (s : Shelved) (folder : List ℕ) (left : List (String Global
 pub data IsNoFile (s : Shelved) (path : List ℕ) : Type 0 where
   at_input : is_input path ≡ true → IsNoFile s path
   at_folder : s.IsFolder path true → IsNoFile s path
-  at_nothing : (e : Error) → s.Fails path e → IsNoFile s path
+  at_nothing : (e : Error) → s.Fails to_look path e → IsNoFile s path
 
 abbrev pub IsFileBy : Bool → Shelved → List ℕ → Type 0
 IsFileBy true s path = s.IsFolder path false

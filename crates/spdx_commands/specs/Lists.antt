@@ -1,5 +1,5 @@
 -- What the commands below `list` write and tell, and with which status they end.
-use Rattle.std.specs.Prelude.{◌≡◌, ◌↔◌, ℕ, List, [], All, map}
+use Rattle.std.specs.Prelude.{◌≡◌, ◌↔◌, true, ℕ, List, [], All, map}
 use Rattle.std.specs.Option.{option_copied}
 use Rattle.line_engine.specs.Device.{Told}
 use Rattle.shelves.specs.Shelf.{Shelved}
@@ -8,6 +8,7 @@ use Rattle.spdx_list.specs.Diff.{nows}
 use Rattle.list_program.specs.Named.{InsideBytes, IsNamedList}
 use Rattle.list_program.specs.Written.{IsUnwritten, MadePaths, WritesList}
 use Rattle.list_program.specs.declared.trouble.ListTrouble.{ListTrouble}
+use Rattle.list_program.specs.declared.trouble.ListTrouble.TheVariants as list
 use Rattle.list_told.specs.Diffs.{IsDiff}
 use Rattle.list_told.specs.declared.differing.Lists.{Lists}
 use Rattle.list_told.specs.declared.shown.Asked.{Asked}
@@ -63,6 +64,7 @@ pub record IsUnmade (s : Shelved) (paths : MadePaths) (out out' : Told) (t : Tro
     Type 0 where
   pub cause : ListTrouble
   pub is_unwritten : IsUnwritten s paths out.bytes out'.bytes cause
+  pub failed : cause ≡ list.Output → out'.has_failed ≡ true
   pub trouble_is : t ≡ list_trouble cause
 
 -- ---- the parts of it, which only private clauses cite

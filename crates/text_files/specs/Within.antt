@@ -1,6 +1,6 @@
 -- What lies within folders.
 use Rattle.std.specs.Prelude.{◌≡◌, ◌⊎◌, ℕ, ◌==◌, Bool, true, false, ◌&&◌, ◌||◌, List, [], ◌∷◌, Option, None, Some, bytes_eq, codes, drop, length, take}
-use Rattle.shelves.specs.Shelf.{Shelved}
+use Rattle.shelves.specs.Shelf.{Access, Shelved, to_follow, to_look, to_read}
 use Rattle.shelves.specs.declared.shelf.Kind.TheVariants as kind
 use Rattle.text_files.specs.declared.trouble.Obstacle.{Obstacle}
 use Rattle.text_files.specs.declared.trouble.Obstacle.TheVariants as obstacle
@@ -48,29 +48,29 @@ pub record IsReadWithin (s : Shelved) (folder : Option (List ℕ)) (path bytes :
 
 -- ---- and why it isn't
 
--- the system tells an error of the path, other than of memory
-abbrev pub FailsAt : Shelved → List ℕ → Obstacle → Type 0
-FailsAt s path (obstacle.Unreadable e) = s.Fails path e × (is_of_memory e ≡ false)
-FailsAt s path w = ⊥
+-- the system tells an error of this access to the path, other than of memory
+abbrev pub FailsAt : Shelved → Access → List ℕ → Obstacle → Type 0
+FailsAt s access path (obstacle.Unreadable e) = s.Fails access path e × (is_of_memory e ≡ false)
+FailsAt s access path w = ⊥
 
-abbrev pub IsFailing : Shelved → List ℕ → List ℕ → TextTrouble → Type 0
-IsFailing s name path t = IsTold name path (FailsAt s path) t
+abbrev pub IsFailing : Shelved → Access → List ℕ → List ℕ → TextTrouble → Type 0
+IsFailing s access name path t = IsTold name path (FailsAt s access path) t
 
 abbrev pub IsNotRegular : Shelved → List ℕ → Obstacle → Type 0
 IsNotRegular s path obstacle.Special = s.IsOf path kind.Other
-IsNotRegular s path w = FailsAt s path w
+IsNotRegular s path w = FailsAt s to_look path w
 
 abbrev pub IsNotLooked : Shelved → List ℕ → List ℕ → TextTrouble → Type 0
 IsNotLooked s name path t = IsTold name path (IsNotRegular s path) t
 
--- the path leads out of the folder, or one of both can't be looked at
+-- the path leads out of the folder, or the links of one of both can't be followed
 abbrev pub LeadsOut : Shelved → List ℕ → List ℕ → Obstacle → Type 0
 LeadsOut s folder path obstacle.LeadsOut = IsBelow s folder path false
-LeadsOut s folder path w = FailsAt s path w
+LeadsOut s folder path w = FailsAt s to_follow path w
 
 abbrev pub IsOutside : Shelved → List ℕ → List ℕ → List ℕ → TextTrouble → Type 0
 IsOutside s name folder path t =
-    IsFailing s name folder t ⊎ IsTold name path (LeadsOut s folder path) t
+    IsFailing s to_follow name folder t ⊎ IsTold name path (LeadsOut s folder path) t
 
 abbrev pub IsNotPlaced : Shelved → List ℕ → Option (List ℕ) → List ℕ → TextTrouble → Type 0
 IsNotPlaced s name None path t = ⊥
@@ -79,4 +79,4 @@ IsNotPlaced s name (Some folder) path t = IsOutside s name folder path t
 -- the path is of a device, leads out of the folder, or can't be read
 abbrev pub IsUnreadWithin : Shelved → List ℕ → Option (List ℕ) → List ℕ → TextTrouble → Type 0
 IsUnreadWithin s name folder path t =
-    IsNotLooked s name path t ⊎ IsNotPlaced s name folder path t
+    IsNotLooked s name path t ⊎ (IsNotPlaced s name folder path t ⊎ IsFailing s to_read name path t)

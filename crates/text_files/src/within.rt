@@ -1,5 +1,6 @@
 // What lies within folders.
 
+ghost use Rattle.shelves.specs.Shelf.{to_follow};
 ghost use Rattle.std.specs.Prelude.{◌≡◌, IfErr, IfOk, string_bytes};
 ghost use Rattle.std.specs.Option.{option_copied};
 ghost use Rattle.spdx_requirement.specs.Failures.{IfRefused};
@@ -112,7 +113,8 @@ fn real_path<S: Shelf>(
     path: &str,
 ) -> Result<String, Failure<TextTrouble>>
     ensures ok { IfOk result (λ real. (S.told shelf.now).IsReal path.now (string_bytes real)) }
-    ensures err { IfErr result (IfRefused (spec.IsFailing (S.told shelf.now) name.now path.now)) }
+    ensures err { IfErr result (IfRefused (spec.IsFailing (S.told shelf.now) to_follow
+        name.now path.now)) }
 {
     match shelf.real_path(alloc, path) {
         Ok(real) => Ok(real),
