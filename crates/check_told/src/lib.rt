@@ -6,7 +6,7 @@
 //! let mut lines = summary_of(alloc, sums)?;
 //! ```
 //!
-//! It stands on `check_sources`, `spdx_check`, `source_trees` and `notice_texts`.
+//! It stands on `check_sources`, `spdx_check` and `notice_texts`.
 #![tactic(auto)]
 
 pub mod counting;

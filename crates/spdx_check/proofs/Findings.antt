@@ -8,8 +8,8 @@ use Rattle.spdx_lexer.specs.declared.token.ParseMode.{ParseMode}
 use Rattle.spdx_lexer.specs.Words.{Fault, Span}
 use Rattle.spdx_parser.specs.Faults.{IsFaultOf}
 use Rattle.spdx_canonical.specs.Fix.{Reads}
-use Rattle.spdx_lines.specs.Outcome.{Outcome, outcome}
-use Rattle.spdx_lines.proofs.Outcome.{Means, outcome_means, fault_found}
+use Rattle.spdx_evaluation.specs.Outcome.{Outcome, outcome}
+use Rattle.spdx_evaluation.proofs.Outcome.{Means, outcome_means, fault_found}
 use Rattle.spdx_list.specs.Files.{InsteadRow}
 use Rattle.spdx_check.specs.Finding.{Wrong, wrong_in, no_text, IsFinding, is_accepted, is_refused, is_no_text, IsTheFinding}
 use Rattle.spdx_check.specs.Found.{fix_of, finding_by, finding_of}

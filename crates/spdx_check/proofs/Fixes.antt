@@ -9,8 +9,8 @@ use Rattle.spdx_parser.specs.Tree.{Tree}
 use Rattle.spdx_canonical.specs.Canonical.{canonical_of}
 use Rattle.spdx_canonical.specs.Fix.{Reads, IsFixOf}
 use Rattle.spdx_canonical.proofs.FixRead.{refused_reads}
-use Rattle.spdx_lines.specs.Outcome.{Outcome, outcome}
-use Rattle.spdx_lines.proofs.Outcome.{Means, outcome_means, tree_found}
+use Rattle.spdx_evaluation.specs.Outcome.{Outcome, outcome}
+use Rattle.spdx_evaluation.proofs.Outcome.{Means, outcome_means, tree_found}
 use Rattle.spdx_check.specs.Found.{when_accepted, mended, fix_of}
 
 said_words : (read : List Placed) → map said (map {B = Item} Ok read) ≡ map {B = Result Word Fault} Ok (words read)

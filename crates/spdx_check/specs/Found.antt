@@ -8,7 +8,7 @@ use Rattle.spdx_lexer.specs.declared.token.ParseMode.{ParseMode}
 use Rattle.spdx_lexer.specs.Modes.{strict, lax}
 use Rattle.spdx_lexer.specs.Words.{Fault, Span}
 use Rattle.spdx_canonical.specs.Canonical.{canonical_of}
-use Rattle.spdx_lines.specs.Outcome.{Outcome, outcome}
+use Rattle.spdx_evaluation.specs.Outcome.{Outcome, outcome}
 use Rattle.spdx_check.specs.declared.check.Check.{Check}
 use Rattle.spdx_list.specs.Files.{InsteadRow}
 use Rattle.spdx_check.specs.Finding.{Wrong, wrong_in, no_text}

@@ -3,3 +3,4 @@ pub mod Machine
 pub mod Evaluating
 pub mod Logging
 pub mod Answering
+pub mod Outcome

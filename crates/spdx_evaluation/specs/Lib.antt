@@ -4,3 +4,4 @@ pub mod Requirements
 pub mod Truth
 pub mod Calls
 pub mod ByRequirement
+pub mod Outcome

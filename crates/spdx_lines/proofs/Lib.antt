@@ -1,4 +1,3 @@
-pub mod Outcome
 pub mod Laxer
 pub mod Verdict
 pub mod Answered

@@ -13,10 +13,10 @@ use Rattle.spdx_parser.specs.Faults.{IsFaultOf}
 use Rattle.spdx_canonical.specs.Canonical.{canonical_text, canonical_of}
 use Rattle.spdx_lines.specs.declared.lines.LineMode.{LineMode}
 use Rattle.spdx_lines.specs.declared.lines.LineMode.TheVariants.{Strict, Lax, Normal}
-use Rattle.spdx_lines.specs.Outcome.{Outcome, outcome}
+use Rattle.spdx_evaluation.specs.Outcome.{Outcome, outcome}
 use Rattle.spdx_lines.specs.Verdict.{Verdict, Accepted, Refused, BadUtf8, parse_mode, IsVerdict, is_accepted, is_refused, is_no_text, IsTheVerdict, IsColumn}
 use Rattle.spdx_lines.specs.Found.{column, verdict_of, verdict}
-use Rattle.spdx_lines.proofs.Outcome.{Means, outcome_means, tree_found, fault_found}
+use Rattle.spdx_evaluation.proofs.Outcome.{Means, outcome_means, tree_found, fault_found}
 use Rattle.spdx_lines.proofs.Laxer.{canonical_found}
 
 -- a line has one second column

@@ -15,7 +15,7 @@ use Rattle.spdx_canonical.specs.Normal.{normal_text}
 use Rattle.spdx_licensee.specs.Answers.{licensee_at}
 use Rattle.spdx_lines.specs.declared.lines.LineMode.{LineMode}
 use Rattle.spdx_lines.specs.declared.lines.LineMode.TheVariants.{Strict, Lax, Normal}
-use Rattle.spdx_lines.specs.Outcome.{Outcome, outcome}
+use Rattle.spdx_evaluation.specs.Outcome.{Outcome, outcome}
 use Rattle.spdx_lines.specs.Verdict.{Verdict, Accepted, Refused, BadUtf8, parse_mode, trees_by}
 use Rattle.spdx_lines.specs.Lines.{rule_by, rule_by_all}
 use Rattle.spdx_lines.specs.Program.{Meaning}

@@ -1,4 +1,3 @@
-pub mod Outcome
 pub mod Verdict
 pub mod Lines
 pub mod Trees

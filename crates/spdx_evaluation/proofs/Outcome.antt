@@ -15,7 +15,7 @@ use Rattle.spdx_parser.proofs.Loop.{Reads, nothing_read, takes, stops, lexes_no_
 use Rattle.spdx_parser.proofs.OneFault.{one_fault}
 use Rattle.spdx_evaluation.specs.Postfix.{tree_of}
 use Rattle.spdx_evaluation.specs.PostfixLaws.{tree_of_postfix}
-use Rattle.spdx_lines.specs.Outcome.{Outcome, ended, at_end, behind_word, outcome_behind, outcome_of, outcome}
+use Rattle.spdx_evaluation.specs.Outcome.{Outcome, ended, at_end, behind_word, outcome_behind, outcome_of, outcome}
 
 module _ (c : Rows) (m : ParseMode) (text : List ℕ) where
   abbrev pub Means : Outcome → Type 0
