@@ -24,7 +24,7 @@ use Rattle.check_sources.specs.Findings.{ChecksWritten, Source, refused_count}
 use Rattle.check_sources.specs.Manifests.{ChecksManifest, check_in, declared_at}
 use Rattle.check_sources.specs.Tags.{tagged}
 use Rattle.check_sources.specs.Written.{Written}
-use Rattle.check_told.specs.Decoding.{source_bytes, without_mark}
+use Rattle.check_sources.specs.Decoding.{source_bytes, without_mark}
 use Rattle.check_files.specs.declared.trouble.CheckTrouble.{CheckTrouble}
 use Rattle.check_files.specs.Clean.{AreTagsClean, Declares, DeclaresClean, HasTags, IsAccepted, IsCleanBy, IsDeclaredUse, IsFileClean, IsFileLicensed, IsFileUse, IsFileUseBy, IsLicensedBy, IsManifestClean, IsManifestUse, IsPassing, IsReadClean, IsReadLicensed, IsReadUse, IsTaggedUse, IsWrittenAccepted, TagsClean}
 use Rattle.check_files.specs.Files.{DeclaresPart, IsFileChecked, IsFileStep, IsStepBy, NotesFile, TagsPart, has_both, is_wanted}

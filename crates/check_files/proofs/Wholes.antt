@@ -12,9 +12,9 @@ use Rattle.source_trees.specs.declared.reading.Taken.{Taken}
 use Rattle.spdx_check.specs.declared.check.Check.{Check}
 use Rattle.check_sources.specs.Findings.{Source}
 use Rattle.check_sources.specs.Manifests.{ChecksManifest}
-use Rattle.check_told.specs.Counted.{IsCounted}
-use Rattle.check_told.specs.Decoding.{without_mark}
-use Rattle.check_told.specs.declared.sums.Sums.{Sums}
+use Rattle.check_sources.specs.Counted.{IsCounted}
+use Rattle.check_sources.specs.Decoding.{without_mark}
+use Rattle.check_sources.specs.declared.sums.Sums.{Sums}
 use Rattle.check_files.specs.declared.trouble.CheckTrouble.{CheckTrouble}
 use Rattle.check_files.specs.Files.{DeclaresPart, IsFileChecked, IsFileStep, IsStepBy, NotesFile, TagsPart, has_both, is_wanted}
 use Rattle.check_files.specs.Noted.{Grows, IsUseOfManifest, Notes}

@@ -10,8 +10,8 @@ use Rattle.spdx_check.specs.declared.check.Check.{Check}
 use Rattle.check_sources.specs.Findings.{ChecksWritten, Source}
 use Rattle.check_sources.specs.Manifests.{ChecksManifest}
 use Rattle.check_sources.specs.Tags.{tagged}
-use Rattle.check_told.specs.Counted.{written}
-use Rattle.check_told.specs.Decoding.{source_bytes, without_mark}
+use Rattle.check_sources.specs.Counted.{written}
+use Rattle.check_sources.specs.Decoding.{source_bytes, without_mark}
 use Rattle.check_files.specs.declared.trouble.CheckTrouble.{CheckTrouble}
 use Rattle.check_files.specs.Files.{DeclaresPart}
 use Rattle.check_files.specs.Noted.{Notes}

@@ -14,7 +14,7 @@ use Rattle.check_sources.specs.Findings.{Source}
 use Rattle.check_sources.specs.Manifests.{AreInOrder, mode_in}
 use Rattle.check_sources.specs.Tags.{tagged}
 use Rattle.check_sources.specs.Written.{Written}
-use Rattle.check_told.specs.Decoding.{source_bytes, without_mark}
+use Rattle.check_sources.specs.Decoding.{source_bytes, without_mark}
 use Rattle.check_files.specs.Files.{is_wanted}
 use Rattle.check_files.specs.Noted.{IsBare, IsUseOfManifest, IsUseOfTags, site_text}
 use Rattle.check_files.specs.Parts.{source_at}

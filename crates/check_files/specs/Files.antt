@@ -7,7 +7,7 @@ use Rattle.source_trees.specs.Readings.{form_below}
 use Rattle.source_trees.specs.declared.reading.Taken.{Taken}
 use Rattle.spdx_check.specs.declared.check.Check.{Check}
 use Rattle.check_sources.specs.Findings.{Source}
-use Rattle.check_told.specs.Decoding.{source_bytes, without_mark}
+use Rattle.check_sources.specs.Decoding.{source_bytes, without_mark}
 use Rattle.check_files.specs.declared.trouble.CheckTrouble.{CheckTrouble}
 use Rattle.check_files.specs.Noted.{Grows, IsUseOfManifest, IsUseOfTags, NotesBare, Notes}
 use Rattle.check_files.specs.Parts.{AreTagsChecked, IsManifestChecked, source_at}

@@ -16,8 +16,8 @@ use Rattle.check_sources.specs.Findings.{Source}
 use Rattle.check_sources.specs.Manifests.{mode_in}
 use Rattle.check_sources.specs.Tags.{is_binary}
 use Rattle.check_sources.specs.Written.{slice_in}
-use Rattle.check_told.specs.Needs.{AreNeeded}
-use Rattle.check_told.specs.Untagged.{is_text, needs_none}
+use Rattle.check_sources.specs.Needs.{AreNeeded}
+use Rattle.check_sources.specs.Untagged.{is_text, needs_none}
 use Rattle.check_files.specs.declared.noted.Noted.{Noted}
 
 -- the license texts that expressions need, the files without a license, and what runs that were

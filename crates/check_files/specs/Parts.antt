@@ -12,7 +12,7 @@ use Rattle.spdx_check.specs.declared.check.Check.{Check}
 use Rattle.check_sources.specs.Findings.{ChecksWritten, Source}
 use Rattle.check_sources.specs.Manifests.{ChecksManifest}
 use Rattle.check_sources.specs.Tags.{tagged}
-use Rattle.check_told.specs.Counted.{written}
+use Rattle.check_sources.specs.Counted.{written}
 use Rattle.check_files.specs.Tally.{Tally, is_clean, with_found, with_table}
 
 abbrev pub source_at : List ℕ → List ℕ → Source

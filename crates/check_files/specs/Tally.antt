@@ -4,8 +4,8 @@ use Rattle.line_engine.specs.declared.lines.Summary.{Summary}
 use Rattle.line_engine.specs.Output.{capped}
 use Rattle.spdx_check.specs.declared.totals.Totals.{Totals}
 use Rattle.spdx_check.specs.Totals.{with_file}
-use Rattle.check_told.specs.Counted.{counted}
-use Rattle.check_told.specs.declared.sums.Sums.{Sums}
+use Rattle.check_sources.specs.Counted.{counted}
+use Rattle.check_sources.specs.declared.sums.Sums.{Sums}
 
 pub record Tally : Type 0 where
   -- the files, the expressions, those that are refused, and whether a path was passed over

@@ -6,7 +6,7 @@
 //! match shelf.read(alloc, path) {
 //! ```
 //!
-//! It stands on `check_told`, which has the parts of a check, and on `check_sources` and `source_trees`.
+//! It stands on `check_sources`, which has the parts of a check, and on `source_trees`.
 #![tactic(auto)]
 
 pub mod file;

@@ -18,8 +18,7 @@ ghost use Rattle.check_files.specs.Noted.{
 ghost use Rattle.check_sources.specs.Manifests.{mode_in, sites_in};
 ghost use Rattle.check_sources.specs.Stood.{source_of};
 
-use check_sources::{Source, is_binary, mode_in, slice_in};
-use check_told::{is_text, needed_by, needs_none};
+use check_sources::{Source, is_binary, is_text, mode_in, needed_by, needs_none, slice_in};
 use license_tags::{Tag, comment_of, tags};
 use manifests::{Form, Site};
 use shelves::Shelf;

@@ -10,8 +10,7 @@ ghost use Rattle.check_sources.specs.Manifests.{sites_in};
 ghost use Rattle.check_sources.specs.Stood.{source_of};
 
 use crate::trouble::CheckFault;
-use check_sources::{CheckedManifest, Source, check_manifest, check_tags};
-use check_told::{Sums, counted};
+use check_sources::{CheckedManifest, Source, Sums, check_manifest, check_tags, counted};
 use line_engine::device::Sink;
 use line_engine::lines::write_all;
 use manifests::{Form, Site, has_license_table};

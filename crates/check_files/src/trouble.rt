@@ -7,7 +7,7 @@ ghost use Rattle.check_files.specs.Tally.{tally_of};
 ghost use Rattle.check_files.specs.declared.trouble.CheckFault.TheVariants.{Memory};
 
 use crate::telling::Telling;
-use check_told::Sums;
+use check_sources::Sums;
 use line_engine::device::Failed;
 use std::alloc::{AllocError, Global};
 use std::io::{self, ErrorKind};

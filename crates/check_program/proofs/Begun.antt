@@ -9,14 +9,14 @@ use Rattle.finding_forms.specs.Forms.{beginning, ending}
 use Rattle.line_engine.specs.Device.{Told, devices}
 use Rattle.line_engine.specs.Progress.{AppendsBeginning}
 use Rattle.manifests.specs.declared.form.Form.{Form}
-use Rattle.open_shelves.specs.Opened.{Gives, MayHave}
+use Rattle.shelves.specs.Opened.{Gives, MayHave}
 use Rattle.shelves.specs.Shelf.{Shelved}
 use Rattle.source_trees.specs.Readings.{IsReading, is_input}
 use Rattle.source_trees.specs.declared.reading.Reading.{Reading}
 use Rattle.spdx_check.specs.declared.check.Check.{Check}
 use Rattle.spdx_check.specs.Checking.{ChecksLines}
 use Rattle.spdx_check.specs.declared.lines.LinesFault.{LinesFault}
-use Rattle.check_told.specs.declared.sums.Sums.{Sums}
+use Rattle.check_sources.specs.declared.sums.Sums.{Sums}
 use Rattle.check_files.specs.Begun.{IsBeginning}
 use Rattle.check_files.specs.declared.trouble.CheckFault.{CheckFault}
 use Rattle.check_files.specs.declared.trouble.CheckFault.TheVariants as fault

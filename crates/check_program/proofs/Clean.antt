@@ -14,14 +14,14 @@ use Rattle.spdx_check.specs.declared.check.Check.{Check}
 use Rattle.spdx_check.specs.Checking.{expression_of, finding_in_line, is_white}
 use Rattle.spdx_check.specs.Finding.{Wrong}
 use Rattle.spdx_check.proofs.Blanks.{leaves_out_white}
-use Rattle.check_told.specs.Decoding.{source_bytes, without_mark}
+use Rattle.check_sources.specs.Decoding.{source_bytes, without_mark}
 use Rattle.check_files.specs.declared.trouble.CheckTrouble.{CheckTrouble}
 use Rattle.check_files.specs.Clean.{IsPassing}
 use Rattle.check_files.specs.Parts.{source_at}
 use Rattle.check_files.specs.Tally.{Tally, tally_of, with_lines}
 use Rattle.check_files.specs.Told.{Account, Does}
 use Rattle.check_files.proofs.Clean.{accepted, manifest_clean, not_passed, passing, sum_none, tags_clean}
-use Rattle.check_trees.proofs.Clean.{tree_clean}
+use Rattle.check_program.proofs.TreeClean.{tree_clean}
 use Rattle.check_program.specs.declared.run.Request.{Request}
 use Rattle.check_program.specs.Clean.{AreAllClean, AreLinesClean, AreLinesCleanAt, IsCleanAs, IsLineClean, IsPartClean, IsPartCleanAt, IsPathClean}
 use Rattle.check_program.specs.Lines.{AreFindings, AreLinesChecked, IsLinesStep, name_at, rule_of}

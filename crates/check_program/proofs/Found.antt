@@ -20,7 +20,7 @@ use Rattle.check_sources.specs.Findings.{ChecksWritten, Source, findings_text, f
 use Rattle.check_sources.specs.Lines.{line_of, within}
 use Rattle.check_sources.specs.Manifests.{ChecksManifest, check_in, declared_at, told_of_file}
 use Rattle.check_sources.specs.Written.{Written, marked_part, told_in}
-use Rattle.check_told.specs.Owed.{Whole, others_text, told_whole, whole_text, wholes_text}
+use Rattle.check_sources.specs.Owed.{Whole, others_text, told_whole, whole_text, wholes_text}
 use Rattle.check_program.proofs.Adding.{Adds, adds_as, adds_both, adds_none, adds_one, none_counted, none_of, told_text}
 
 -- ---- lines

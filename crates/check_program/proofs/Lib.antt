@@ -1,3 +1,9 @@
+pub mod TreeBegun
+pub mod Walked
+pub mod Seeing
+pub mod Sorting
+pub mod Ending
+pub mod TreeClean
 pub mod Begun
 pub mod Streams
 pub mod Wholes

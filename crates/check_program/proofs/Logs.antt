@@ -13,8 +13,8 @@ use Rattle.finding_forms.specs.Sarif.{result_of}
 use Rattle.finding_forms.specs.SarifLog.{log_text}
 use Rattle.spdx_check.specs.declared.check.Check.{Check}
 use Rattle.spdx_check.specs.Checking.{is_white}
-use Rattle.check_told.specs.Decoding.{source_bytes, without_mark}
-use Rattle.check_told.specs.declared.sums.Sums.{Sums}
+use Rattle.check_sources.specs.Decoding.{source_bytes, without_mark}
+use Rattle.check_sources.specs.declared.sums.Sums.{Sums}
 use Rattle.check_files.specs.declared.trouble.CheckTrouble.{CheckTrouble}
 use Rattle.check_files.specs.Parts.{source_at}
 use Rattle.check_files.specs.Tally.{Tally, is_clean, tally_of, with_lines}

@@ -11,7 +11,7 @@ use Rattle.check_files.specs.declared.trouble.CheckTrouble.{CheckTrouble}
 use Rattle.check_files.specs.Tally.{Tally}
 use Rattle.check_files.specs.Told.{Account, Does}
 use Rattle.check_files.proofs.Doing.{both, heard_alone, known, nothing}
-use Rattle.check_trees.proofs.Seeing.{passed}
+use Rattle.check_program.proofs.Seeing.{passed}
 use Rattle.check_program.specs.Paths as paths
 use Rattle.check_program.specs.Paths.{ArePathSteps, IsPathStep, IsReadStep, PassesFault, Ways, path_in}
 

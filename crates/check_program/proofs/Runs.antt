@@ -6,8 +6,8 @@ use Rattle.line_engine.specs.Device.{Told}
 use Rattle.check_files.specs.declared.trouble.CheckTrouble.{CheckTrouble}
 use Rattle.check_files.specs.Tally.{Tally, nothing_counted, tally_of}
 use Rattle.check_files.specs.Told.{Account, Does}
-use Rattle.check_told.specs.Sums.{IsNew}
-use Rattle.check_told.specs.declared.sums.Sums.{Sums}
+use Rattle.check_sources.specs.Sums.{IsNew}
+use Rattle.check_sources.specs.declared.sums.Sums.{Sums}
 use Rattle.spdx_check.specs.declared.totals.Totals.{Totals}
 
 -- what is done stands between two texts

@@ -15,17 +15,17 @@ use Rattle.spdx_check.specs.Finding.{Wrong}
 use Rattle.spdx_check.specs.Totals.{with_file}
 use Rattle.check_sources.specs.Findings.{Source}
 use Rattle.check_sources.specs.Tags.{tagged}
-use Rattle.check_told.specs.Counted.{written}
-use Rattle.check_told.specs.Decoding.{source_bytes, without_mark}
-use Rattle.check_told.specs.Owed.{Whole, bare_at, owed_by}
+use Rattle.check_sources.specs.Counted.{written}
+use Rattle.check_sources.specs.Decoding.{source_bytes, without_mark}
+use Rattle.check_sources.specs.Owed.{Whole, bare_at, owed_by}
 use Rattle.check_files.specs.declared.trouble.CheckTrouble.{CheckTrouble}
 use Rattle.check_files.specs.Files.{DeclaresPart, IsFileChecked, IsStepBy, TagsPart, has_both, is_wanted}
 use Rattle.check_files.specs.Noted.{Notes}
 use Rattle.check_files.specs.Parts.{AreTagsChecked, IsManifestChecked, source_at}
 use Rattle.check_files.specs.Tally.{Tally, is_clean, once, with_bare, with_found, with_lines, with_table, with_texts, with_untagged}
-use Rattle.check_trees.specs.Ends.{AreOwed, AreWholes, IsBareStep, IsEndBy, IsTextsStep}
-use Rattle.check_trees.specs.Steps.{ArePassed, AreSteps, IsSeenStep, listed, more, none, trouble_of}
-use Rattle.check_trees.specs.Trees.{IsTreeChecked, IsTreeStep, Manner}
+use Rattle.check_program.specs.Ends.{AreOwed, AreWholes, IsBareStep, IsEndBy, IsTextsStep}
+use Rattle.check_program.specs.Steps.{ArePassed, AreSteps, IsSeenStep, listed, more, none, trouble_of}
+use Rattle.check_program.specs.Trees.{IsTreeChecked, IsTreeStep, Manner}
 use Rattle.check_program.specs.Lines.{rule_of}
 use Rattle.check_program.proofs.Adding.{Adds, adds_as, adds_both, adds_none, none_bare, none_capped, none_owed, none_refused}
 use Rattle.check_program.proofs.Found.{checks_added, lines_added, manifest_added, wholes_added}

@@ -7,7 +7,7 @@ use Rattle.line_engine.specs.Device.{Told, devices}
 use Rattle.line_engine.specs.Lines.{cut, lines_of}
 use Rattle.line_engine.specs.Output.{capped, output_of, summary_of, text_of}
 use Rattle.line_engine.specs.declared.lines.Summary.{Summary}
-use Rattle.open_shelves.specs.Opened.{Gives, MayHave}
+use Rattle.shelves.specs.Opened.{Gives, MayHave}
 use Rattle.shelves.specs.Shelf.{Shelved}
 use Rattle.source_trees.specs.Readings.{is_input}
 use Rattle.spdx_check.specs.declared.check.Check.{Check}

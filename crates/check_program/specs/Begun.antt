@@ -8,12 +8,12 @@ use Rattle.source_trees.specs.declared.reading.Reading.{Reading}
 use Rattle.source_trees.specs.declared.reading.Reading.TheVariants as reading
 use Rattle.spdx_check.specs.declared.check.Check.{Check}
 use Rattle.spdx_check.specs.Finding.{Wrong}
-use Rattle.check_told.specs.Decoding.{source_bytes, without_mark}
+use Rattle.check_sources.specs.Decoding.{source_bytes, without_mark}
 use Rattle.check_files.specs.Begun.{IsBeginning, IsManifestText, IsTagText}
 use Rattle.check_files.specs.declared.trouble.CheckTrouble.{CheckTrouble}
 use Rattle.check_files.specs.Parts.{source_at}
 use Rattle.check_files.specs.Tally.{Tally}
-use Rattle.check_trees.specs.Begun.{IsTreeBegun}
+use Rattle.check_program.specs.TreeBegun.{IsTreeBegun}
 use Rattle.check_program.specs.Lines.{AreFindings, Gives, name_at, rule_of}
 use Rattle.check_program.specs.Paths.{ArePathSteps, Ways, below}
 

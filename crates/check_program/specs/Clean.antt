@@ -8,10 +8,10 @@ use Rattle.source_trees.specs.declared.reading.Reading.{Reading}
 use Rattle.source_trees.specs.declared.reading.Reading.TheVariants as reading
 use Rattle.spdx_check.specs.declared.check.Check.{Check}
 use Rattle.spdx_check.specs.Checking.{expression_of, is_white}
-use Rattle.check_told.specs.Decoding.{source_bytes, without_mark}
+use Rattle.check_sources.specs.Decoding.{source_bytes, without_mark}
 use Rattle.check_files.specs.Clean.{AreTagsClean, IsAccepted, IsManifestClean}
 use Rattle.check_files.specs.Parts.{source_at}
-use Rattle.check_trees.specs.Clean.{IsTreeClean}
+use Rattle.check_program.specs.TreeClean.{IsTreeClean}
 use Rattle.check_program.specs.declared.run.Request.{Request}
 use Rattle.check_program.specs.Lines.{Gives, name_at}
 use Rattle.check_program.specs.Paths.{Ways, below, path_in}

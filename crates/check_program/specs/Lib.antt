@@ -1,3 +1,8 @@
+pub mod Steps
+pub mod Ends
+pub mod Trees
+pub mod TreeClean
+pub mod TreeBegun
 pub mod Lines
 pub mod Unread
 pub mod Paths

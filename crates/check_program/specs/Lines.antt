@@ -6,7 +6,7 @@ use Rattle.line_engine.specs.Device.{Told}
 use Rattle.line_engine.specs.Lines.{cut, lines_of}
 use Rattle.line_engine.specs.Output.{capped, output_of, summary_of, text_of}
 use Rattle.line_engine.specs.Rule.{Rule}
-use Rattle.open_shelves.specs.Opened.{MayHave}
+use Rattle.shelves.specs.Opened.{MayHave}
 use Rattle.shelves.specs.Shelf.{Shelved, to_open, to_read}
 use Rattle.source_trees.specs.Readings.{is_input}
 use Rattle.spdx_check.specs.declared.check.Check.{Check}

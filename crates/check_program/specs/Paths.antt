@@ -14,14 +14,14 @@ use Rattle.source_trees.specs.declared.reading.ReadingFault.TheVariants as fault
 use Rattle.source_trees.specs.declared.reading.Taken.{Taken}
 use Rattle.source_trees.specs.declared.reading.Wanted.{Wanted}
 use Rattle.spdx_check.specs.declared.check.Check.{Check}
-use Rattle.check_told.specs.Decoding.{source_bytes, without_mark}
+use Rattle.check_sources.specs.Decoding.{source_bytes, without_mark}
 use Rattle.check_files.specs.declared.trouble.CheckTrouble.{CheckTrouble}
 use Rattle.check_files.specs.declared.trouble.CheckTrouble.TheVariants as trouble
 use Rattle.check_files.specs.Parts.{AreTagsChecked, IsManifestChecked, source_at}
 use Rattle.check_files.specs.Passing.{IsPassed, PassesOver}
 use Rattle.check_files.specs.Tally.{Tally}
-use Rattle.check_trees.specs.Steps.{ArePassed}
-use Rattle.check_trees.specs.Trees.{IsTreeStep, Manner}
+use Rattle.check_program.specs.Steps.{ArePassed}
+use Rattle.check_program.specs.Trees.{IsTreeStep, Manner}
 use Rattle.check_program.specs.declared.path.Ways as written
 use Rattle.check_program.specs.Lines.{Fails, Gives, IsLinesStep, name_at}
 

@@ -13,8 +13,8 @@ use Rattle.list_program.specs.declared.trouble.ListTrouble.{ListTrouble}
 use Rattle.spdx_list.specs.Files.{ExtraRows, extras_in}
 use Rattle.spdx_check.specs.declared.check.Check.{Check}
 use Rattle.spdx_check.specs.Checking.{heirs_in}
-use Rattle.check_told.specs.declared.sums.Sums.{Sums}
-use Rattle.check_told.specs.Sums.{summary_text}
+use Rattle.check_sources.specs.declared.sums.Sums.{Sums}
+use Rattle.check_sources.specs.Sums.{summary_text}
 use Rattle.check_files.specs.declared.trouble.CheckFault.{CheckFault}
 use Rattle.check_files.specs.declared.trouble.CheckFault.TheVariants as fault
 use Rattle.check_files.specs.declared.trouble.CheckTrouble.{CheckTrouble}

@@ -4,16 +4,16 @@ ghost use Rattle.std.specs.Prelude.{◌≡◌, ◌∷◌, [], IfErr, OnErr, OnOk
 ghost use Rattle.check_files.specs.Tally.{tally_of, with_lines};
 ghost use Rattle.check_files.specs.Told.{Does, IsBrokenOff};
 ghost use Rattle.check_files.specs.declared.trouble.CheckFault.TheVariants.{Memory};
-ghost use Rattle.open_shelves.specs.Opened.{MayHave};
+ghost use Rattle.shelves.specs.Opened.{MayHave};
 ghost use Rattle.source_trees.specs.Readings.{is_input};
 ghost use Rattle.check_program.specs.Begun.{IsLinesStepBegun};
 ghost use Rattle.check_program.specs.Lines.{AreRead, Gives, IsLinesStep, IsLinesStepOf, name_at, of_file, of_input, opened};
 ghost use Rattle.check_program.specs.Unread.{PassesBroken, PassesUnread};
 
 use check_files::{CheckFault, CheckTrouble, Telling, pass_over};
-use check_told::Sums;
+use check_sources::Sums;
 use line_engine::device::{Sink, Source};
-use open_shelves::OpenShelf;
+use shelves::OpenShelf;
 use spdx_check::{Check, Checked, LinesFault, check_lines};
 use std::alloc::Global;
 use std::io;

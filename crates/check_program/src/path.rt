@@ -17,17 +17,15 @@ ghost use Rattle.check_program.specs.Paths.{
   ways_of,
 };
 ghost use Rattle.check_files.specs.declared.trouble.CheckFault.TheVariants.{Memory};
-ghost use Rattle.check_trees.specs.Trees.{manner_of};
+ghost use Rattle.check_program.specs.Trees.{manner_of};
 
 use crate::lines::{check_list, is_input, name_at, pass_unread};
+use crate::tree::{Manner, check_tree};
 use check_files::{CheckFault, CheckTrouble, Telling, check_declared, check_tagged, pass_over};
-use check_sources::Source;
-use check_told::{Sums, bytes_or, utf16_text, without_mark};
-use check_trees::{Manner, check_tree};
+use check_sources::{Source, Sums, bytes_or, utf16_text, without_mark};
 use line_engine::device::Sink;
 use manifests::Form;
-use open_shelves::OpenShelf;
-use shelves::Shelf;
+use shelves::{OpenShelf, Shelf};
 use source_trees::{Reading, ReadingFault, Taken, Wanted, reading_of};
 use spdx_check::Check;
 use std::alloc::Global;

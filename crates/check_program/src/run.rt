@@ -12,12 +12,12 @@ ghost use Rattle.check_program.specs.Runs.{IsNoRun, IsRun, last_lines};
 
 use crate::path::{Ways, check_paths};
 use check_files::{CheckFault, Telling};
-use check_told::{Sums, summary_of};
+use check_sources::{Sums, summary_of};
 use finding_forms::{Format, put_beginning, put_ending};
 use line_engine::device::Sink;
 use line_engine::lines::write_all;
 use list_program::{Inside as ListInside, ListTrouble, extras_inside, named_list};
-use open_shelves::OpenShelf;
+use shelves::OpenShelf;
 use source_trees::Wanted;
 use spdx_check::Check;
 use spdx_lexer::token::ParseMode;

@@ -1,3 +1,9 @@
+pub mod Sums
+pub mod Needs
+pub mod Owed
+pub mod Untagged
+pub mod Counted
+pub mod Decoding
 pub mod Lines
 pub mod Shown
 pub mod Written

@@ -1,5 +1,6 @@
 //! What is wrong with the license expressions of a source file or a manifest, told where they are written: each place with its
-//! line, its column, and what is shown of that line round it.
+//! line, its column, and what is shown of that line round it; what a check counts and how it ends; and which license texts
+//! the expressions of a folder need.
 //!
 //! ```rust
 //! // crates/check_files/src/parts.rt
@@ -7,19 +8,31 @@
 //! ```
 //!
 //! It stands on `license_tags` and `manifests`, which say where the expressions are, and on `spdx_check`, which says what is
-//! wrong with each.
+//! wrong with each; and on `notice_texts`.
 #![tactic(auto)]
 
+pub mod counting;
 mod cursor;
 mod declared;
+pub mod decoding;
 mod findings;
+pub mod needs;
+pub mod owed;
 mod shown;
+pub mod sums;
 mod tags;
+pub mod untagged;
 mod written;
 
+pub use crate::counting::counted;
 pub use crate::cursor::Cursor;
 pub use crate::declared::{CheckedManifest, check_manifest, mode_in, reason_text};
+pub use crate::decoding::{bytes_or, utf16_text, without_mark};
 pub use crate::findings::{Findings, Source};
+pub use crate::needs::needed_by;
+pub use crate::owed::{Whole, owed_by, put_wholes, without_license};
 pub use crate::shown::Shown;
+pub use crate::sums::{Sums, summary_of};
 pub use crate::tags::{check_tags, is_binary};
+pub use crate::untagged::{is_text, needs_none};
 pub use crate::written::slice_in;

@@ -13,7 +13,7 @@ use Rattle.package_choices.specs.Choice as choice
 use Rattle.package_choices.specs.Choice.{Asked, Offered, Told, asked, asked_all, choices_by, joint_of, members_of, own_in, suffices_for, together}
 use Rattle.package_choices.specs.Passes.{EachPasses, IsTogether}
 use Rattle.package_choices.specs.Texts.{judged_offer}
-use Rattle.package_choices.specs.declared.texts.RequirementTexts.{RequirementTexts}
+use Rattle.spdx_licensee.specs.declared.texts.RequirementTexts.{RequirementTexts}
 use Rattle.choice_program.specs.Named.{Named, named, shown, shown_all, shown_in}
 use Rattle.choice_program.specs.declared.choosing.ChoiceTrouble.TheVariants as trouble
 use Rattle.choice_program.specs.declared.unchosen.Why.TheVariants as why

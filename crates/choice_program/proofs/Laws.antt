@@ -37,7 +37,7 @@ use Rattle.choice_program.specs.declared.choosing.Chosen.{Chosen}
 use Rattle.choice_program.specs.declared.unchosen.Unchosen.{Unchosen}
 use Rattle.choice_program.specs.declared.unchosen.Why.{Why}
 use Rattle.choice_program.specs.declared.unchosen.Why.TheVariants as why
-use Rattle.told_at_once.specs.Each.{AreHad, none, had, lacked}
+use Rattle.package_items.specs.Each.{AreHad, none, had, lacked}
 use Rattle.choice_program.specs.Agreed as agreed
 use Rattle.choice_program.specs.Agreed.{Agrees, AllPass, AreAccepted, IsAccepted, IsLeft, IsToldOf}
 use Rattle.choice_program.specs.Allowed.{IsChosenByPolicy, IsNoChoiceByPolicy}

@@ -20,9 +20,9 @@ use Rattle.gate_program.specs.Asked.{lent}
 use Rattle.choice_program.specs.declared.unchosen.Unchosen.{Unchosen}
 use Rattle.choice_program.specs.declared.unchosen.Why.{Why}
 use Rattle.choice_program.specs.declared.unchosen.Why.TheVariants as why
-use Rattle.told_at_once.specs.Each.{AreHad, none}
+use Rattle.package_items.specs.Each.{AreHad, none}
 use Rattle.choice_program.specs.Unchosen.{told_name}
-use Rattle.told_at_once.proofs.Each.{more_had, more_lacked, next}
+use Rattle.package_items.proofs.Each.{more_had, more_lacked, next}
 use Rattle.choice_program.specs.declared.allowed.AllOwn.{AllOwn}
 use Rattle.choice_program.specs.declared.picked.Picked.{Picked}
 use Rattle.choice_program.specs.Judged.{AreOwn, AreOwnOn, HasNoOwn, HasNoOwnBy, HasOwn, HasOwnBy, IsJudgedOf, IsJudgementOf, IsNotPicked, IsOneOwn, IsOwnBy, IsPickOf, IsReportOn, IsUnreadableBy, IsWhyNot, IsWhyNotBy, judgement_at, tables_for}

@@ -19,15 +19,15 @@ use Rattle.choice_program.specs.declared.accepted.Stated.{Stated}
 use Rattle.choice_program.specs.declared.unchosen.Unchosen.{Unchosen}
 use Rattle.choice_program.specs.Among.{error_of, trees_in, AreOwn, AreStated, HasNoOwn, HasOwn, IsExpressionOf, IsMeant, IsUnread, Meant, meant_of}
 use Rattle.std.proofs.lemmas.Bool.{false≢true, true≢false}
-use Rattle.spdx_error.specs.declared.minimize_error.MinimizeError.{MinimizeError}
-use Rattle.spdx_error.specs.declared.minimize_error.MinimizeError.TheVariants as error
+use Rattle.spdx_minimize.specs.declared.minimize_error.MinimizeError.{MinimizeError}
+use Rattle.spdx_minimize.specs.declared.minimize_error.MinimizeError.TheVariants as error
 use Rattle.spdx_minimize.specs.Choice.{Choice, chosen, choice_of}
 use Rattle.spdx_minimize.specs.MinimizeFaults.{refused_choice}
 use Rattle.package_choices.specs.declared.accepted.unmet.Unmet.{Unmet}
 use Rattle.package_choices.specs.declared.accepted.unmet.Unmet.TheVariants.{Expression, Together}
 use Rattle.package_choices.specs.Refusals.{TellsJoint}
-use Rattle.told_at_once.specs.Each.{AreHad, none}
-use Rattle.told_at_once.proofs.Each.{more_had, more_lacked}
+use Rattle.package_items.specs.Each.{AreHad, none}
+use Rattle.package_items.proofs.Each.{more_had, more_lacked}
 
 pub one_stated : (c : Rows) (m : ParseMode) (p : Package) (x : Stated) (old new : AllStated) (ps : List Package) → AreStated c m ps old → meant_of x ≡ record { of = p; tree = x.expression.tree } → IsExpressionOf c m p x.expression.tree
     → new.stated.items ≡ old.stated.items ++ x ∷ [] → new.lacking.items ≡ old.lacking.items → AreStated c m (ps ++ p ∷ []) new

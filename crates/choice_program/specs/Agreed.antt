@@ -19,7 +19,7 @@ use Rattle.choice_program.specs.declared.choosing.ChoiceTrouble.{ChoiceTrouble}
 use Rattle.choice_program.specs.declared.choosing.ChoiceTrouble.TheVariants as trouble
 use Rattle.choice_program.specs.declared.choosing.Chosen.{Chosen}
 use Rattle.choice_program.specs.declared.unchosen.Unchosen.{Unchosen}
-use Rattle.told_at_once.specs.Each.{AreHad}
+use Rattle.package_items.specs.Each.{AreHad}
 use Rattle.choice_program.specs.Named.{named, shown_all}
 use Rattle.choice_program.specs.Unchosen.{told_name}
 use Rattle.choice_program.specs.Judged.{tables_for, text_for}

@@ -9,7 +9,7 @@ use Rattle.choice_program.specs.declared.choosing.ChoiceTrouble.TheVariants as t
 use Rattle.choice_program.specs.declared.choosing.Chosen.{Chosen}
 use Rattle.choice_program.specs.declared.unchosen.Unchosen.{Unchosen}
 use Rattle.choice_program.specs.declared.unchosen.Why.{Why}
-use Rattle.told_at_once.specs.Each.{AreHad}
+use Rattle.package_items.specs.Each.{AreHad}
 use Rattle.spdx_gate.specs.declared.report.Report.{Report}
 use Rattle.choice_program.specs.Judged.{HasNoOwn, HasOwn, IsReportOn}
 use Rattle.choice_program.specs.Picked.{ArePicked, IsTooMany, Pick}

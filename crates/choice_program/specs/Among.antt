@@ -8,7 +8,7 @@ use Rattle.spdx_lexer.specs.Faults.{fault_of}
 use Rattle.spdx_lexer.specs.Words.{Span}
 use Rattle.spdx_parser.specs.Faults.{HasNoTree, IsFaultOf}
 use Rattle.spdx_parser.specs.Tree.{Tree, leaves}
-use Rattle.spdx_error.specs.declared.minimize_error.MinimizeError.{MinimizeError}
+use Rattle.spdx_minimize.specs.declared.minimize_error.MinimizeError.{MinimizeError}
 use Rattle.spdx_minimize.specs.Choice.{chosen, choice_of}
 use Rattle.spdx_minimize.specs.MinimizeFaults.{refused_choice}
 use Rattle.spdx_gate.specs.Reports.{Means}
@@ -26,7 +26,7 @@ use Rattle.choice_program.specs.declared.choosing.Chosen.{Chosen}
 use Rattle.choice_program.specs.declared.unchosen.Unchosen.{Unchosen}
 use Rattle.choice_program.specs.declared.unchosen.Why.{Why}
 use Rattle.choice_program.specs.declared.unchosen.Why.TheVariants as why
-use Rattle.told_at_once.specs.Each.{AreHad}
+use Rattle.package_items.specs.Each.{AreHad}
 use Rattle.choice_program.specs.Named.{named, shown_all}
 use Rattle.choice_program.specs.Unchosen.{IsUnchosen}
 

@@ -17,7 +17,7 @@ use Rattle.choice_program.specs.declared.unchosen.Unchosen.{Unchosen}
 use Rattle.choice_program.specs.declared.unchosen.Why.{Why}
 use Rattle.choice_program.specs.declared.unchosen.Why.TheVariants as why
 use Rattle.choice_program.specs.Unchosen.{IsUnchosen}
-use Rattle.told_at_once.specs.Each.{AreHad}
+use Rattle.package_items.specs.Each.{AreHad}
 use Rattle.choice_program.specs.declared.allowed.AllOwn.{AllOwn}
 use Rattle.choice_program.specs.Picked.{Pick, pick_of}
 

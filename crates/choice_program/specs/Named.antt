@@ -3,8 +3,8 @@ use Rattle.std.specs.Prelude.{ℕ, List, map, string_bytes}
 use Rattle.std.specs.Global.{Vec}
 use Rattle.spdx_requirement.specs.Items.{Requirement}
 use Rattle.spdx_requirement.specs.Texts.{requirement_text}
-use Rattle.package_choices.specs.declared.texts.RequirementTexts.{RequirementTexts}
-use Rattle.package_choices.specs.Wanted.{wanted}
+use Rattle.spdx_licensee.specs.declared.texts.RequirementTexts.{RequirementTexts}
+use Rattle.spdx_licensee.specs.Wanted.{wanted}
 
 -- a requirement as it is written, and the names of the texts that it wants
 pub record Named : Type 0 where

@@ -34,14 +34,13 @@ ghost use Rattle.spdx_gate.specs.Reports.{Means};
 use crate::choosing::{ChoiceTrouble, Chosen};
 use crate::named::{all_named, named_in};
 use crate::unchosen::{Unchosen, Why, unchosen_for};
-use package_choices::RequirementTexts;
 use package_choices::accepted::{Unmet, joint_choices};
 use package_sources::{License, Package};
 use spdx::Expression;
 use spdx_catalogue::{Catalogue, LicenseReq};
-use spdx_error::MinimizeError;
 use spdx_lexer::token::ParseMode;
-use spdx_licensee::Licensee;
+use spdx_licensee::{Licensee, RequirementTexts};
+use spdx_minimize::MinimizeError;
 use spdx_requirement::failure::Failure;
 use std::alloc::{AllocError, Global};
 

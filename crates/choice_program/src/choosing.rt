@@ -8,11 +8,11 @@ use crate::accepted::{chosen_among, stated_by};
 use crate::licensees::licensees_in;
 use crate::unchosen::{Unchosen, Why};
 use gate_program::PolicyTrouble;
-use package_choices::RequirementTexts;
 use package_sources::Package;
 use spdx_catalogue::Catalogue;
 use spdx_lexer::error::Reason;
 use spdx_lexer::token::ParseMode;
+use spdx_licensee::RequirementTexts;
 use std::alloc::{AllocError, AllocFailed, Global};
 
 /// What packages are used under.

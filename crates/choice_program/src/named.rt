@@ -6,9 +6,9 @@ ghost use Rattle.spdx_parser.specs.Tree.{leaves};
 ghost use Rattle.package_choices.specs.Accepted.{held};
 ghost use Rattle.choice_program.specs.Named.{named, shown, shown_all};
 
-use package_choices::{RequirementTexts, texts_of};
 use spdx::Expression;
 use spdx_catalogue::LicenseReq;
+use spdx_licensee::{RequirementTexts, texts_of};
 use std::alloc::{AllocError, Global};
 
 /// Those of each choice.

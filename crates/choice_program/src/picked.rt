@@ -40,9 +40,9 @@ ghost use Rattle.choice_program.specs.Picked.{
 use crate::choosing::{ChoiceTrouble, Chosen};
 use crate::unchosen::Why;
 use package_choices::allowed::{Joint, Offer, joint_choices};
-use package_choices::{RequirementTexts, texts_of};
 use spdx_catalogue::LicenseReq;
 use spdx_gate::Judged;
+use spdx_licensee::{RequirementTexts, texts_of};
 use spdx_parser::node::ExprNode;
 use spdx_why::Remedy;
 use std::alloc::{AllocError, Global};

@@ -4,8 +4,8 @@ ghost use Rattle.std.specs.Prelude.{◌≡◌, IfOk, string_bytes};
 ghost use Rattle.choice_program.specs.Unchosen.{told_name};
 
 use package_sources::Package;
-use spdx_error::MinimizeError;
 use spdx_lexer::error::Reason;
+use spdx_minimize::MinimizeError;
 use std::alloc::{AllocError, Global};
 
 /// Why a package, or all of them together, have no choice.

@@ -3,7 +3,7 @@ use Rattle.std.specs.Prelude.{◌≡◌, ℕ, List, Ok, Err, map, string_bytes}
 use Rattle.std.specs.List.{AllZip}
 use Rattle.shelves.specs.Shelf.{Shelved, to_read}
 use Rattle.spdx_requirement.specs.Rows.{Rows}
-use Rattle.spdx_alternatives.specs.Heirs.{Heir, IsHeirOf, Restated}
+use Rattle.spdx_licensee.specs.Heirs.{Heir, IsHeirOf, Restated}
 use Rattle.spdx_list.specs.Files.{ExtraRows, InsteadRow, extras_in}
 use Rattle.spdx_policy.specs.Meant.{IsPolicyOf}
 use Rattle.spdx_policy.specs.Refused.{IsRefusedText}

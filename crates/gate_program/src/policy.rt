@@ -1,7 +1,7 @@
 // The policy that packages are judged by, over a shelf.
 
 ghost use Rattle.std.specs.Prelude.{◌≡◌, Ok, IfErr, IfOk, map};
-ghost use Rattle.spdx_alternatives.specs.Shown.{restated};
+ghost use Rattle.spdx_licensee.specs.Shown.{restated};
 ghost use Rattle.spdx_list.specs.Shown.{instead_of, shown_extras};
 ghost use Rattle.spdx_list.specs.Files.{extras_in};
 ghost use Rattle.gate_program.specs.Policy.{
@@ -14,8 +14,8 @@ ghost use Rattle.gate_program.specs.Policy.{
 };
 
 use shelves::Shelf;
-use spdx_alternatives::{Heirs, Restated};
 use spdx_catalogue::Catalogue;
+use spdx_licensee::{Heirs, Restated};
 use spdx_list::{Extras, Instead, ListFault};
 use spdx_policy::{Policy, PolicyFault};
 use spdx_requirement::failure::Failure;

@@ -5,7 +5,7 @@ use Rattle.std.proofs.lemmas.Slice.Zip.{length-zip}
 use Rattle.std.specs.List.{AllZip, zip}
 use Rattle.shelves.specs.Shelf.{Shelved}
 use Rattle.spdx_lexer.specs.declared.token.ParseMode.{ParseMode}
-use Rattle.text_files.specs.declared.trouble.TextTrouble.{TextTrouble}
+use Rattle.owed_texts.specs.declared.trouble.TextTrouble.{TextTrouble}
 use Rattle.spdx_requirement.specs.Rows.{Rows}
 use Rattle.spdx_requirement.specs.Items.{Requirement}
 use Rattle.spdx_parser.specs.Tree.{Tree, leaves}

@@ -8,7 +8,7 @@ use Rattle.spdx_requirement.specs.declared.failure.Failure.TheVariants.{Refused}
 use Rattle.spdx_requirement.specs.Failures.{IfRefused}
 use Rattle.license_notice.specs.declared.packages.Requirement.{Requirement}
 use Rattle.license_notice.specs.Wanted.{texts_of}
-use Rattle.text_files.specs.declared.trouble.TextTrouble.{TextTrouble}
+use Rattle.owed_texts.specs.declared.trouble.TextTrouble.{TextTrouble}
 use Rattle.notice_texts.proofs.Viewed.{view_view}
 use Rattle.notice_told.specs.declared.lacks.GeneralText.{GeneralText}
 use Rattle.notice_told.specs.declared.lacks.Lack.{Lack}

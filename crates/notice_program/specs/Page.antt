@@ -4,10 +4,10 @@ use Rattle.std.specs.Borrow.{Bor}
 use Rattle.std.specs.Global.{Vec}
 use Rattle.std.specs.declared.alloc.Global.{Global}
 use Rattle.shelves.specs.Shelf.{Shelved, to_look}
-use Rattle.text_files.specs.declared.trouble.Obstacle.TheVariants as obstacle
-use Rattle.text_files.specs.declared.trouble.TextTrouble.{TextTrouble}
-use Rattle.text_files.specs.Trouble.{IsOf}
-use Rattle.text_files.specs.Within.{IsFailing}
+use Rattle.owed_texts.specs.declared.trouble.Obstacle.TheVariants as obstacle
+use Rattle.owed_texts.specs.declared.trouble.TextTrouble.{TextTrouble}
+use Rattle.owed_texts.specs.Trouble.{IsOf}
+use Rattle.owed_texts.specs.Within.{IsFailing}
 use Rattle.owed_texts.specs.declared.home.OwnTexts.{OwnTexts}
 use Rattle.owed_texts.specs.declared.home.OwnTexts.TheVariants as own
 use Rattle.owed_texts.specs.declared.own.Reading.{Reading}

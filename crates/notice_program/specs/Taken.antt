@@ -8,7 +8,7 @@ use Rattle.license_notice.specs.Wanted.{texts_of}
 use Rattle.package_items.specs.declared.package.Package.{Package}
 use Rattle.package_sources.specs.declared.form.Form.{Form}
 use Rattle.package_files.specs.declared.listed.Listed.{Listed}
-use Rattle.package_choices.specs.declared.texts.RequirementTexts.{RequirementTexts}
+use Rattle.spdx_licensee.specs.declared.texts.RequirementTexts.{RequirementTexts}
 use Rattle.choice_program.specs.declared.choosing.Chosen.{Chosen}
 use Rattle.choice_program.specs.Named.{Named, shown_all, shown_in}
 use Rattle.choice_program.specs.Unchosen.{told_name}

@@ -5,9 +5,8 @@ ghost use Rattle.notice_program.specs.Ends as spec;
 
 use choice_program::{Accepted, ChoiceTrouble};
 use notice_forms::Format;
-use owed_texts::Folders;
+use owed_texts::{Folders, TextTrouble};
 use package_files::Wanted;
-use text_files::TextTrouble;
 
 /// What is asked of a run.
 #[derive(Clone, Copy)]

@@ -27,13 +27,12 @@ use crate::told::told;
 use choice_program::Chosen;
 use notice_told::{Lack, Look, NoticeFault, Package as Noted, all_lacks, notice_text};
 use owed_texts::{
-    AllOwn, HeldText, HeldTexts, OwnTexts, Placed, ReadFile, Reading, TextFolder, all_own_files,
-    texts_in,
+    AllOwn, HeldText, HeldTexts, Obstacle, OwnTexts, Placed, ReadFile, Reading, TextFolder,
+    TextTrouble, all_own_files, texts_in, trouble_at, unreadable,
 };
 use shelves::Shelf;
 use spdx_requirement::failure::Failure;
 use std::alloc::{AllocError, Global};
-use text_files::{Obstacle, TextTrouble, trouble_at, unreadable};
 
 /// How the run ends over packages with these choices.
 pub(crate) fn chosen_end<S: Shelf>(

@@ -22,9 +22,9 @@ ghost use Rattle.notice_program.specs.Taken.{
 use choice_program::{Chosen, told_name};
 use license_notice::Requirement;
 use owed_texts::Placed;
-use package_choices::RequirementTexts;
 use package_files::Listed;
 use package_sources::Package;
+use spdx_licensee::RequirementTexts;
 use std::alloc::{AllocError, Global};
 
 /// A package, as it is told, and the file that lists it.

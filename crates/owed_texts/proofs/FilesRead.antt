@@ -15,10 +15,10 @@ use Rattle.shelves.specs.Shelf.{Shelved}
 use Rattle.notice_texts.specs.Owed.{Seen}
 use Rattle.owed_texts.specs.declared.home.Home.{Home}
 use Rattle.owed_texts.specs.declared.own.OwnFiles.{OwnFiles}
-use Rattle.text_files.specs.declared.trouble.TextTrouble.{TextTrouble}
-use Rattle.told_at_once.specs.Each.{AreHad, none}
+use Rattle.owed_texts.specs.declared.trouble.TextTrouble.{TextTrouble}
+use Rattle.package_items.specs.Each.{AreHad, none}
 use Rattle.owed_texts.specs.Own.{Owner, AreOwn, lies, lost, AreOwnAmong, AreOwnIn, among, unnamed, AreRead, IsFile, IsNoFile, Read, read_of}
-use Rattle.told_at_once.proofs.Each.{more_had, more_lacked}
+use Rattle.package_items.proofs.Each.{more_had, more_lacked}
 use Rattle.owed_texts.proofs.Zips.{kept_more}
 
 -- a file was read, and kept unless it was empty

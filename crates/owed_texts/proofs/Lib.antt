@@ -1,3 +1,4 @@
+pub mod Spacing
 pub mod Firsts
 pub mod Texts
 pub mod Zips

@@ -8,10 +8,10 @@ use Rattle.shelves.specs.Shelf.{Shelved}
 use Rattle.spdx_requirement.specs.declared.failure.Failure.{Failure}
 use Rattle.spdx_requirement.specs.declared.failure.Failure.TheVariants.{Refused}
 use Rattle.spdx_requirement.specs.Failures.{IfRefused}
-use Rattle.text_files.specs.declared.trouble.TextTrouble.{TextTrouble}
-use Rattle.text_files.specs.Within.{IsUnreadWithin}
-use Rattle.told_at_once.specs.Each.{AreHad, none}
-use Rattle.told_at_once.proofs.Each.{more_had, more_lacked}
+use Rattle.owed_texts.specs.declared.trouble.TextTrouble.{TextTrouble}
+use Rattle.owed_texts.specs.Within.{IsUnreadWithin}
+use Rattle.package_items.specs.Each.{AreHad, none}
+use Rattle.package_items.proofs.Each.{more_had, more_lacked}
 use Rattle.owed_texts.specs.declared.held.HeldTexts.{HeldTexts}
 use Rattle.owed_texts.specs.declared.held.TextFolder.{TextFolder}
 use Rattle.owed_texts.specs.Held.{AreHeld, IsLet, IsNoText, IsText, Text, held_of, inside, path_of}

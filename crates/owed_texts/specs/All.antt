@@ -2,7 +2,7 @@
 use Rattle.std.specs.Prelude.{List, [], ◌∷◌, ◌++◌, map}
 use Rattle.std.specs.Global.{Vec}
 use Rattle.shelves.specs.Shelf.{Shelved}
-use Rattle.text_files.specs.declared.trouble.TextTrouble.{TextTrouble}
+use Rattle.owed_texts.specs.declared.trouble.TextTrouble.{TextTrouble}
 use Rattle.owed_texts.specs.declared.all.AllOwn.{AllOwn}
 use Rattle.owed_texts.specs.declared.own.OwnFiles.{OwnFiles}
 use Rattle.owed_texts.specs.declared.own.Reading.{Reading}

@@ -5,13 +5,13 @@ use Rattle.std.specs.List.{list_any}
 use Rattle.std.specs.Option.{option_to_list}
 use Rattle.std.specs.Path.{path_join}
 use Rattle.shelves.specs.Shelf.{Shelved}
-use Rattle.told_at_once.specs.Each.{AreHad}
-use Rattle.text_files.specs.declared.trouble.Obstacle.{Obstacle}
-use Rattle.text_files.specs.declared.trouble.Obstacle.TheVariants as obstacle
-use Rattle.text_files.specs.declared.trouble.TextTrouble.{TextTrouble}
-use Rattle.text_files.specs.Plain.{shown}
-use Rattle.text_files.specs.Trouble.{IsOf, is_not_found}
-use Rattle.text_files.specs.Within.{IsReadWithin, IsUnreadWithin}
+use Rattle.package_items.specs.Each.{AreHad}
+use Rattle.owed_texts.specs.declared.trouble.Obstacle.{Obstacle}
+use Rattle.owed_texts.specs.declared.trouble.Obstacle.TheVariants as obstacle
+use Rattle.owed_texts.specs.declared.trouble.TextTrouble.{TextTrouble}
+use Rattle.owed_texts.specs.Plain.{shown}
+use Rattle.owed_texts.specs.Trouble.{IsOf, is_not_found}
+use Rattle.owed_texts.specs.Within.{IsReadWithin, IsUnreadWithin}
 use Rattle.notice_told.specs.declared.lacks.Lack.{Lack}
 use Rattle.owed_texts.specs.declared.held.HeldText.{HeldText}
 use Rattle.owed_texts.specs.declared.held.HeldTexts.{HeldTexts}

@@ -9,10 +9,10 @@ use Rattle.owed_texts.specs.declared.home.Folders.{Folders}
 use Rattle.owed_texts.specs.declared.home.Home.{Home}
 use Rattle.owed_texts.specs.declared.home.OwnTexts.{OwnTexts}
 use Rattle.owed_texts.specs.declared.home.OwnTexts.TheVariants as own
-use Rattle.text_files.specs.declared.trouble.Obstacle.TheVariants as obstacle
-use Rattle.text_files.specs.declared.trouble.TextTrouble.{TextTrouble}
-use Rattle.text_files.specs.Trouble.{IsOf, is_not_found}
-use Rattle.text_files.specs.Within.{IsFailing, IsOutside, IsWithin}
+use Rattle.owed_texts.specs.declared.trouble.Obstacle.TheVariants as obstacle
+use Rattle.owed_texts.specs.declared.trouble.TextTrouble.{TextTrouble}
+use Rattle.owed_texts.specs.Trouble.{IsOf, is_not_found}
+use Rattle.owed_texts.specs.Within.{IsFailing, IsOutside, IsWithin}
 
 -- a folder is there, or is none: nothing is there, or something else
 abbrev pub IsFolderAt : Shelved → List ℕ → Bool → Type 0

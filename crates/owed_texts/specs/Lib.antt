@@ -1,3 +1,6 @@
+pub mod Trouble
+pub mod Within
+pub mod Plain
 pub mod Held
 pub mod Home
 pub mod LicenseFiles

@@ -6,10 +6,10 @@ use Rattle.std.specs.declared.alloc.Global.{Global}
 use Rattle.shelves.specs.Shelf.{Named, Shelved, to_list}
 use Rattle.shelves.specs.declared.shelf.Kind.{Kind}
 use Rattle.shelves.specs.declared.shelf.Kind.TheVariants as kind
-use Rattle.text_files.specs.declared.trouble.Obstacle.TheVariants as obstacle
-use Rattle.text_files.specs.declared.trouble.TextTrouble.{TextTrouble}
-use Rattle.text_files.specs.Trouble.{IsOf}
-use Rattle.text_files.specs.Within.{IsFailing}
+use Rattle.owed_texts.specs.declared.trouble.Obstacle.TheVariants as obstacle
+use Rattle.owed_texts.specs.declared.trouble.TextTrouble.{TextTrouble}
+use Rattle.owed_texts.specs.Trouble.{IsOf}
+use Rattle.owed_texts.specs.Within.{IsFailing}
 
 abbrev pub name_by : Kind → List ℕ → List (List ℕ)
 name_by kind.File name = name ∷ []

@@ -13,15 +13,15 @@ use Rattle.owed_texts.specs.declared.own.OwnFiles.{OwnFiles}
 use Rattle.owed_texts.specs.declared.own.Placed.{Placed}
 use Rattle.owed_texts.specs.declared.own.Reading.{Reading}
 use Rattle.owed_texts.specs.declared.own.ReadFile.{ReadFile}
-use Rattle.text_files.specs.declared.trouble.Obstacle.TheVariants as obstacle
-use Rattle.text_files.specs.declared.trouble.TextTrouble.{TextTrouble}
-use Rattle.told_at_once.specs.Each.{AreHad}
+use Rattle.owed_texts.specs.declared.trouble.Obstacle.TheVariants as obstacle
+use Rattle.owed_texts.specs.declared.trouble.TextTrouble.{TextTrouble}
+use Rattle.package_items.specs.Each.{AreHad}
 use Rattle.owed_texts.specs.Home.{IsHome, IsNoHome, place_in}
 use Rattle.owed_texts.specs.LicenseFiles.{AreDeclared, form_read, place_of}
 use Rattle.owed_texts.specs.Names.{AreNames, AreNoNames}
-use Rattle.text_files.specs.Plain.{shown}
-use Rattle.text_files.specs.Trouble.{IsOf}
-use Rattle.text_files.specs.Within.{IsReadWithin, IsUnreadWithin}
+use Rattle.owed_texts.specs.Plain.{shown}
+use Rattle.owed_texts.specs.Trouble.{IsOf}
+use Rattle.owed_texts.specs.Within.{IsReadWithin, IsUnreadWithin}
 
 -- ---- whose they are
 

@@ -6,9 +6,9 @@ ghost use Rattle.owed_texts.specs.All.{AreAllOwn, reads_in};
 ghost use Rattle.owed_texts.specs.Own.{owner_of};
 
 use crate::own::{OwnFiles, Placed, ReadFile, Reading, own_files};
+use crate::trouble::TextTrouble;
 use shelves::Shelf;
 use std::alloc::{AllocError, Global};
-use text_files::TextTrouble;
 
 /// The files of all packages, and why others aren't had.
 #[derive(Drop)]

@@ -18,12 +18,14 @@ ghost use Rattle.owed_texts.specs.Held.{
   name_in,
 };
 
+use crate::plain::shown;
+use crate::trouble::{Obstacle, TextTrouble, is_not_found, trouble_at};
+use crate::within::bytes_within;
 use notice_told::Lack;
 use shelves::Shelf;
 use spdx_requirement::failure::Failure;
 use std::alloc::{AllocError, Global};
 use std::path::Path;
-use text_files::{Obstacle, TextTrouble, bytes_within, is_not_found, shown, trouble_at};
 
 /// A licence's text, as its file has it.
 #[derive(Drop)]

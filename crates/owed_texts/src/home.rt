@@ -15,15 +15,16 @@ ghost use Rattle.owed_texts.specs.Home.{
   beside,
   folder_name,
 };
-ghost use Rattle.text_files.specs.Within.{IsFailing};
+ghost use Rattle.owed_texts.specs.Within.{IsFailing};
 
+use crate::trouble::{Obstacle, TextTrouble, is_not_found, trouble_at, unreadable};
+use crate::within::check_inside;
 use notice_texts::path_in;
 use package_sources::Package;
 use shelves::Shelf;
 use spdx_requirement::failure::Failure;
 use std::alloc::{AllocError, Global};
 use std::path::Path;
-use text_files::{Obstacle, TextTrouble, check_inside, is_not_found, trouble_at, unreadable};
 
 /// Which texts of packages' own stand on the page.
 #[derive(Clone, Copy)]

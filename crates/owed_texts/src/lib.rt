@@ -6,7 +6,8 @@
 //! let own = all_own_files(alloc, shelf, reading_of(request), placed)?;
 //! ```
 //!
-//! Nothing is read out of a package's folder. It stands on `text_files`, `notice_texts`, `notice_told` and `package_files`.
+//! Nothing is read out of a package's folder: `within` reads those files alone that stand within a folder, links followed, and
+//! `plain` says how a text is shown. It stands on `shelves`, `notice_texts`, `notice_told` and `package_files`.
 #![tactic(auto)]
 
 pub mod all;
@@ -15,8 +16,14 @@ pub mod home;
 mod license_files;
 mod names;
 pub mod own;
+pub mod plain;
+pub mod trouble;
+pub mod within;
 
 pub use crate::all::{AllOwn, all_own_files};
 pub use crate::held::{HeldText, HeldTexts, TextFolder, texts_in};
 pub use crate::home::{Folders, OwnTexts};
 pub use crate::own::{OwnFiles, Placed, ReadFile, Reading, own_files};
+pub use crate::plain::shown;
+pub use crate::trouble::{Obstacle, TextTrouble, is_not_found, trouble_at, unreadable};
+pub use crate::within::{bytes_within, check_inside};

@@ -6,10 +6,10 @@ ghost use Rattle.spdx_requirement.specs.Failures.{IfRefused};
 ghost use Rattle.owed_texts.specs.Names as spec;
 ghost use Rattle.owed_texts.specs.Names.{AreNames, AreNoNames, AreSorted, name_of, names_in};
 
+use crate::trouble::{Obstacle, TextTrouble, trouble_at, unreadable};
 use shelves::{Entry, Kind, Shelf};
 use spdx_requirement::failure::Failure;
 use std::alloc::{AllocError, Global};
-use text_files::{Obstacle, TextTrouble, trouble_at, unreadable};
 
 /// The names of what is in the folder but folders, ascending. A trouble is told by the name.
 pub(crate) fn names_in<S: Shelf>(

@@ -21,6 +21,9 @@ ghost use Rattle.owed_texts.specs.Own.{
 use crate::home::{Folders, Home, home_of};
 use crate::license_files::{declared_in, place_of};
 use crate::names::names_in;
+use crate::plain::shown;
+use crate::trouble::{Obstacle, TextTrouble, trouble_at};
+use crate::within::bytes_within;
 use license_notice::Requirement;
 use notice_texts::{File, path_in};
 use notice_told::owed_of;
@@ -29,7 +32,6 @@ use package_sources::Package;
 use shelves::Shelf;
 use spdx_requirement::failure::Failure;
 use std::alloc::{AllocError, Global};
-use text_files::{Obstacle, TextTrouble, bytes_within, shown, trouble_at};
 
 /// A file of a package, as it was read.
 #[derive(Drop)]

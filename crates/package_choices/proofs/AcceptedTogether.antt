@@ -8,8 +8,8 @@ use Rattle.spdx_requirement.specs.declared.requirement.LicenseReq.{LicenseReq}
 use Rattle.spdx_requirement.specs.Failures.{IfRefused}
 use Rattle.spdx_requirement.specs.Items.{Requirement}
 use Rattle.spdx_parser.specs.Tree.{Tree}
-use Rattle.spdx_error.specs.declared.minimize_error.MinimizeError.{MinimizeError}
-use Rattle.spdx_error.specs.declared.minimize_error.MinimizeError.TheVariants.{TooManyRequirements, RequirementsUnmet}
+use Rattle.spdx_minimize.specs.declared.minimize_error.MinimizeError.{MinimizeError}
+use Rattle.spdx_minimize.specs.declared.minimize_error.MinimizeError.TheVariants.{TooManyRequirements, RequirementsUnmet}
 use Rattle.spdx_minimize.specs.Choice.{Choice, chosen, too_many, unmet, choice_of}
 use Rattle.spdx_minimize.specs.MinimizeFaults.{refused_choice}
 use Rattle.package_choices.specs.declared.accepted.unmet.Unmet.{Unmet}

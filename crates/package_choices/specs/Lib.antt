@@ -1,6 +1,5 @@
 pub mod Accepted
 pub mod Refusals
-pub mod Wanted
 pub mod Choice
 pub mod GrowthLaws
 pub mod JudgeModel

@@ -2,7 +2,7 @@
 use Rattle.std.specs.Prelude.{◌≡◌, ℕ, List, Some, map, take, slice_get}
 use Rattle.spdx_requirement.specs.Items.{Requirement}
 use Rattle.spdx_parser.specs.Tree.{Tree}
-use Rattle.spdx_error.specs.declared.minimize_error.MinimizeError.{MinimizeError}
+use Rattle.spdx_minimize.specs.declared.minimize_error.MinimizeError.{MinimizeError}
 use Rattle.spdx_minimize.specs.Choice.{Choice, chosen, choice_of}
 use Rattle.spdx_minimize.specs.MinimizeFaults.{refused_choice}
 use Rattle.package_choices.specs.declared.accepted.unmet.Unmet.{Unmet}

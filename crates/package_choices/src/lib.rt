@@ -1,5 +1,5 @@
 //! What packages are used under: by the licences that somebody accepts, or by a policy; each by its own choice, or all by
-//! one; and which texts a requirement of a choice needs.
+//! one.
 //!
 //! ```rust
 //! // crates/choice_program/src/accepted.rt
@@ -11,6 +11,3 @@
 
 pub mod accepted;
 pub mod allowed;
-mod texts;
-
-pub use crate::texts::{RequirementTexts, texts_of};

@@ -8,7 +8,7 @@ use Rattle.std.specs.List.Sorted.{IsStrictlySortedBy}
 use Rattle.std.specs.Option.{option_copied}
 use Rattle.check_files.specs.Told.{Account, Hears, Tells, each}
 use Rattle.check_files.proofs.Doing.{hears_nil, hears_trans}
-use Rattle.document_references.specs.Documents.{Shared, text_cmp}
+use Rattle.package_files.specs.Documents.{Shared, text_cmp}
 use Rattle.gate_program.specs.declared.run.End.{End}
 use Rattle.gate_program.specs.declared.run.End.TheVariants as end
 use Rattle.gate_program.specs.declared.run.Run.{Run}

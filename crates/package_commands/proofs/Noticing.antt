@@ -21,7 +21,7 @@ use Rattle.shelves.specs.Shelf.{Shelved}
 use Rattle.spdx_requirement.specs.Rows.{Rows}
 use Rattle.spdx_troubles.specs.Causes.{file_trouble}
 use Rattle.spdx_troubles.specs.declared.trouble.Trouble.{Trouble}
-use Rattle.text_files.specs.declared.trouble.TextTrouble.{TextTrouble}
+use Rattle.owed_texts.specs.declared.trouble.TextTrouble.{TextTrouble}
 use Rattle.package_commands.specs.Gate.{AreBothTold}
 use Rattle.package_commands.specs.Notice.{IsEndSaid, IsEndTold, IsNoPage, IsNoticeEnd, IsNoticeTold, IsPage, bytes_in, missing_trouble, totals_of}
 use Rattle.package_commands.specs.Texts.{AreTextsTold, IsFolderTold, IsNotUtf8}

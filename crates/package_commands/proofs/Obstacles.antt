@@ -8,8 +8,8 @@ use Rattle.check_files.proofs.Doing.{hears_nil, hears_trans}
 use Rattle.spdx_commands.proofs.Steps.{zip_push}
 use Rattle.spdx_troubles.specs.declared.trouble.Trouble.{Trouble}
 use Rattle.spdx_troubles.specs.declared.trouble.Trouble.TheVariants as trouble
-use Rattle.text_files.specs.declared.trouble.Obstacle.{Obstacle}
-use Rattle.text_files.specs.declared.trouble.TextTrouble.{TextTrouble}
+use Rattle.owed_texts.specs.declared.trouble.Obstacle.{Obstacle}
+use Rattle.owed_texts.specs.declared.trouble.TextTrouble.{TextTrouble}
 use Rattle.package_commands.specs.Texts.{AreTextsTold, IsFolderTold, IsNotUtf8, IsRefused, IsTextTold, IsUnreadAs, IsUnreadText, is_refused, not_utf8}
 use Rattle.package_commands.specs.Unchosen.{IsOnly}
 use Rattle.package_commands.proofs.Choosing.{only_told}

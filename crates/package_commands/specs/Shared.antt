@@ -3,7 +3,7 @@ use Rattle.std.specs.Prelude.{◌≡◌, ◌↔◌, ℕ, ◌-◌, ◌||◌, Bool
 use Rattle.std.specs.declared.alloc.Global.{Global}
 use Rattle.std.specs.Fmt.{decimal}
 use Rattle.std.specs.List.Sorted.{IsStrictlySortedBy}
-use Rattle.document_references.specs.Documents.{Shared, text_cmp}
+use Rattle.package_files.specs.Documents.{Shared, text_cmp}
 use Rattle.package_items.specs.Rows.{PackageRow, row_of}
 use Rattle.package_files.specs.declared.listed.Listed.{Listed}
 use Rattle.package_files.specs.declared.listed.Source.{Source}

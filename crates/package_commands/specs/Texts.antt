@@ -9,9 +9,9 @@ use Rattle.std.specs.declared.io.ErrorKind.TheVariants as kind
 use Rattle.spdx_troubles.specs.Causes.{of_path}
 use Rattle.spdx_troubles.specs.declared.trouble.Trouble.{Trouble}
 use Rattle.spdx_troubles.specs.declared.trouble.Trouble.TheVariants as trouble
-use Rattle.text_files.specs.declared.trouble.Obstacle.{Obstacle}
-use Rattle.text_files.specs.declared.trouble.Obstacle.TheVariants as obstacle
-use Rattle.text_files.specs.declared.trouble.TextTrouble.{TextTrouble}
+use Rattle.owed_texts.specs.declared.trouble.Obstacle.{Obstacle}
+use Rattle.owed_texts.specs.declared.trouble.Obstacle.TheVariants as obstacle
+use Rattle.owed_texts.specs.declared.trouble.TextTrouble.{TextTrouble}
 
 -- ---- a text
 

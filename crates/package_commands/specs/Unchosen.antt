@@ -7,7 +7,7 @@ use Rattle.choice_program.specs.declared.choosing.ChoiceTrouble.TheVariants as c
 use Rattle.choice_program.specs.declared.unchosen.Unchosen.{Unchosen}
 use Rattle.choice_program.specs.declared.unchosen.Why.{Why}
 use Rattle.choice_program.specs.declared.unchosen.Why.TheVariants as why
-use Rattle.spdx_error.specs.MinimizeTexts.{minimize_text}
+use Rattle.spdx_minimize.specs.MinimizeTexts.{minimize_text}
 use Rattle.spdx_lexer.specs.Faults.{fault_of, fault_text}
 use Rattle.spdx_lexer.specs.declared.error.Reason.{Reason}
 use Rattle.spdx_troubles.specs.Causes.{policy_trouble}

@@ -6,7 +6,7 @@
 //! ```
 //!
 //! Here are `gate`, `diff` and `notice`. It stands on `gate_program`, `changes_program`, `notice_program`,
-//! `document_references` and `spdx_commands`.
+//! `package_files` and `spdx_commands`.
 #![tactic(auto)]
 
 mod differences;

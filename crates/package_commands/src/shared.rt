@@ -2,13 +2,12 @@
 
 ghost use Rattle.std.specs.Prelude.{◌≡◌, ◌∷◌, ◌++◌, [], IfOk, OnOk, map, string_bytes};
 ghost use Rattle.check_files.specs.Told.{Tells};
-ghost use Rattle.document_references.specs.Documents.{documents_of};
+ghost use Rattle.package_files.specs.Documents.{documents_of};
 ghost use Rattle.owed_texts.specs.Held.{name_in};
 ghost use Rattle.package_commands.specs.Shared as spec;
 ghost use Rattle.package_commands.specs.Shared.{AreSharedTold, AreToldAs, is_document};
 
-use document_references::shared_references;
-use package_files::{Listed, Source};
+use package_files::{Listed, Source, shared_references};
 use package_sources::{Form, Package};
 use spdx_commands::Listener;
 use spdx_troubles::Trouble;

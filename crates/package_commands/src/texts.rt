@@ -15,11 +15,11 @@ ghost use Rattle.package_commands.specs.Texts.{
 };
 ghost use Rattle.package_commands.specs.Unchosen.{IsOnly};
 
+use owed_texts::{Obstacle, TextTrouble};
 use spdx_commands::Listener;
 use spdx_troubles::Trouble;
 use std::alloc::{AllocError, Global};
 use std::io::{self, ErrorKind};
-use text_files::{Obstacle, TextTrouble};
 
 /// Tells that the folder of all packages isn't there.
 ///

@@ -1,3 +1,6 @@
+pub mod Names
+pub mod Noted
+pub mod Ordered
 pub mod Causes
 pub mod Parts
 pub mod Each

@@ -2,7 +2,8 @@
 //! JSON, each at its place.
 //!
 //! It knows nothing of the language of licenses: the text of one is carried on as it stands, or is made of several by
-//! the words `OR` and `AND`.
+//! the words `OR` and `AND`. `specs/Each` says what it is that all faults of some items are told at once: of each item a value
+//! was had, or it has a fault, and both stand in the order of the items.
 #![tactic(auto)]
 
 pub mod error;

@@ -1,3 +1,4 @@
+pub mod Opened
 pub mod Shelf
 pub mod Variables
 pub mod Held

@@ -49,8 +49,8 @@ pub use Rattle.spdx_parser.specs.Nodes
 pub use Rattle.spdx_parser.specs.Meaning as ParserMeaning
 pub use Rattle.spdx_parser.specs.Spans
 pub use Rattle.spdx_parser.specs.Tree
-pub use Rattle.spdx_error.specs.Errors
-pub use Rattle.spdx_error.specs.MinimizeTexts
+pub use Rattle.spdx_minimize.specs.Errors
+pub use Rattle.spdx_minimize.specs.MinimizeTexts
 pub use Rattle.spdx_evaluation.specs.ByRequirement
 pub use Rattle.spdx_evaluation.specs.Calls
 pub use Rattle.spdx_evaluation.specs.Postfix

@@ -1,5 +1,5 @@
 //! Why a call gives nothing.
 
 pub use spdx_catalogue::{CatalogueError, Failure, Field, List, ReadFault};
-pub use spdx_error::{Error, MinimizeError};
 pub use spdx_lexer::error::{ParseError, Reason};
+pub use spdx_minimize::{Error, MinimizeError};

@@ -28,8 +28,7 @@ mod texts;
 pub use iterators::{Nodes, Requirements};
 pub use judge::ExpressionJudge;
 pub use minimize::minimized_for_all;
-pub use spdx_error::MinimizeError;
-pub use spdx_minimize::laws;
+pub use spdx_minimize::{MinimizeError, laws};
 // The default of a node fills the unused places of a `SmallVec`; it means nothing, and no call gives it.
 pub use spdx_parser::node::{ExprNode, ExpressionReq, Operator};
 

@@ -1,3 +1,6 @@
+pub mod Held
+pub mod Owned
+pub mod Lists
 pub mod Reports
 pub mod Modes
 pub mod Calls

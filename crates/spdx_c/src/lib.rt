@@ -4,23 +4,28 @@
 //! `c/spdx.c` stands before these exports, turns null pointers away, and lends a copy of the handle to each call
 //! that reads its list. `c/spdx.h` says what each call does; `samples/` calls them.
 //!
-//! It stands on `spdx_calls` and `spdx_handle`.
+//! `handle` is a list that was read, behind a pointer, so that C can keep it between its calls. It stands on `spdx_calls`.
 #![tactic(auto)]
 
 ghost use Rattle.std.specs.Prelude.{◌≡◌, ◌≢◌, None};
-ghost use Rattle.spdx_handle.specs.Lists.{rows_of, rows_lent};
+ghost use Rattle.spdx_c.specs.Lists.{rows_of, rows_lent};
 ghost use Rattle.spdx_c.specs.Modes.{IsOpening, IsClosing};
 ghost use Rattle.spdx_c.specs.Calls.{IsReasonCall, IsCheck, IsCanonicalCall, IsFixCall, IsNormalCall, IsEvaluation, IsBitsCall, IsRequirementsCall, IsChoiceCall, IsLinesCall, IsSimplifyCall, IsCompareCall, IsListedCall};
 
+pub mod handle;
+mod loan;
 mod opening;
+mod parts;
 pub mod report;
+mod slot;
 
+pub use crate::handle::{ListHandle, ListLoan};
+pub use crate::loan::Seen;
 use crate::opening::{line_mode_of, mode_of, read};
 use crate::report::{
     Report, of_answered, of_check, of_fix, of_listing, of_put, of_relation, of_truth, plain,
 };
 use spdx_calls::buffer::put_text;
-use spdx_handle::{ListHandle, ListLoan};
 use std::alloc::Global;
 
 /// Puts what the reason of this number says into the buffer.

@@ -26,15 +26,15 @@ use Rattle.spdx_canonical.specs.Law.{tree_by, only_license}
 use Rattle.spdx_canonical.proofs.Written.{suffixed}
 use Rattle.spdx_canonical.proofs.Laws.{laws}
 use Rattle.spdx_catalogue.specs.RowRules.{is_well_formed}
-use Rattle.spdx_alternatives.specs.Heirs.{Heir}
-use Rattle.spdx_alternatives.specs.Sense as sensed
-use Rattle.spdx_alternatives.proofs.Unique.{oks_once}
+use Rattle.spdx_licensee.specs.Heirs.{Heir}
+use Rattle.spdx_licensee.specs.Sense as sensed
+use Rattle.spdx_licensee.proofs.Unique.{oks_once}
 use Rattle.spdx_policy.specs.declared.decision.Decision.{Decision}
 use Rattle.spdx_policy.specs.declared.decision.Decision.TheVariants as decision
 use Rattle.spdx_policy.specs.declared.decision.Entry.{Entry}
 use Rattle.spdx_policy.specs.declared.decision.Entry.TheVariants as entry
 use Rattle.spdx_policy.specs.Decisions.{or_else, frees, flag_frees, exempted_by, allowed_among, denied_among, decision_among, decision_of, ways_of}
-use Rattle.spdx_alternatives.specs.Ways.{ways}
+use Rattle.spdx_licensee.specs.Ways.{ways}
 use Rattle.spdx_policy.specs.Rules.{Rules, allowed_by}
 use Rattle.spdx_gate.specs.declared.judgement.Outcome.{Outcome}
 use Rattle.spdx_gate.specs.declared.judgement.Outcome.TheVariants as outcome

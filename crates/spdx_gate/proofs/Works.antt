@@ -12,9 +12,9 @@ use Rattle.spdx_parser.specs.Grammar.{IsTheTree}
 use Rattle.spdx_evaluation.specs.Truth.{holds, truth_of}
 use Rattle.selections.specs.Selection.{IsWithin}
 use Rattle.spdx_minimize.specs.GrowthLaws.{truth_grows}
-use Rattle.spdx_alternatives.specs.Heirs.{Heir}
-use Rattle.spdx_alternatives.specs.Sense.{sense}
-use Rattle.spdx_alternatives.proofs.Unique.{names_once, oks_once}
+use Rattle.spdx_licensee.specs.Heirs.{Heir}
+use Rattle.spdx_licensee.specs.Sense.{sense}
+use Rattle.spdx_licensee.proofs.Unique.{names_once, oks_once}
 use Rattle.spdx_policy.specs.declared.decision.Decision.{Decision}
 use Rattle.spdx_policy.specs.declared.decision.Decision.TheVariants as decision
 use Rattle.spdx_policy.specs.Decisions.{frees, ways_of, decision_of, is_allowed}

@@ -1,3 +1,5 @@
+pub mod Unique
+pub mod Zipped
 pub mod Marks
 pub mod Digits
 pub mod Padding

@@ -1,5 +1,11 @@
+pub mod Heirs
+pub mod Shown
+pub mod HeirsModel
+pub mod Sense
+pub mod Ways
 pub mod Version
 pub mod Families
 pub mod Satisfies
 pub mod LicenseeText
 pub mod Answers
+pub mod Wanted

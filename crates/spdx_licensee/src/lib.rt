@@ -1,4 +1,6 @@
-//! Licensees: the licences that one holds, and which requirements they satisfy.
+//! Licensees: the licences that one holds, and which requirements they satisfy; and the licences under which a requirement
+//! may be had: what stands in the place of deprecated names, what a requirement means, which listed licences serve it, and
+//! the names of the texts that it wants.
 //!
 //! ```rust
 //! // crates/spdx_uses/src/gate.rt
@@ -9,8 +11,16 @@
 #![tactic(auto)]
 
 mod equality;
+pub mod heirs;
 pub mod licensee;
+mod meaning;
 mod reading;
+mod serving;
+mod texts;
 mod version;
 
+pub use crate::heirs::{Heirs, Restated};
 pub use crate::licensee::Licensee;
+pub use crate::meaning::sense;
+pub use crate::serving::{stands_for, stands_for_license, ways};
+pub use crate::texts::{RequirementTexts, texts_of};

@@ -1,3 +1,5 @@
+pub mod MinimizeTexts
+pub mod Errors
 pub mod Choice
 pub mod GrowthLaws
 pub mod Laws

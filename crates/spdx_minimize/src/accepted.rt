@@ -14,10 +14,10 @@ ghost use Rattle.std.specs.List.{flat_map};
 
 use crate::choice::choice_among_members;
 use crate::found::FoundPlaces;
+use crate::minimize_error::MinimizeError;
 use crate::nodes::TreeNodes;
 use crate::useful::{is_among, satisfies};
 use spdx_catalogue::{Failure, LicenseReq};
-use spdx_error::MinimizeError;
 use spdx_licensee::Licensee;
 use spdx_parser::node::ExprNode;
 use std::alloc::{AllocError, Global};

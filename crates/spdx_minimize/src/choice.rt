@@ -10,12 +10,12 @@ ghost use Rattle.spdx_minimize.specs.Trees.{trees_in};
 
 use crate::first::choice_for_one;
 use crate::held::HeldJudge;
+use crate::minimize_error::MinimizeError;
 use crate::nodes::TreeNodes;
 use crate::useful::useful_members;
 use selections::least_selection;
 use smallvec::SmallVec;
 use spdx_catalogue::{Failure, LicenseReq};
-use spdx_error::MinimizeError;
 use spdx_licensee::Licensee;
 use spdx_parser::node::ExprNode;
 use std::alloc::{AllocError, Global};

@@ -8,9 +8,9 @@ ghost use Rattle.spdx_licensee.specs.Satisfies as spec;
 ghost use Rattle.spdx_minimize.specs.Choice.{useful, chosen, choice_of, IsLeastChoice};
 ghost use Rattle.spdx_minimize.specs.MinimizeFaults.{refused_choice};
 
+use crate::minimize_error::MinimizeError;
 use crate::useful::{is_among, satisfies};
 use spdx_catalogue::{Failure, LicenseReq};
-use spdx_error::MinimizeError;
 use spdx_licensee::Licensee;
 use std::alloc::Global;
 

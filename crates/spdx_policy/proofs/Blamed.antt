@@ -9,7 +9,7 @@ use Rattle.spdx_policy.specs.declared.reading.draft.ExceptionDraft.{ExceptionDra
 use Rattle.spdx_policy.specs.declared.reading.draft.ClarifyDraft.{ClarifyDraft}
 use Rattle.spdx_policy.specs.declared.error.Key.TheVariants as key
 use Rattle.spdx_policy.specs.declared.error.Section.TheVariants as section
-use Rattle.spdx_alternatives.specs.Heirs.{Heir}
+use Rattle.spdx_licensee.specs.Heirs.{Heir}
 use Rattle.spdx_policy.specs.declared.error.Key.{Key}
 use Rattle.spdx_policy.specs.declared.error.Section.{Section}
 use Rattle.spdx_policy.specs.Drafts.{ExceptionRow}

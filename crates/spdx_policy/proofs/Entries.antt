@@ -12,7 +12,7 @@ use Rattle.spdx_parser.specs.Tree.{Tree, Leaf, Join, Node, Op, Req, postfix}
 use Rattle.spdx_parser.specs.Grammar.{Derives, IsTheTree}
 use Rattle.spdx_parser.specs.Meaning.{IsParsed}
 use Rattle.spdx_licensee.specs.LicenseeText.{NamesNone}
-use Rattle.spdx_alternatives.proofs.Unique.{oks_once}
+use Rattle.spdx_licensee.proofs.Unique.{oks_once}
 use Rattle.spdx_policy.specs.Meant.{entry_mode, IsOldEntry, licensee, old}
 use Rattle.spdx_policy.specs.Old.{IsOneUnmarked}
 use Rattle.spdx_policy.specs.Blame.{IsNoEntry}

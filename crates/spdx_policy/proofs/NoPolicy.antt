@@ -4,7 +4,7 @@ use Rattle.semver.specs.Parse.{Held, req_of}
 use Rattle.spdx_requirement.specs.Rows.{Rows}
 use Rattle.spdx_requirement.specs.Failures.{IfRefused}
 use Rattle.spdx_requirement.specs.declared.failure.Failure.{Failure}
-use Rattle.spdx_alternatives.specs.Heirs.{Heir}
+use Rattle.spdx_licensee.specs.Heirs.{Heir}
 use Rattle.spdx_policy.specs.declared.error.Place.{Place}
 use Rattle.spdx_policy.specs.declared.error.Section.{Section}
 use Rattle.spdx_policy.specs.declared.error.Key.{Key}

@@ -3,8 +3,8 @@ use Rattle.std.specs.Prelude.{ℕ, Bool, true, false, not, ◌&&◌, ◌||◌, L
 use Rattle.std.specs.List.{position, list_any, list_all}
 use Rattle.spdx_requirement.specs.Flags.{is_fsf_free_libre, is_osi_approved, is_deprecated, is_copyleft}
 use Rattle.spdx_requirement.specs.Items.{LicenseTerm, listed, referred, Addition, excepted, added, Requirement}
-use Rattle.spdx_alternatives.specs.Sense.{sense}
-use Rattle.spdx_alternatives.specs.Ways.{stands_for, ways}
+use Rattle.spdx_licensee.specs.Sense.{sense}
+use Rattle.spdx_licensee.specs.Ways.{stands_for, ways}
 use Rattle.spdx_policy.specs.declared.decision.Flag.{Flag}
 use Rattle.spdx_policy.specs.declared.decision.Flag.TheVariants as flag
 use Rattle.spdx_policy.specs.declared.decision.Entry.{Entry}

@@ -14,8 +14,8 @@ use Rattle.spdx_lexer.specs.Words.{Placed, words}
 use Rattle.spdx_parser.specs.Tree.{Leaf}
 use Rattle.spdx_parser.specs.Grammar.{IsTheTree}
 use Rattle.spdx_licensee.specs.LicenseeText.{Names, NamesNone}
-use Rattle.spdx_alternatives.specs.Heirs.{Heir}
-use Rattle.spdx_alternatives.specs.Sense.{sense}
+use Rattle.spdx_licensee.specs.Heirs.{Heir}
+use Rattle.spdx_licensee.specs.Sense.{sense}
 use Rattle.spdx_policy.specs.declared.decision.Flag.{Flag}
 use Rattle.spdx_policy.specs.declared.decision.Flag.TheVariants as flag
 use Rattle.spdx_policy.specs.declared.error.Key.TheVariants as key

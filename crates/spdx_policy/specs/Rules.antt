@@ -2,7 +2,7 @@
 use Rattle.std.specs.Prelude.{ℕ, Bool, List, [], Option, option_map, slice_get, unwrap_or, codes}
 use Rattle.spdx_requirement.specs.Items.{Requirement}
 use Rattle.spdx_requirement.specs.Rows.{Rows}
-use Rattle.spdx_alternatives.specs.Heirs.{Heir}
+use Rattle.spdx_licensee.specs.Heirs.{Heir}
 use Rattle.spdx_policy.specs.declared.decision.Flag.{Flag}
 use Rattle.spdx_policy.specs.declared.decision.Flag.TheVariants as flag
 use Rattle.spdx_policy.specs.declared.decision.Entry.{Entry}

@@ -18,7 +18,7 @@ impl<'c> Policy<'c> {
     /// What the policy says of a requirement, of a package for which these exceptions hold.
     ///
     /// A requirement stands for the licences under which it may be had: the one that it means
-    /// (`spdx_alternatives::sense`), or with a mark or `-or-later` that one and its listed later
+    /// (`spdx_licensee::sense`), or with a mark or `-or-later` that one and its listed later
     /// versions, each with its addition. An entry stands for such licences too. One of them is denied
     /// by `deny` or `deny-if`; what is denied without an addition is denied with any, but for a pair
     /// that `allow` or an exception that holds names. The requirement is allowed if one of them is

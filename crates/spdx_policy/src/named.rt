@@ -5,7 +5,7 @@ ghost use Rattle.spdx_requirement.specs.Items.{requirement_of};
 ghost use Rattle.spdx_policy.specs.Decisions as spec;
 ghost use Rattle.spdx_policy.specs.Named.{named_row};
 
-use spdx_alternatives::{stands_for, stands_for_license};
+use spdx_licensee::{stands_for, stands_for_license};
 use spdx_requirement::requirement::LicenseReq;
 
 /// An entry of a list: the text of the file, and what the requirement means that it names.

@@ -13,7 +13,7 @@ use crate::error::{Key, Place, Section};
 use crate::named::Named;
 use crate::policy::Policy;
 use crate::reading::name_of;
-use spdx_alternatives::{sense, ways};
+use spdx_licensee::{sense, ways};
 use spdx_requirement::failure::Failure;
 use spdx_requirement::requirement::LicenseReq;
 use std::alloc::{AllocError, Global};

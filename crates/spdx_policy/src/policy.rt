@@ -9,8 +9,8 @@ ghost use Rattle.spdx_policy.specs.Scopes.{holds, places, package_at};
 use crate::decision::{Entry, Flag};
 use crate::named::Named;
 use crate::scopes::Scopes;
-use spdx_alternatives::Heirs;
 use spdx_catalogue::Catalogue;
+use spdx_licensee::Heirs;
 use std::alloc::{AllocError, Global};
 use std::marker::Model;
 

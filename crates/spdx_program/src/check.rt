@@ -13,7 +13,7 @@ use check_files::Telling;
 use check_program::{CheckEnd, Inside, Request};
 use finding_forms::{Format, Style};
 use line_engine::device::Sink;
-use open_shelves::OpenShelf;
+use shelves::OpenShelf;
 use spdx_troubles::Trouble;
 use spdx_words::{CheckRequest, FindingFormat};
 use std::alloc::Global;

@@ -18,7 +18,7 @@ use crate::simplify::simplify;
 use check_files::Telling;
 use check_program::Inside;
 use line_engine::device::Sink;
-use open_shelves::OpenShelf;
+use shelves::OpenShelf;
 use spdx_commands::{Follower, Replacing};
 use spdx_troubles::Trouble;
 use spdx_words::Request;

@@ -13,7 +13,7 @@ use crate::requests::perform;
 use crate::teller::Teller;
 use check_program::Inside;
 use line_engine::device::Sink;
-use open_shelves::{OpenShelf, OpenSystem};
+use shelves::{OpenShelf, OpenSystem};
 use spdx_commands::Replacing;
 use spdx_words::Request;
 use std::alloc::Global;

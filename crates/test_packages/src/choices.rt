@@ -9,8 +9,8 @@
 mod answers;
 
 use crate::choices::answers::{answers, read_rows};
-use spdx_alternatives::Heirs;
 use spdx_catalogue::Catalogue;
+use spdx_licensee::Heirs;
 use spdx_policy::Policy;
 use std::alloc::{AllocError, Global};
 use test_rows::Tally;

@@ -11,8 +11,8 @@
 mod answers;
 
 use crate::policies::answers::{answer, fault_text};
-use spdx_alternatives::{Heirs, Restated};
 use spdx_catalogue::Catalogue;
+use spdx_licensee::{Heirs, Restated};
 use spdx_policy::Policy;
 use std::fs;
 use std::io::{self, ErrorKind};

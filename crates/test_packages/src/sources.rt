@@ -4,7 +4,7 @@
 // is the empty pointer and VERSION may stand last. With `== shape` the form is that which the shape of the file tells. Behind
 // `== shared FORM` each line is a file, and the references are shown that two have. A character U+FFFD stands for the byte FF.
 
-use document_references::shared_references;
+use package_files::shared_references;
 use package_sources::{
     Form, License, Package, Pointers, SourceError, Spot, guessed_form, packages, packages_at,
 };

@@ -11,11 +11,11 @@ use crate::shelf::{HEIRS, inside, shelf_of};
 use choice_program::{Accepted, ChoiceTrouble, Chosen, Why, choose};
 use gate_program::PolicyTrouble;
 use list_program::named_list;
-use package_choices::RequirementTexts;
 use package_sources::{License, Package, Spot};
 use shelves::Held;
 use spdx_catalogue::Catalogue;
 use spdx_lexer::token::ParseMode;
+use spdx_licensee::RequirementTexts;
 use std::alloc::{AllocError, Global};
 use test_rows::Tally;
 

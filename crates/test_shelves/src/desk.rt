@@ -1,7 +1,8 @@
 // A shelf of values whose files take other bytes.
 
-use open_shelves::{HeldBytes, OpenShelf};
-use shelves::{Entries, Held, HeldFile, Kind, Shelf, Stamp, Stamped, VariableFault};
+use shelves::{
+    Entries, Held, HeldBytes, HeldFile, Kind, OpenShelf, Shelf, Stamp, Stamped, VariableFault,
+};
 use std::alloc::{AllocError, Global};
 use std::cell::RefCell;
 use std::io::{self, ErrorKind};

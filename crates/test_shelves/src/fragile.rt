@@ -1,8 +1,7 @@
 // A shelf of values on which a file whose name ends in `.torn` breaks off at its end.
 
 use line_engine::device::{Failed, Source};
-use open_shelves::OpenShelf;
-use shelves::{Entries, Held, Kind, Shelf, Stamped, VariableFault};
+use shelves::{Entries, Held, Kind, OpenShelf, Shelf, Stamped, VariableFault};
 use std::alloc::Global;
 use std::io;
 

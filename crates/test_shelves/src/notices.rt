@@ -11,14 +11,13 @@ use crate::shelf::{HEIRS, inside, shelf_of, told_faults};
 use choice_program::Accepted;
 use notice_forms::Format;
 use notice_program::{End, NoticeTrouble, Request, Run, ToldPage, notice};
-use owed_texts::{Folders, OwnTexts};
+use owed_texts::{Folders, Obstacle, OwnTexts, TextTrouble};
 use package_files::{Source, Wanted};
 use package_sources::Form;
 use shelves::Held;
 use spdx_lexer::token::ParseMode;
 use std::alloc::{AllocError, Global};
 use test_rows::Tally;
-use text_files::{Obstacle, TextTrouble};
 
 /// Appends the rows that don't hold, and how many do; gives whether all do.
 pub(crate) fn try_rows(alloc: Global, shown: &mut String, text: &str) -> Result<bool, AllocError> {

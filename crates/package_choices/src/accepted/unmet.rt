@@ -1,6 +1,6 @@
 // Why there are no choices.
 
-use spdx_error::MinimizeError;
+use spdx_minimize::MinimizeError;
 
 /// Why expressions have no choices.
 #[derive(Clone, Copy, Debug, PartialEq, Eq)]

@@ -11,9 +11,8 @@ ghost use Rattle.spdx.specs.Value.{trees_of};
 use crate::expression::Expression;
 use crate::expression::judge::nodes_of_all;
 use spdx_catalogue::{Failure, LicenseReq};
-use spdx_error::MinimizeError;
 use spdx_licensee::Licensee;
-use spdx_minimize::{AcceptedLicensees, TreeNodes, least_choice};
+use spdx_minimize::{AcceptedLicensees, MinimizeError, TreeNodes, least_choice};
 use std::alloc::Global;
 use std::slice;
 

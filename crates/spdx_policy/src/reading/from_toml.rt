@@ -25,8 +25,8 @@ use crate::reading::{
     clarified_of, exempted_of, exempting_of, expressions_of, names_of, reasons_of,
 };
 use crate::scopes::Scopes;
-use spdx_alternatives::Heirs;
 use spdx_catalogue::{Catalogue, License, LicenseId};
+use spdx_licensee::Heirs;
 use spdx_requirement::failure::Failure;
 use std::alloc::{AllocError, Global};
 use toml::Table;

@@ -7,8 +7,8 @@ use Rattle.check_files.proofs.Begun.{on_err}
 use Rattle.check_program.proofs.Begun.{read_begun}
 use Rattle.std.proofs.Common.{subst}
 use Rattle.check_files.specs.Told.{Does}
-use Rattle.check_trees.specs.Begun.{IsTreeBegun}
-use Rattle.check_trees.specs.Trees.{Manner}
+use Rattle.check_program.specs.TreeBegun.{IsTreeBegun}
+use Rattle.check_program.specs.Trees.{Manner}
 use Rattle.check_program.proofs.path.check_as.Goals as goal
 
 pub returns-in-Lines-clause-ok : goal.returns-in-Lines-clause-ok

@@ -1,5 +1,5 @@
 use Rattle.choice_program.specs.Among.{AreOwn, meant_of}
-use Rattle.told_at_once.proofs.Each.{next}
+use Rattle.package_items.proofs.Each.{next}
 use Rattle.choice_program.proofs.Stating.{none_own}
 use Rattle.choice_program.proofs.accepted.all_own.Goals as goal
 

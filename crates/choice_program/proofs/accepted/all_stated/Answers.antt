@@ -1,6 +1,6 @@
 use Rattle.gate_program.specs.Asked.{lent}
 use Rattle.choice_program.specs.Among.{AreStated}
-use Rattle.told_at_once.proofs.Each.{next}
+use Rattle.package_items.proofs.Each.{next}
 use Rattle.choice_program.proofs.Stating.{none_stated}
 use Rattle.choice_program.proofs.accepted.all_stated.Goals as goal
 

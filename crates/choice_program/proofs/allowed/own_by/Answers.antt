@@ -1,5 +1,5 @@
 use Rattle.std.proofs.Common.{rules}
-use Rattle.told_at_once.proofs.Each.{whole_of}
+use Rattle.package_items.proofs.Each.{whole_of}
 use Rattle.choice_program.proofs.allowed.own_by.Goals as goal
 
 pub returns-then-is_empty-clause-ok : goal.returns-then-is_empty-clause-ok

@@ -1,5 +1,5 @@
 use Rattle.std.proofs.Common.{◌≡◌, map, take}
-use Rattle.spdx_alternatives.specs.Shown.{restated}
+use Rattle.spdx_licensee.specs.Shown.{restated}
 use Rattle.spdx_list.specs.Shown.{instead_of}
 use Rattle.gate_program.specs.Policy.{restated_as}
 use Rattle.gate_program.proofs.policy.restated_in.Given as goal

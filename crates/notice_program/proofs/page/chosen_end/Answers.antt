@@ -1,7 +1,7 @@
 use Rattle.std.proofs.Common.{map, subst, sym}
 use Rattle.std.specs.List.{zip}
 use Rattle.std.proofs.lemmas.Result.{IfOk-weaker}
-use Rattle.text_files.specs.declared.trouble.TextTrouble.{TextTrouble}
+use Rattle.owed_texts.specs.declared.trouble.TextTrouble.{TextTrouble}
 use Rattle.notice_program.specs.declared.end.End.TheVariants as end
 use Rattle.notice_program.specs.Page.{IsChosenEnd, IsNoFolder, IsPlacedEnd, no_folder, placed}
 use Rattle.notice_program.specs.Taken.{entry_of, taken, used_in}

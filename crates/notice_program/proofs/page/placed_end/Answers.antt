@@ -1,7 +1,7 @@
 use Rattle.std.proofs.Common.{sym, ◌∙◌, ap, map, subst, List}
 use Rattle.std.specs.Global.{Vec}
 use Rattle.std.proofs.lemmas.Result.{IfOk-weaker}
-use Rattle.text_files.specs.declared.trouble.TextTrouble.{TextTrouble}
+use Rattle.owed_texts.specs.declared.trouble.TextTrouble.{TextTrouble}
 use Rattle.owed_texts.specs.declared.own.ReadFile.{ReadFile}
 use Rattle.owed_texts.specs.All.{AreAllOwn, reads_in}
 use Rattle.notice_program.specs.Noted.{noted_in}

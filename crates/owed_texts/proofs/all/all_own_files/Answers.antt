@@ -1,5 +1,5 @@
 use Rattle.std.proofs.Common.{List}
-use Rattle.told_at_once.proofs.Each.{next}
+use Rattle.package_items.proofs.Each.{next}
 use Rattle.owed_texts.specs.declared.all.AllOwn.{AllOwn}
 use Rattle.owed_texts.specs.All.{AreAllOwn, reads_in}
 use Rattle.owed_texts.specs.Own.{Owner, owner_of}

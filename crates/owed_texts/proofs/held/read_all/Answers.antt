@@ -1,5 +1,5 @@
 use Rattle.std.proofs.Common.{refl}
-use Rattle.told_at_once.proofs.Each.{next}
+use Rattle.package_items.proofs.Each.{next}
 use Rattle.owed_texts.specs.Held.{AreHeld, name_in}
 use Rattle.owed_texts.proofs.Texts.{none_had}
 use Rattle.owed_texts.proofs.held.read_all.Goals as goal

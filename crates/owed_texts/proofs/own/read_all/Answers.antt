@@ -2,7 +2,7 @@ use Rattle.std.proofs.Common.{refl}
 use Rattle.notice_texts.specs.Owed.{seen}
 use Rattle.owed_texts.proofs.FilesRead.{none_read}
 use Rattle.owed_texts.specs.Own.{AreRead}
-use Rattle.told_at_once.proofs.Each.{next}
+use Rattle.package_items.proofs.Each.{next}
 use Rattle.owed_texts.proofs.own.read_all.Goals as goal
 
 pub loop-file-preserved : goal.loop-file-preserved

@@ -1,4 +1,4 @@
-use Rattle.document_references.specs.Documents.{documents_of}
+use Rattle.package_files.specs.Documents.{documents_of}
 use Rattle.package_commands.proofs.Steps.{documents_more}
 use Rattle.package_commands.proofs.shared.documents.Goals as goal
 

@@ -1,5 +1,5 @@
 use Rattle.std.proofs.Common.{◌≡◌, take}
-use Rattle.document_references.specs.Documents.{documents_of}
+use Rattle.package_files.specs.Documents.{documents_of}
 use Rattle.package_commands.specs.Shared.{documents_in}
 use Rattle.package_commands.proofs.shared.documents.Given as goal
 

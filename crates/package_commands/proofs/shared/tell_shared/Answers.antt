@@ -2,7 +2,7 @@ use Rattle.std.proofs.Common.{List, ap, map, subst, ◌∙◌}
 use Rattle.std.specs.Borrow.{Bor}
 use Rattle.std.specs.Prelude.{ℕ}
 use Rattle.check_files.specs.Told.{Tells}
-use Rattle.document_references.specs.Documents.{documents_of}
+use Rattle.package_files.specs.Documents.{documents_of}
 use Rattle.owed_texts.specs.Held.{name_in}
 use Rattle.package_commands.specs.Shared.{AreToldAs}
 use Rattle.package_commands.proofs.Ends.{shared_told}

@@ -4,7 +4,7 @@ use Rattle.spdx_requirement.specs.Rows.{Rows}
 use Rattle.spdx_requirement.specs.Texts.{requirement_text}
 use Rattle.spdx_policy.specs.Rules.{Rules}
 use Rattle.spdx_policy.specs.Blame.{BlamesName, IsNoEntry}
-use Rattle.spdx_alternatives.proofs.Unique.{of_refused}
+use Rattle.spdx_licensee.proofs.Unique.{of_refused}
 use Rattle.spdx_policy.proofs.NoPolicy.{no_entry}
 use Rattle.spdx_policy.proofs.policy.Policy.offer.Goals as goal
 

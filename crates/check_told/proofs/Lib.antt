@@ -1,5 +1,0 @@
-pub mod Reading
-pub mod Spelling
-pub mod Telling
-pub mod Trimming
-pub mod Unused

@@ -1,6 +1,0 @@
-pub mod Begun
-pub mod Walked
-pub mod Seeing
-pub mod Sorting
-pub mod Ending
-pub mod Clean

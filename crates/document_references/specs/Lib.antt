@@ -1,3 +1,0 @@
-pub mod Texts
-pub mod Documents
-pub mod Mentions

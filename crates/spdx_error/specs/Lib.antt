@@ -1,2 +1,0 @@
-pub mod MinimizeTexts
-pub mod Errors

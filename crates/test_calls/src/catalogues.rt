@@ -1,0 +1,146 @@
+// The catalogues of the rows.
+
+use crate::answer::NoAnswer;
+use spdx::{Catalogue, ParseMode};
+use std::alloc::Global;
+
+// The test catalogue K1, of the collected rows.
+const K1: &str = "{\"version\":\"K1\",\"licenses\":[\
+    {\"name\":\"Aladdin\",\"full_name\":\"Aladdin\",\"flags\":0},\
+    {\"name\":\"Apache-2.0\",\"full_name\":\"Apache-2.0\",\"flags\":3},\
+    {\"name\":\"BSD-2-Clause\",\"full_name\":\"BSD-2-Clause\",\"flags\":3},\
+    {\"name\":\"BSD-3-Clause\",\"full_name\":\"BSD-3-Clause\",\"flags\":3},\
+    {\"name\":\"BitTorrent-1.1\",\"full_name\":\"BitTorrent-1.1\",\"flags\":1},\
+    {\"name\":\"GPL-1.0\",\"full_name\":\"GPL-1.0\",\"flags\":28},\
+    {\"name\":\"GPL-2.0\",\"full_name\":\"GPL-2.0\",\"flags\":31},\
+    {\"name\":\"GPL-2.0-only\",\"full_name\":\"GPL-2.0-only\",\"flags\":27},\
+    {\"name\":\"GPL-2.0-or-later\",\"full_name\":\"GPL-2.0-or-later\",\"flags\":27},\
+    {\"name\":\"GPL-3.0\",\"full_name\":\"GPL-3.0\",\"flags\":31},\
+    {\"name\":\"GPL-3.0-only\",\"full_name\":\"GPL-3.0-only\",\"flags\":27},\
+    {\"name\":\"GPL-3.0-or-later\",\"full_name\":\"GPL-3.0-or-later\",\"flags\":27},\
+    {\"name\":\"LGPL-3.0-or-later\",\"full_name\":\"LGPL-3.0-or-later\",\"flags\":27},\
+    {\"name\":\"MIT\",\"full_name\":\"MIT\",\"flags\":3},\
+    {\"name\":\"MPL-1.1\",\"full_name\":\"MPL-1.1\",\"flags\":11},\
+    {\"name\":\"MPL-2.0\",\"full_name\":\"MPL-2.0\",\"flags\":11},\
+    {\"name\":\"Zlib\",\"full_name\":\"Zlib\",\"flags\":3},\
+    {\"name\":\"wxWindows\",\"full_name\":\"wxWindows\",\"flags\":4}],\
+    \"exceptions\":[\
+    {\"name\":\"Classpath-exception-2.0\",\"flags\":0},\
+    {\"name\":\"LLVM-exception\",\"flags\":0},\
+    {\"name\":\"Nokia-Qt-exception-1.1\",\"flags\":4}],\
+    \"imprecise\":[\
+    {\"prefix\":\"simplified bsd license\",\"name\":\"BSD-2-Clause\"},\
+    {\"prefix\":\"apache\",\"name\":\"Apache-2.0\"},\
+    {\"prefix\":\"apache2\",\"name\":\"Apache-2.0\"},\
+    {\"prefix\":\"gpl-3.0\",\"name\":\"GPL-3.0\"},\
+    {\"prefix\":\"gplv2\",\"name\":\"GPL-2.0\"},\
+    {\"prefix\":\"mit\",\"name\":\"MIT\"}]}";
+
+// Versions of one family: zeros in front, a missing piece, pieces of two digits.
+const K2: &str = "{\"version\":\"K2\",\"licenses\":[\
+    {\"name\":\"A-00002\",\"full_name\":\"\",\"flags\":0},\
+    {\"name\":\"A-1\",\"full_name\":\"\",\"flags\":0},\
+    {\"name\":\"A-1.0\",\"full_name\":\"\",\"flags\":0},\
+    {\"name\":\"A-1.10\",\"full_name\":\"\",\"flags\":0},\
+    {\"name\":\"A-1.9\",\"full_name\":\"\",\"flags\":0}],\
+    \"exceptions\":[],\"imprecise\":[]}";
+
+// Names that look like something else: a licence named as a reference is, an exception named as
+// a licence is, prefixes with a plus, a letter of two bytes and an operator in them.
+const K3: &str = "{\"version\":\"K3\",\"licenses\":[\
+    {\"name\":\"A\",\"full_name\":\"\",\"flags\":224},\
+    {\"name\":\"LicenseRef-a\",\"full_name\":\"\",\"flags\":0},\
+    {\"name\":\"Z-or-later\",\"full_name\":\"\",\"flags\":0}],\
+    \"exceptions\":[{\"name\":\"A\",\"flags\":0}],\
+    \"imprecise\":[\
+    {\"prefix\":\"x y+\",\"name\":\"A\"},\
+    {\"prefix\":\"b\u{e9}\",\"name\":\"A\"},\
+    {\"prefix\":\"q) OR (\",\"name\":\"A\"}]}";
+
+// One licence, GNU and deprecated, whose name begins as a reference does.
+const REFERENCE_NAME: &str = "{\"version\":\"\",\"licenses\":[\
+    {\"name\":\"LicenseRef-x\",\"full_name\":\"\",\"flags\":20}],\
+    \"exceptions\":[],\"imprecise\":[]}";
+
+// Two licences that differ in case alone.
+const TWO_CASES: &str = "{\"version\":\"\",\"licenses\":[\
+    {\"name\":\"MIT\",\"full_name\":\"\",\"flags\":0},\
+    {\"name\":\"mit\",\"full_name\":\"\",\"flags\":0}],\
+    \"exceptions\":[],\"imprecise\":[]}";
+
+/// The catalogues that rows name.
+#[derive(Drop)]
+pub struct Catalogues {
+    k1: Catalogue,
+    k2: Catalogue,
+    k3: Catalogue,
+    reference_name: Catalogue,
+    two_cases: Catalogue,
+    long_versions: Catalogue,
+    list: Catalogue,
+}
+
+impl Catalogues {
+    /// These here, and the one of the bytes of a list.
+    pub fn new(alloc: Global, list: &[u8]) -> Result<Catalogues, NoAnswer> {
+        Ok(Catalogues {
+            k1: read(alloc, K1)?,
+            k2: read(alloc, K2)?,
+            k3: read(alloc, K3)?,
+            reference_name: read(alloc, REFERENCE_NAME)?,
+            two_cases: read(alloc, TWO_CASES)?,
+            long_versions: long_versions(alloc)?,
+            list: Catalogue::from_json(alloc, list)?,
+        })
+    }
+
+    /// The catalogue of that name; K1 for any other name.
+    pub fn named(&self, name: &str) -> &Catalogue {
+        match name {
+            "k2" => &self.k2,
+            "k3" => &self.k3,
+            "reference-name" => &self.reference_name,
+            "two-cases" => &self.two_cases,
+            "long-versions" => &self.long_versions,
+            "list" => &self.list,
+            _ => &self.k1,
+        }
+    }
+}
+
+fn read(alloc: Global, json: &str) -> Result<Catalogue, NoAnswer> {
+    Ok(Catalogue::from_json(alloc, json.as_bytes())?)
+}
+
+// Three versions, of 100, 100 and 99 digits: ten, a power of ten, and the number before it.
+fn long_versions(alloc: Global) -> Result<Catalogue, NoAnswer> {
+    let json = format!(in alloc;
+        "{{\"version\":\"\",\"licenses\":[\
+        {{\"name\":\"A-{:0>100}\",\"full_name\":\"\",\"flags\":0}},\
+        {{\"name\":\"A-{:0<100}\",\"full_name\":\"\",\"flags\":0}},\
+        {{\"name\":\"A-{:9<99}\",\"full_name\":\"\",\"flags\":0}}],\
+        \"exceptions\":[],\"imprecise\":[]}}",
+        10, 1, 9
+    )?;
+    read(alloc, json.as_str())
+}
+
+/// The mode of that name: `strict`, `lax`, or the permissions that it has alone.
+pub fn mode_named(name: &str) -> ParseMode {
+    let mut mode = ParseMode::default();
+    match name {
+        "lax" => return ParseMode::LAX,
+        "slash" => mode.allow_slash_as_or_operator = true,
+        "imprecise" => mode.allow_imprecise_license_names = true,
+        "gnu plus" => mode.allow_postfix_plus_on_gpl = true,
+        "deprecated" => mode.allow_deprecated = true,
+        "unknown" => mode.allow_unknown = true,
+        "caseless" => mode.allow_caseless_ids = true,
+        "imprecise, unknown" => {
+            mode.allow_imprecise_license_names = true;
+            mode.allow_unknown = true;
+        }
+        _ => {}
+    }
+    mode
+}

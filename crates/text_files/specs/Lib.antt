@@ -1,3 +1,0 @@
-pub mod Trouble
-pub mod Within
-pub mod Plain
