@@ -39,7 +39,7 @@ ghost use Rattle.choice_program.specs.Picked.{
 
 use crate::choosing::{ChoiceTrouble, Chosen};
 use crate::unchosen::Why;
-use package_choices::allowed::{Joint, Offer, joint_choices};
+use package_choices::allowed::{Joint, Offer, choice_for_all};
 use spdx_catalogue::LicenseReq;
 use spdx_gate::Judged;
 use spdx_licensee::{RequirementTexts, texts_of};
@@ -121,7 +121,7 @@ fn remedies_of(alloc: Global, offers: &[Offer<'_, '_>]) -> Result<Vec<Remedy>, C
     ensures ok { IfOk result (λ rs. AreTogether (map offer_of offers.now) rs.items) }
     ensures err { IfErr result (IsNoJoint (map offer_of offers.now)) }
 {
-    match joint_choices(alloc, offers)? {
+    match choice_for_all(alloc, offers)? {
         Joint::Together(remedies) => Ok(remedies),
         Joint::Unmet => Err(ChoiceTrouble::NoneTogether(Why::NotAllowed)),
         Joint::TooMany(_) => Err(ChoiceTrouble::NoneTogether(Why::TooMany)),

@@ -1,5 +1,12 @@
 //! What is written of an expression that is refused: for people, in a line, as JSON, as an error of a GitHub workflow,
 //! and as a log of SARIF.
+//!
+//! ```rust
+//! // crates/spdx_check/src/check.rt
+//! put_finding(alloc, text, format, is_first, &finding_at(place, refusal))
+//! ```
+//!
+//! It knows nothing of licences, and stands on `foreign_text`.
 #![tactic(auto)]
 
 mod findings;

@@ -1,5 +1,12 @@
 //! What is written of a gate's verdicts on packages: for people, in a line, as JSON, as an error of a GitHub workflow, as a
-//! log of SARIF, and as a page of HTML. It knows nothing of licences.
+//! log of SARIF, and as a page of HTML.
+//!
+//! ```rust
+//! // crates/gate_told/src/forms.rt
+//! Format::Html => put_page(alloc, text, policy, totals, reports),
+//! ```
+//!
+//! It knows nothing of licences, and stands on `foreign_text` and `finding_forms`.
 #![tactic(auto)]
 
 mod json_form;

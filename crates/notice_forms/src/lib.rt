@@ -1,5 +1,12 @@
 //! The page that names each package under its licences, with each licence's text once: as plain text, as Markdown, as one
 //! file of HTML, and as one document of JSON.
+//!
+//! ```rust
+//! // crates/notice_told/src/page.rt
+//! match put_page(alloc, &mut bytes, format, &shown) {
+//! ```
+//!
+//! It stands on `license_notice` and `foreign_text`.
 #![tactic(auto)]
 
 ghost use Rattle.std.specs.Prelude.{◌≡◌, ℕ, List, ◌++◌, Some, OnOk, OnErr, IfOk, IfErr};

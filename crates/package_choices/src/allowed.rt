@@ -10,5 +10,5 @@ mod members;
 mod offer;
 mod question;
 
-pub use crate::allowed::joint::{Joint, joint_choices};
+pub use crate::allowed::joint::{Joint, choice_for_all};
 pub use crate::allowed::offer::Offer;

@@ -1,9 +1,14 @@
 //! What a file's items say of packages: what a package is as it is read, and how texts, lists and objects are found in
 //! JSON, each at its place.
 //!
+//! ```rust
+//! // crates/package_sources/src/formats/cyclonedx.rt
+//! with_parts(alloc, Parts::List("components"), LEVELS, &item)
+//! ```
+//!
 //! It knows nothing of the language of licenses: the text of one is carried on as it stands, or is made of several by
 //! the words `OR` and `AND`. `specs/Each` says what it is that all faults of some items are told at once: of each item a value
-//! was had, or it has a fault, and both stand in the order of the items.
+//! was had, or it has a fault, and both stand in the order of the items. It stands on `foreign_text`.
 #![tactic(auto)]
 
 pub mod error;

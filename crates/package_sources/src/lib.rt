@@ -1,7 +1,12 @@
 //! The packages that a file lists, and what each says of its license.
 //!
+//! ```rust
+//! // crates/package_files/src/reading.rt
+//! packages: packages_at(alloc, &pointers, bytes)?,
+//! ```
+//!
 //! It knows nothing of the language of licenses: the text of one is carried on as it stands, or is made of several by
-//! the words `OR` and `AND`.
+//! the words `OR` and `AND`. It stands on `package_items` and `package_readers`.
 #![tactic(auto)]
 
 pub mod form;

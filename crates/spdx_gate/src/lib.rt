@@ -1,4 +1,11 @@
 //! Packages under a policy: which pass, and why one doesn't.
+//!
+//! ```rust
+//! // crates/gate_program/src/judging.rt
+//! judge(alloc, catalogue, policy, &packages)
+//! ```
+//!
+//! It stands on `spdx_policy` and `spdx_why`.
 #![tactic(auto)]
 
 mod advice;

@@ -22,7 +22,9 @@ padded (suc len) (x ∷ xs) = x ∷ padded len xs
 -- One version comes before the other: with the numbers of both padded by zeros to one length, it
 -- has the lesser at the first place where they differ.
 abbrev pub older : List ℕ → List ℕ → Bool
-older a b = let len = max (length (numbers a)) (length (numbers b)) in is_lt (slice_cmp nat_cmp (padded len (numbers a)) (padded len (numbers b)))
+older a b =
+    let len = max (length (numbers a)) (length (numbers b)) in
+    is_lt (slice_cmp nat_cmp (padded len (numbers a)) (padded len (numbers b)))
 
 -- the digits begin with a zero
 abbrev pub leads_with_zero : List ℕ → Bool

@@ -1,4 +1,11 @@
 //! A catalogue made of SPDX's own two files, and a catalogue written as JSON.
+//!
+//! ```rust
+//! // crates/list_program/src/named.rt
+//! catalogue_of(alloc, licenses, exceptions, &extras)
+//! ```
+//!
+//! It stands on `spdx_catalogue` and `spdx_tables`.
 #![tactic(auto)]
 
 mod date;

@@ -1,4 +1,11 @@
 //! A policy of licences, read from TOML, and what it says of a requirement.
+//!
+//! ```rust
+//! // crates/spdx_gate/src/judgement.rt
+//! decisions.push(policy.decide(alloc, exceptions, &requirement.req)?)?;
+//! ```
+//!
+//! It stands on the parser and `spdx_licensee`.
 #![tactic(auto)]
 
 mod deciding;

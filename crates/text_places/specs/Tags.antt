@@ -51,7 +51,8 @@ is_open_tag (b ∷ bs) = is_ascii_whitespace b && not (ends_with nat_eq (b ∷ b
 abbrev pub ends_element : List ℕ → List ℕ → Bool
 ends_element name (b ∷ c ∷ bs) =
     b == 60 && c == 47 && starts_with nat_eq bs name
-    && (let rest = drop (length name) bs in starts_with nat_eq (drop (prefix_len is_ascii_whitespace rest) rest) (codes ">"))
+    && (let rest = drop (length name) bs in
+    starts_with nat_eq (drop (prefix_len is_ascii_whitespace rest) rest) (codes ">"))
 ends_element name bytes = false
 
 -- the element with this tag and these bytes behind its `>`, and how many bytes are left behind its

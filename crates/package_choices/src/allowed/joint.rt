@@ -37,7 +37,7 @@ pub enum Joint {
 ///
 /// Each allowed requirement is compared with each different one before it, and at most one question more than there are
 /// different ones is asked, each a walk over the nodes of all offers; so more than 1,024 are not judged.
-pub fn joint_choices(alloc: Global, offers: &[Offer<'_, '_>]) -> Result<Joint, AllocError>
+pub fn choice_for_all(alloc: Global, offers: &[Offer<'_, '_>]) -> Result<Joint, AllocError>
     ensures exact { IfOk result (λ joint. told joint ≡ joint_of (map offer_of offers.now)) }
     ensures least { IfOk result (λ joint. IsLeastJoint (map offer_of offers.now) joint) }
     ensures together { IfOk result (λ joint.

@@ -1,6 +1,6 @@
 // What packages are used under.
 
-use package_choices::allowed::{Joint, Offer, joint_choices};
+use package_choices::allowed::{Joint, Offer, choice_for_all};
 use spdx_catalogue::Catalogue;
 use spdx_gate::{Judged, Outcome, judge_text};
 use spdx_parser::node::ExprNode;
@@ -78,7 +78,7 @@ fn offers<'j, 'c>(alloc: Global, rows: &'j Rows<'c>) -> Result<Vec<Offer<'j, 'c>
 }
 
 fn together(alloc: Global, offers: &[Offer<'_, '_>]) -> Result<Vec<Remedy>, AllocError> {
-    match joint_choices(alloc, offers)? {
+    match choice_for_all(alloc, offers)? {
         Joint::Together(choices) => Ok(choices),
         Joint::Unmet | Joint::TooMany(_) => Ok(Vec::new(alloc)),
     }

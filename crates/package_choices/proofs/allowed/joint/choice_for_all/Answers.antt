@@ -11,7 +11,7 @@ use Rattle.package_choices.specs.JudgeModel.{judged_questions, judged_count}
 use Rattle.package_choices.proofs.Together.{joint_least, joint_unmet, of_judge, never}
 use Rattle.package_choices.specs.Passes.{AreChosen}
 use Rattle.package_choices.proofs.Passing.{everything_suffices, own_there}
-use Rattle.package_choices.proofs.allowed.joint.joint_choices.Goals as goal
+use Rattle.package_choices.proofs.allowed.joint.choice_for_all.Goals as goal
 
 pub returns-then-not-least_selection-clause-exact : goal.returns-then-not-least_selection-clause-exact
 returns-then-not-least_selection-clause-exact c =
