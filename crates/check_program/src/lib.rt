@@ -1,5 +1,5 @@
 //! The command `spdx check` over a shelf of files: what is written and told of all that is named, and the status. Of a folder
-//! that is each file below it, then the license texts that are missing or not needed, and the files without a license.
+//! that is each file below it, then the licence texts that are missing or not needed, and the files without a licence.
 //!
 //! ```rust
 //! // crates/spdx_program/src/check.rt

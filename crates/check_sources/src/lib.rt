@@ -1,5 +1,5 @@
-//! What is wrong with the license expressions of a source file or a manifest, told where they are written: each place with its
-//! line, its column, and what is shown of that line round it; what a check counts and how it ends; and which license texts
+//! What is wrong with the licence expressions of a source file or a manifest, told where they are written: each place with its
+//! line, its column, and what is shown of that line round it; what a check counts and how it ends; and which licence texts
 //! the expressions of a folder need.
 //!
 //! ```rust

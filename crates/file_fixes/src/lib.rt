@@ -1,4 +1,4 @@
-//! What becomes of the bytes of a file whose license expressions are mended: of its lines, or of what it declares as a manifest,
+//! What becomes of the bytes of a file whose licence expressions are mended: of its lines, or of what it declares as a manifest,
 //! behind a byte order mark, and then of its tags. Expressions are replaced by their fixes, and nothing else.
 //!
 //! ```rust

@@ -1,5 +1,5 @@
 //! Which packages stand under which licence, and which texts are needed: each package goes in with the requirements
-//! of its choice, and groups come out in the order of a page.
+//! of its choice, and groups of packages come out, by requirement. The order of the texts on a page is that of `notice_told`.
 //!
 //! Of licences it knows their names alone.
 //!

@@ -1,4 +1,4 @@
-//! Which files are manifests, and where the license expressions stand that they declare.
+//! Which files are manifests, and where the licence expressions stand that they declare.
 //!
 //! It reads no expression: it gives their places, and writes another text there.
 //!

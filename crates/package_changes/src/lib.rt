@@ -1,8 +1,8 @@
-//! What changed between two lists of packages: which came, which went, and which stayed, each told once; how the license of one
+//! What changed between two lists of packages: which came, which went, and which stayed, each told once; how the licence of one
 //! changed, written otherwise or asking the same, more or less; and how it is all written: as lines, as one document of JSON, and as
 //! a table of Markdown.
 //!
-//! Names, versions and licenses are texts of others here, and nothing obeys them.
+//! Names, versions and licences are texts of others here, and nothing obeys them.
 //!
 //! ```rust
 //! // crates/changes_program/src/run.rt

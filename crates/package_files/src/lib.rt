@@ -1,12 +1,12 @@
 //! The packages that files list, over a shelf of files; and the references that several documents have, each of which may
-//! mean another license by them.
+//! mean another licence by them.
 //!
 //! ```rust
 //! // crates/notice_program/src/run.rt
 //! let all = all_listed_at(alloc, shelf, request.wanted, request.paths)?;
 //! ```
 //!
-//! Of the language of licenses `shared` knows what a reference looks like: `LicenseRef-`, with letters, digits, `.` and `-`
+//! Of the language of licences `shared` knows what a reference looks like: `LicenseRef-`, with letters, digits, `.` and `-`
 //! behind it. It stands on `shelves` and `package_sources`.
 #![tactic(auto)]
 

@@ -6,7 +6,7 @@
 //! with_parts(alloc, Parts::List("components"), LEVELS, &item)
 //! ```
 //!
-//! It knows nothing of the language of licenses: the text of one is carried on as it stands, or is made of several by
+//! It knows nothing of the language of licences: the text of one is carried on as it stands, or is made of several by
 //! the words `OR` and `AND`. `specs/Each` says what it is that all faults of some items are told at once: of each item a value
 //! was had, or it has a fault, and both stand in the order of the items. It stands on `foreign_text`.
 #![tactic(auto)]

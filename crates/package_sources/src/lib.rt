@@ -1,11 +1,11 @@
-//! The packages that a file lists, and what each says of its license.
+//! The packages that a file lists, and what each says of its licence.
 //!
 //! ```rust
 //! // crates/package_files/src/reading.rt
 //! packages: packages_at(alloc, &pointers, bytes)?,
 //! ```
 //!
-//! It knows nothing of the language of licenses: the text of one is carried on as it stands, or is made of several by
+//! It knows nothing of the language of licences: the text of one is carried on as it stands, or is made of several by
 //! the words `OR` and `AND`. It stands on `package_items` and `package_readers`.
 #![tactic(auto)]
 

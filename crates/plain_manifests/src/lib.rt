@@ -1,4 +1,4 @@
-//! Where the license expressions stand in manifests that are lines of fields, or elements: of RPM, Alpine, Arch, Python, Ruby,
+//! Where the licence expressions stand in manifests that are lines of fields, or elements: of RPM, Alpine, Arch, Python, Ruby,
 //! Haskell, OCaml, AppStream, NuGet and others.
 //!
 //! It reads no expression: it gives their places, and writes another text there.

@@ -1,4 +1,4 @@
-//! Selections of members, told by their truths or by their numbers: a packed stack of truths, the least selection that
+//! Subsets of a list, as truth values or as numbers: a packed stack of truth values, the least selection that
 //! suffices, and lists of sets of which none includes another.
 //!
 //! What suffices is given by a [`Sufficiency`]: any test that a larger selection meets if a smaller one does.

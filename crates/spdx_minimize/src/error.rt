@@ -11,9 +11,9 @@ use spdx_lexer::error::ParseError;
 use std::alloc::{AllocError, AllocFailed};
 use std::fmt;
 
-/// Any fault of the library's calls: `?` makes it of the error of each, so a function that makes
-/// several calls needs no type of its own. It is not what `evaluate_with_failures` refuses, since
-/// those requirements are an answer.
+/// Any fault of the library's calls but `TooManySets`: `?` makes it of the error of each, so a function
+/// that makes several calls needs no type of its own. It is not what `evaluate_with_failures` refuses,
+/// since those requirements are an answer.
 ///
 /// It borrows the text that a fault of parsing speaks of, and takes no memory.
 #[derive(Debug, PartialEq, Eq, Drop)]

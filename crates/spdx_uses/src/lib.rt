@@ -1,5 +1,5 @@
-//! Four callers of `spdx` as its users write them, each proved against what the library's contracts say. The
-//! README quotes them whole.
+//! Four callers of `spdx` as its users write them, each proved against what the library's contracts say.
+//! `docs/USES.md` quotes them whole.
 #![tactic(auto)]
 
 pub mod attribution;
