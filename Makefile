@@ -6,7 +6,7 @@
 # make test: the whole gate. It has the proofs, the rows and the stored runs; make quotes, theorem and known: what the pages
 # and the list inside say is what the files hold; make growths: each growth of memory refused to each call; make program
 # and commands: the built programs as their users run them, in hostile surroundings too; make verdicts: verdicts on random
-# packages; make hostile: odd files, and kills. Behind the proofs it tries those wrong bodies that planted/always.txt names, and a
+# packages; make hostile: odd files, and kills. Beside the proofs it tries those wrong bodies that planted/always.txt names, and a
 # tenth of all, which the prover has to refuse.
 PREFIX ?= /usr/local
 LINES := crates/spdx_lines_main/out/spdx_lines_main
@@ -95,5 +95,5 @@ library_speed:
 # What takes seconds comes first. The programs are run as rt ci has built them.
 test:
 	@tools/gate tools/quotes "tools/crates --check" "tools/calling --check" "tools/theorem --check" tools/promises "tools/list --check" "tools/known --check" "tools/planted --check" \
-		"rt ci" "tools/planted --gate" tools/growths "tools/program $(LINES)" "tools/commands $(SPDX)" "tools/verdicts $(SPDX)" \
+		"tools/planted --gate rt ci" tools/growths "tools/program $(LINES)" "tools/commands $(SPDX)" "tools/verdicts $(SPDX)" \
 		"tools/hostile $(SPDX)" tools/truth_tables
