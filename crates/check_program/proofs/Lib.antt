@@ -12,6 +12,6 @@ pub mod Runs
 pub mod Clean
 pub mod Adding
 pub mod Found
-pub mod Steps
+pub mod StepLogs
 pub mod Results
 pub mod Logs

@@ -25,7 +25,7 @@ use Rattle.check_program.specs.Paths.{ArePathSteps, IsPartChecked, IsPartStep, I
 use Rattle.check_program.specs.Runs.{Inside, IsRunBy, last_lines, ways_in}
 use Rattle.check_program.proofs.Adding.{Adds, adds_none, told_text}
 use Rattle.check_program.proofs.Results.{is_log, reads_back}
-use Rattle.check_program.proofs.Steps.{AddsTo, both_added, lines_counted, manifest_step, nothing_added, passed_step, same_added, tags_step, tree_step}
+use Rattle.check_program.proofs.StepLogs.{AddsTo, both_added, lines_counted, manifest_step, nothing_added, passed_step, same_added, tags_step, tree_step}
 
 -- ---- a path
 
