@@ -38,7 +38,7 @@ impl<E: Drop> From<Failure<E>> for NoAnswer {
 pub type Answer = Result<String, NoAnswer>;
 
 /// What stands before the first such mark, and what stands behind it.
-pub fn two_parts<'a>(text: &'a str, mark: &str) -> Result<(&'a str, &'a str), NoAnswer> {
+pub(crate) fn two_parts<'a>(text: &'a str, mark: &str) -> Result<(&'a str, &'a str), NoAnswer> {
     match text.split_once(mark) {
         Some(parts) => Ok(parts),
         None => Err(NoAnswer::Row),
@@ -46,18 +46,18 @@ pub fn two_parts<'a>(text: &'a str, mark: &str) -> Result<(&'a str, &'a str), No
 }
 
 /// The first field, and the others.
-pub fn fields(given: &str) -> Result<(&str, &str), NoAnswer> {
+pub(crate) fn fields(given: &str) -> Result<(&str, &str), NoAnswer> {
     two_parts(given, "|")
 }
 
 /// The place of a fault, and what it says.
-pub fn placed(alloc: Global, fault: &ParseError<'_>) -> Answer {
+pub(crate) fn placed(alloc: Global, fault: &ParseError<'_>) -> Answer {
     let (start, end) = (fault.span.start, fault.span.end);
     Ok(format!(in alloc; "{start}..{end} {}", fault.reason)?)
 }
 
 /// The fault of a text, or the want of memory.
-pub fn placed_fault(alloc: Global, failure: Failure<ParseError<'_>>) -> Answer {
+pub(crate) fn placed_fault(alloc: Global, failure: Failure<ParseError<'_>>) -> Answer {
     match failure {
         Failure::Refused(fault) => placed(alloc, &fault),
         Failure::Memory(_) => Err(NoAnswer::Memory),
@@ -65,6 +65,6 @@ pub fn placed_fault(alloc: Global, failure: Failure<ParseError<'_>>) -> Answer {
 }
 
 /// `yes` or `no`.
-pub fn said(alloc: Global, holds: bool) -> Answer {
+pub(crate) fn said(alloc: Global, holds: bool) -> Answer {
     Ok((if holds { "yes" } else { "no" }).to_string(alloc)?)
 }

@@ -82,7 +82,7 @@ pub struct Catalogues {
 
 impl Catalogues {
     /// These here, and the one of the bytes of a list.
-    pub fn new(alloc: Global, list: &[u8]) -> Result<Catalogues, NoAnswer> {
+    pub(crate) fn new(alloc: Global, list: &[u8]) -> Result<Catalogues, NoAnswer> {
         Ok(Catalogues {
             k1: read(alloc, K1)?,
             k2: read(alloc, K2)?,
@@ -95,7 +95,7 @@ impl Catalogues {
     }
 
     /// The catalogue of that name; K1 for any other name.
-    pub fn named(&self, name: &str) -> &Catalogue {
+    pub(crate) fn named(&self, name: &str) -> &Catalogue {
         match name {
             "k2" => &self.k2,
             "k3" => &self.k3,
@@ -126,7 +126,7 @@ fn long_versions(alloc: Global) -> Result<Catalogue, NoAnswer> {
 }
 
 /// The mode of that name: `strict`, `lax`, or the permissions that it has alone.
-pub fn mode_named(name: &str) -> ParseMode {
+pub(crate) fn mode_named(name: &str) -> ParseMode {
     let mut mode = ParseMode::default();
     match name {
         "lax" => return ParseMode::LAX,

@@ -27,7 +27,7 @@ struct Heading<'a> {
 }
 
 impl<'a> Tally<'a> {
-    pub fn new(catalogues: &'a Catalogues) -> Tally<'a> {
+    pub(crate) fn new(catalogues: &'a Catalogues) -> Tally<'a> {
         Tally {
             catalogues,
             heading: Heading {
@@ -40,7 +40,7 @@ impl<'a> Tally<'a> {
     }
 
     /// Takes a line, and says what is to be printed of it.
-    pub fn take(&mut self, alloc: Global, line: &'a str) -> Result<String, AllocError> {
+    pub(crate) fn take(&mut self, alloc: Global, line: &'a str) -> Result<String, AllocError> {
         if let Some(heading) = line.strip_prefix("= ") {
             let (catalogue, call) = heading.split_once(": ").unwrap_or((heading, ""));
             self.heading = Heading { catalogue, call };

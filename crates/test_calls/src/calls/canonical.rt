@@ -5,7 +5,7 @@ use spdx::{Catalogue, Expression, ParseMode};
 use std::alloc::Global;
 
 /// The canonical text, `stays` where the text is its own, or the fault with its place.
-pub fn text(alloc: Global, catalogue: &Catalogue, text: &str) -> Answer {
+pub(crate) fn text(alloc: Global, catalogue: &Catalogue, text: &str) -> Answer {
     match Expression::canonicalize(alloc, catalogue, text) {
         Ok(Some(canonical)) => Ok(canonical),
         Ok(None) => Ok("stays".to_string(alloc)?),
@@ -14,7 +14,7 @@ pub fn text(alloc: Global, catalogue: &Catalogue, text: &str) -> Answer {
 }
 
 /// What strict parsing makes of the canonical text of a text that the lax mode accepts.
-pub fn read_strictly(alloc: Global, catalogue: &Catalogue, text: &str) -> Answer {
+pub(crate) fn read_strictly(alloc: Global, catalogue: &Catalogue, text: &str) -> Answer {
     let (_accepted, canonical) = Expression::parse_canonical(
         alloc,
         catalogue,
@@ -32,7 +32,7 @@ pub fn read_strictly(alloc: Global, catalogue: &Catalogue, text: &str) -> Answer
 }
 
 /// The normal text, where it is its own and means an equal expression.
-pub fn normal(alloc: Global, catalogue: &Catalogue, text: &str) -> Answer {
+pub(crate) fn normal(alloc: Global, catalogue: &Catalogue, text: &str) -> Answer {
     let expression = Expression::parse(alloc, catalogue, text)?;
     let normal = expression.normal_text(alloc)?;
     let again = Expression::parse(alloc, catalogue, normal.as_str())?;
@@ -45,7 +45,7 @@ pub fn normal(alloc: Global, catalogue: &Catalogue, text: &str) -> Answer {
 }
 
 /// The fix, which has none itself, or `none`.
-pub fn fix(alloc: Global, catalogue: &Catalogue, text: &str) -> Answer {
+pub(crate) fn fix(alloc: Global, catalogue: &Catalogue, text: &str) -> Answer {
     let Some(fix) = Expression::fix(alloc, catalogue, text)? else {
         return Ok("none".to_string(alloc)?);
     };

@@ -42,7 +42,7 @@ fn shown(alloc: Global, chosen: Chosen<'_>) -> Answer {
 }
 
 /// The choice for a text among the licensees, or the error.
-pub fn choice(alloc: Global, catalogue: &Catalogue, given: &str) -> Answer {
+pub(crate) fn choice(alloc: Global, catalogue: &Catalogue, given: &str) -> Answer {
     let (text, names) = fields(given)?;
     let expression = Expression::parse(alloc, catalogue, text)?;
     let accepted = licensees(alloc, catalogue, names)?;
@@ -53,7 +53,7 @@ pub fn choice(alloc: Global, catalogue: &Catalogue, given: &str) -> Answer {
 }
 
 /// The choice for two texts together, or the error.
-pub fn joint(alloc: Global, catalogue: &Catalogue, given: &str) -> Answer {
+pub(crate) fn joint(alloc: Global, catalogue: &Catalogue, given: &str) -> Answer {
     let (first, others) = fields(given)?;
     let (second, names) = fields(others)?;
     let first = Expression::parse(alloc, catalogue, first)?;
@@ -66,13 +66,13 @@ pub fn joint(alloc: Global, catalogue: &Catalogue, given: &str) -> Answer {
 }
 
 /// The choice for no text.
-pub fn for_none(alloc: Global, catalogue: &Catalogue, names: &str) -> Answer {
+pub(crate) fn for_none(alloc: Global, catalogue: &Catalogue, names: &str) -> Answer {
     let accepted = licensees(alloc, catalogue, names)?;
     shown(alloc, minimized_for_all(alloc, &[], accepted.as_slice()))
 }
 
 /// How many members the least selection has, and whether it took at most one question more than there are licensees.
-pub fn questions(alloc: Global, catalogue: &Catalogue, given: &str) -> Answer {
+pub(crate) fn questions(alloc: Global, catalogue: &Catalogue, given: &str) -> Answer {
     let (text, names) = fields(given)?;
     let accepted = licensees(alloc, catalogue, names)?;
     asked(alloc, catalogue, text, accepted.as_slice())

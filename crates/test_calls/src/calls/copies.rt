@@ -5,7 +5,7 @@ use spdx::{Catalogue, Expression, Licensee};
 use std::alloc::Global;
 
 /// Whether the copy of an expression equals it, its text too, and each copied node the node.
-pub fn expression(alloc: Global, catalogue: &Catalogue, text: &str) -> Answer {
+pub(crate) fn expression(alloc: Global, catalogue: &Catalogue, text: &str) -> Answer {
     let expression = Expression::parse(alloc, catalogue, text)?;
     let copy = expression.try_clone(alloc)?;
     let is_same = copy == expression && copy.text() == text;
@@ -34,7 +34,7 @@ fn are_requirements_copied(alloc: Global, expression: &Expression<'_>) -> Result
 }
 
 /// Whether the copy of a licensee equals it, its requirement too, and another licensee doesn't.
-pub fn licensee(alloc: Global, catalogue: &Catalogue, text: &str) -> Answer {
+pub(crate) fn licensee(alloc: Global, catalogue: &Catalogue, text: &str) -> Answer {
     let licensee = Licensee::parse(alloc, catalogue, text)?;
     let copy = licensee.try_clone(alloc)?;
     let other = Licensee::parse(alloc, catalogue, "LicenseRef-another")?;

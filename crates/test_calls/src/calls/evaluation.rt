@@ -29,7 +29,7 @@ impl Answers {
 }
 
 /// The truth over these answers, and how many were asked for.
-pub fn truth(alloc: Global, catalogue: &Catalogue, given: &str) -> Answer {
+pub(crate) fn truth(alloc: Global, catalogue: &Catalogue, given: &str) -> Answer {
     let (text, letters) = fields(given)?;
     let expression = Expression::parse(alloc, catalogue, text)?;
     let mut answers = Answers::new(alloc, letters)?;
@@ -39,7 +39,7 @@ pub fn truth(alloc: Global, catalogue: &Catalogue, given: &str) -> Answer {
 }
 
 /// `true`, or the requirements that were refused, each with its place, and how many answers were asked for.
-pub fn failures(alloc: Global, catalogue: &Catalogue, given: &str) -> Answer {
+pub(crate) fn failures(alloc: Global, catalogue: &Catalogue, given: &str) -> Answer {
     let (text, letters) = fields(given)?;
     let expression = Expression::parse(alloc, catalogue, text)?;
     let mut answers = Answers::new(alloc, letters)?;
@@ -61,7 +61,7 @@ fn listed(alloc: Global, refused: Vec<&ExpressionReq<'_>>) -> Answer {
 }
 
 /// The truth where OSI has approved, and where it has not.
-pub fn osi_approved(alloc: Global, catalogue: &Catalogue, text: &str) -> Answer {
+pub(crate) fn osi_approved(alloc: Global, catalogue: &Catalogue, text: &str) -> Answer {
     let expression = Expression::parse(alloc, catalogue, text)?;
     let mut approved = |req: &LicenseReq| match req.license.id() {
         Some(id) => id.is_osi_approved(),

@@ -6,7 +6,7 @@ use std::alloc::{AllocError, Global};
 use test_rows::number;
 
 /// The version of the catalogue that the text is, or its fault.
-pub fn text(alloc: Global, json: &str) -> Answer {
+pub(crate) fn text(alloc: Global, json: &str) -> Answer {
     match Catalogue::from_json(alloc, json.as_bytes()) {
         Ok(catalogue) => Ok(catalogue.license_version().to_string(alloc)?),
         Err(Failure::Refused(fault)) => Ok(format!(in alloc; "{fault:?}")?),
@@ -31,7 +31,7 @@ fn numbered(alloc: Global, count: u32) -> Result<String, AllocError> {
 
 /// How many bytes the text of a catalogue of so many licences has at least, in millions, and the indices of its first
 /// and its last.
-pub fn large(alloc: Global, count: &str) -> Answer {
+pub(crate) fn large(alloc: Global, count: &str) -> Answer {
     let count = number(count);
     let json = numbered(alloc, count)?;
     let catalogue = Catalogue::from_json(alloc, json.as_str().as_bytes())?;
@@ -57,7 +57,7 @@ fn outcome(alloc: Global, bytes: &[u8]) -> Answer {
 }
 
 /// What a catalogue is read as that has these licences and exceptions and, behind all of its keys, this text.
-pub fn tables(alloc: Global, given: &str) -> Answer {
+pub(crate) fn tables(alloc: Global, given: &str) -> Answer {
     let (licenses, rest) = fields(given)?;
     let (exceptions, more) = fields(rest)?;
     let json = format!(in alloc;
@@ -67,7 +67,7 @@ pub fn tables(alloc: Global, given: &str) -> Answer {
 }
 
 /// What bytes are read as, each of which is given as a number.
-pub fn bytes(alloc: Global, given: &str) -> Answer {
+pub(crate) fn bytes(alloc: Global, given: &str) -> Answer {
     let mut bytes = Vec::new(alloc);
     for byte in given.split(' ') {
         match byte.parse::<u8>() {

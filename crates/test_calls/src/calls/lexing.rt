@@ -31,7 +31,7 @@ fn put_item(
 }
 
 /// The items of the text; with no mode, those of `Lexer::new`.
-pub fn items(alloc: Global, catalogue: &Catalogue, given: &str) -> Answer {
+pub(crate) fn items(alloc: Global, catalogue: &Catalogue, given: &str) -> Answer {
     let (mode, text) = fields(given)?;
     let mut lexer = match mode {
         "" => Lexer::new(catalogue, text),

@@ -5,7 +5,7 @@ use spdx::{Catalogue, Expression, Licensee};
 use std::alloc::Global;
 
 /// The licensee that the text names, or its fault with the place.
-pub fn named(alloc: Global, catalogue: &Catalogue, text: &str) -> Answer {
+pub(crate) fn named(alloc: Global, catalogue: &Catalogue, text: &str) -> Answer {
     match Licensee::parse(alloc, catalogue, text) {
         Ok(licensee) => {
             let requirement = licensee.into_req();
@@ -16,7 +16,7 @@ pub fn named(alloc: Global, catalogue: &Catalogue, text: &str) -> Answer {
 }
 
 /// Whether the licensee satisfies the one requirement of the text.
-pub fn satisfied(alloc: Global, catalogue: &Catalogue, given: &str) -> Answer {
+pub(crate) fn satisfied(alloc: Global, catalogue: &Catalogue, given: &str) -> Answer {
     let (text, name) = fields(given)?;
     let expression = Expression::parse(alloc, catalogue, text)?;
     let licensee = Licensee::parse(alloc, catalogue, name)?;

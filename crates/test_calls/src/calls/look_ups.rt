@@ -30,14 +30,14 @@ fn indices(alloc: Global, found: &[Option<usize>]) -> Answer {
 }
 
 /// The licence of that name, and the first whose name it is, the case of letters aside.
-pub fn license(alloc: Global, catalogue: &Catalogue, name: &str) -> Answer {
+pub(crate) fn license(alloc: Global, catalogue: &Catalogue, name: &str) -> Answer {
     let exact = license_index(catalogue.license_id(name));
     let caseless = license_index(catalogue.license_id_caseless(name));
     indices(alloc, &[exact, caseless])
 }
 
 /// The exception of that name, and the first whose name it is, the case of letters aside.
-pub fn exception(alloc: Global, catalogue: &Catalogue, name: &str) -> Answer {
+pub(crate) fn exception(alloc: Global, catalogue: &Catalogue, name: &str) -> Answer {
     let exact = exception_index(catalogue.exception_id(name));
     let caseless = exception_index(catalogue.exception_id_caseless(name));
     indices(alloc, &[exact, caseless])
@@ -51,7 +51,7 @@ fn without_last(name: &str) -> &str {
 }
 
 /// The licences of a name, of the name and a 0, and of the name but for its last byte.
-pub fn near_license(alloc: Global, catalogue: &Catalogue, name: &str) -> Answer {
+pub(crate) fn near_license(alloc: Global, catalogue: &Catalogue, name: &str) -> Answer {
     let longer = format!(in alloc; "{name}0")?;
     let found = license_index(catalogue.license_id(name));
     let above = license_index(catalogue.license_id(longer.as_str()));
@@ -60,7 +60,7 @@ pub fn near_license(alloc: Global, catalogue: &Catalogue, name: &str) -> Answer 
 }
 
 /// The exceptions of a name, of the name and a 0, and of the name but for its last byte.
-pub fn near_exception(alloc: Global, catalogue: &Catalogue, name: &str) -> Answer {
+pub(crate) fn near_exception(alloc: Global, catalogue: &Catalogue, name: &str) -> Answer {
     let longer = format!(in alloc; "{name}0")?;
     let found = exception_index(catalogue.exception_id(name));
     let above = exception_index(catalogue.exception_id(longer.as_str()));
@@ -69,14 +69,14 @@ pub fn near_exception(alloc: Global, catalogue: &Catalogue, name: &str) -> Answe
 }
 
 /// The GNU licence of a base name that means its version alone, and the one that means later ones too.
-pub fn gnu(alloc: Global, catalogue: &Catalogue, base: &str) -> Answer {
+pub(crate) fn gnu(alloc: Global, catalogue: &Catalogue, base: &str) -> Answer {
     let only = license_index(catalogue.gnu_license_id(base, false));
     let or_later = license_index(catalogue.gnu_license_id(base, true));
     indices(alloc, &[only, or_later])
 }
 
 /// The licence that an imprecise name at the text's head means, and how many bytes the name takes.
-pub fn imprecise(alloc: Global, catalogue: &Catalogue, text: &str) -> Answer {
+pub(crate) fn imprecise(alloc: Global, catalogue: &Catalogue, text: &str) -> Answer {
     match catalogue.imprecise_license_id(text) {
         Some((id, taken)) => Ok(format!(in alloc; "{}, {taken} bytes", id.license().index)?),
         None => Ok("none".to_string(alloc)?),
@@ -84,12 +84,12 @@ pub fn imprecise(alloc: Global, catalogue: &Catalogue, text: &str) -> Answer {
 }
 
 /// The version of the catalogue's list.
-pub fn version(alloc: Global, catalogue: &Catalogue) -> Answer {
+pub(crate) fn version(alloc: Global, catalogue: &Catalogue) -> Answer {
     Ok(catalogue.license_version().to_string(alloc)?)
 }
 
 /// The base and the version of a licence's name, and the id as it is printed for who looks for a bug.
-pub fn parts(alloc: Global, catalogue: &Catalogue, name: &str) -> Answer {
+pub(crate) fn parts(alloc: Global, catalogue: &Catalogue, name: &str) -> Answer {
     let Some(id) = catalogue.license_id(name) else {
         return Err(NoAnswer::Row);
     };
@@ -110,7 +110,7 @@ fn words(alloc: Global, flags: &[(&str, bool)]) -> Answer {
 }
 
 /// What the flags of a licence say.
-pub fn license_flags(alloc: Global, catalogue: &Catalogue, name: &str) -> Answer {
+pub(crate) fn license_flags(alloc: Global, catalogue: &Catalogue, name: &str) -> Answer {
     let Some(id) = catalogue.license_id(name) else {
         return Err(NoAnswer::Row);
     };
@@ -127,7 +127,7 @@ pub fn license_flags(alloc: Global, catalogue: &Catalogue, name: &str) -> Answer
 }
 
 /// What the flags of an exception say, and the id as it is printed for who looks for a bug.
-pub fn exception_flags(alloc: Global, catalogue: &Catalogue, name: &str) -> Answer {
+pub(crate) fn exception_flags(alloc: Global, catalogue: &Catalogue, name: &str) -> Answer {
     let Some(id) = catalogue.exception_id(name) else {
         return Err(NoAnswer::Row);
     };

@@ -48,7 +48,7 @@ fn imprecise(alloc: Global, given: &str) -> Result<Vec<ImpreciseName>, NoAnswer>
 }
 
 /// `made`, or the fault of the rows: licences, exceptions and imprecise names.
-pub fn made(alloc: Global, given: &str) -> Answer {
+pub(crate) fn made(alloc: Global, given: &str) -> Answer {
     let (names, rest) = fields(given)?;
     let (excepted, spelled) = fields(rest)?;
     let catalogue = Catalogue::new(
@@ -72,7 +72,7 @@ fn list_named(name: &str) -> List {
 }
 
 /// The text of a fault, of a list and of a row.
-pub fn fault(alloc: Global, given: &str) -> Answer {
+pub(crate) fn fault(alloc: Global, given: &str) -> Answer {
     let (name, rest) = fields(given)?;
     let (list, row) = fields(rest)?;
     let (list, row) = (list_named(list), number(row) as usize);

@@ -6,7 +6,7 @@ use std::alloc::{AllocError, Global};
 
 /// By `sets EXPRESSION` the minimal sets, each in brackets; by `text EXPRESSION` the meaning text; by `than EXPRESSION ;
 /// EXPRESSION` `same`, `more` where the first one asks more, `less` where the second one does, or `neither`.
-pub fn told(alloc: Global, catalogue: &Catalogue, asked: &str) -> Answer {
+pub(crate) fn told(alloc: Global, catalogue: &Catalogue, asked: &str) -> Answer {
     let (form, rest) = asked.split_once(" ").unwrap_or((asked, ""));
     let (first, second) = rest.split_once(" ; ").unwrap_or((rest, ""));
     let Some(one) = read(alloc, catalogue, first)? else {

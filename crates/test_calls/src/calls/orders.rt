@@ -13,7 +13,7 @@ fn are_ordered(one: &ExpressionReq<'_>, other: &ExpressionReq<'_>, order: Orderi
 }
 
 /// Whether the requirements of the text ascend, each pair of them taken both ways.
-pub fn ascending(alloc: Global, catalogue: &Catalogue, text: &str) -> Answer {
+pub(crate) fn ascending(alloc: Global, catalogue: &Catalogue, text: &str) -> Answer {
     let expression = Expression::parse(alloc, catalogue, text)?;
     let mut ascend = true;
     for (i, one) in expression.requirements().enumerate() {
@@ -25,7 +25,7 @@ pub fn ascending(alloc: Global, catalogue: &Catalogue, text: &str) -> Answer {
 }
 
 /// Whether the licences of the requirements of the text ascend.
-pub fn licenses_ascending(alloc: Global, catalogue: &Catalogue, text: &str) -> Answer {
+pub(crate) fn licenses_ascending(alloc: Global, catalogue: &Catalogue, text: &str) -> Answer {
     let expression = Expression::parse(alloc, catalogue, text)?;
     let mut ascend = true;
     for (i, one) in expression.requirements().enumerate() {

@@ -7,7 +7,7 @@ use spdx::{Catalogue, Expression};
 use std::alloc::{AllocError, Global};
 
 /// The postfix list of the text's tree, or its fault with the place.
-pub fn tree(alloc: Global, catalogue: &Catalogue, given: &str) -> Answer {
+pub(crate) fn tree(alloc: Global, catalogue: &Catalogue, given: &str) -> Answer {
     let (mode, text) = fields(given)?;
     match Expression::parse_mode(alloc, catalogue, text, mode_named(mode)) {
         Ok(expression) => Ok(format!(in alloc; "{expression:?}")?),
@@ -16,7 +16,7 @@ pub fn tree(alloc: Global, catalogue: &Catalogue, given: &str) -> Answer {
 }
 
 /// Whether the trees of two texts are equal, from both sides.
-pub fn equal(alloc: Global, catalogue: &Catalogue, given: &str) -> Answer {
+pub(crate) fn equal(alloc: Global, catalogue: &Catalogue, given: &str) -> Answer {
     let (left, right) = fields(given)?;
     let one = Expression::parse(alloc, catalogue, left)?;
     let other = Expression::parse(alloc, catalogue, right)?;
@@ -27,7 +27,7 @@ pub fn equal(alloc: Global, catalogue: &Catalogue, given: &str) -> Answer {
 }
 
 /// Each requirement with its place.
-pub fn spans(alloc: Global, catalogue: &Catalogue, given: &str) -> Answer {
+pub(crate) fn spans(alloc: Global, catalogue: &Catalogue, given: &str) -> Answer {
     let (mode, text) = fields(given)?;
     let expression = Expression::parse_mode(alloc, catalogue, text, mode_named(mode))?;
     let mut shown = String::new(alloc);
@@ -38,13 +38,16 @@ pub fn spans(alloc: Global, catalogue: &Catalogue, given: &str) -> Answer {
 }
 
 /// Puts the requirement with its place, in brackets.
-pub fn put_placed(shown: &mut String, requirement: &ExpressionReq<'_>) -> Result<(), AllocError> {
+pub(crate) fn put_placed(
+    shown: &mut String,
+    requirement: &ExpressionReq<'_>,
+) -> Result<(), AllocError> {
     let (start, end) = (requirement.span.start, requirement.span.end);
     write!(shown, "[{} {start}..{end}]", requirement.req)
 }
 
 /// The index of a text that is one listed licence.
-pub fn index(alloc: Global, catalogue: &Catalogue, text: &str) -> Answer {
+pub(crate) fn index(alloc: Global, catalogue: &Catalogue, text: &str) -> Answer {
     let expression = Expression::parse(alloc, catalogue, text)?;
     let mut shown = String::new(alloc);
     for requirement in expression.requirements() {
@@ -57,7 +60,7 @@ pub fn index(alloc: Global, catalogue: &Catalogue, text: &str) -> Answer {
 }
 
 /// How many nodes and how many requirements a tree has.
-pub fn counts(alloc: Global, catalogue: &Catalogue, text: &str) -> Answer {
+pub(crate) fn counts(alloc: Global, catalogue: &Catalogue, text: &str) -> Answer {
     let expression = Expression::parse(alloc, catalogue, text)?;
     let mut nodes = 0u64;
     for _ in expression.iter() {

@@ -6,7 +6,7 @@ use spdx::{Catalogue, Expression, Failure, LicenseItem, LicenseReq};
 use std::alloc::Global;
 
 /// What the printed fault of a text says below it, after as many blanks as stand before it, and its description.
-pub fn fault(alloc: Global, catalogue: &Catalogue, text: &str) -> Answer {
+pub(crate) fn fault(alloc: Global, catalogue: &Catalogue, text: &str) -> Answer {
     match Expression::parse(alloc, catalogue, text) {
         Ok(_) => Err(NoAnswer::Row),
         Err(Failure::Refused(fault)) => {
@@ -46,7 +46,7 @@ fn reason_named(name: &str) -> Option<Reason> {
 }
 
 /// The text of a reason, and its description.
-pub fn reason(alloc: Global, name: &str) -> Answer {
+pub(crate) fn reason(alloc: Global, name: &str) -> Answer {
     match reason_named(name) {
         Some(reason) => {
             let described = reason.description();
@@ -57,7 +57,7 @@ pub fn reason(alloc: Global, name: &str) -> Answer {
 }
 
 /// The printed licence of that name with the mark.
-pub fn marked(alloc: Global, catalogue: &Catalogue, name: &str) -> Answer {
+pub(crate) fn marked(alloc: Global, catalogue: &Catalogue, name: &str) -> Answer {
     match catalogue.license_id(name) {
         Some(id) => {
             let item = LicenseItem::Spdx { id, or_later: true };
@@ -68,13 +68,13 @@ pub fn marked(alloc: Global, catalogue: &Catalogue, name: &str) -> Answer {
 }
 
 /// The printed expression.
-pub fn whole(alloc: Global, catalogue: &Catalogue, text: &str) -> Answer {
+pub(crate) fn whole(alloc: Global, catalogue: &Catalogue, text: &str) -> Answer {
     let expression = Expression::parse(alloc, catalogue, text)?;
     Ok(format!(in alloc; "{expression}")?)
 }
 
 /// What the printed text of each requirement is read as, strictly.
-pub fn read_back(alloc: Global, catalogue: &Catalogue, text: &str) -> Answer {
+pub(crate) fn read_back(alloc: Global, catalogue: &Catalogue, text: &str) -> Answer {
     let expression = Expression::parse(alloc, catalogue, text)?;
     let mut all = String::new(alloc);
     for requirement in expression.requirements() {
@@ -97,7 +97,7 @@ fn put_again(
 }
 
 /// The printed requirement of a listed licence alone.
-pub fn requirement(alloc: Global, catalogue: &Catalogue, name: &str) -> Answer {
+pub(crate) fn requirement(alloc: Global, catalogue: &Catalogue, name: &str) -> Answer {
     match catalogue.license_id(name) {
         Some(id) => {
             let requirement = LicenseReq::from(id);
