@@ -2,6 +2,7 @@
 
 ghost use Rattle.std.specs.Prelude.{◌≡◌, IfOk, true, false, option_map, string_bytes};
 ghost use Rattle.std.specs.Option.{IfSome};
+ghost use Rattle.spdx_lexer.specs.Modes.{strict};
 ghost use Rattle.spdx_canonical.specs.Fix.{Reads, IsFixOf, FixLaws};
 
 use crate::text::canonical;
@@ -28,6 +29,27 @@ pub fn fix(alloc: Global, catalogue: &Catalogue, text: &str) -> Result<Option<St
     if accepts(alloc, catalogue, text, ParseMode::STRICT)? {
         return Ok(None);
     }
+    fix_of_refused(alloc, catalogue, text)
+}
+
+/// The fix of a text of which it is known that strict parsing refuses it: the answer of [`fix`], without the reading that tells
+/// so. A text that strict parsing accepts is not for this call: it may be given another spelling of it.
+///
+/// Linear in the number of tokens, besides their look-up.
+///
+/// # Errors
+///
+/// Memory was refused.
+pub fn fix_of_refused(
+    alloc: Global,
+    catalogue: &Catalogue,
+    text: &str,
+) -> Result<Option<String>, AllocError>
+    ensures answer { IfOk result (λ fix. (Reads catalogue.now strict text.now → ⊥) →
+        IsFixOf catalogue.now text.now (option_map string_bytes fix)) }
+    ensures laws { IfOk result (λ fix. IfSome fix (λ mended.
+        FixLaws catalogue.now text.now (string_bytes mended))) }
+{
     if !accepts(alloc, catalogue, text, ParseMode::LAX)? {
         return Ok(None);
     }

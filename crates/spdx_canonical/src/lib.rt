@@ -18,7 +18,7 @@ mod piece;
 mod plan;
 pub mod text;
 
-pub use crate::fixing::fix;
+pub use crate::fixing::{fix, fix_of_refused};
 pub use crate::normal::normal_text;
 pub use crate::parsed::parse_canonical;
 pub use crate::text::canonical;

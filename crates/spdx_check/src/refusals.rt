@@ -6,7 +6,7 @@ ghost use Rattle.std.specs.Str.Lossy.{utf8_valid_len};
 ghost use Rattle.spdx_lexer.specs.Code.{span_of};
 ghost use Rattle.spdx_lexer.specs.Faults.{fault_of};
 ghost use Rattle.spdx_parser.specs.Meaning.{IsRefused};
-ghost use Rattle.spdx_canonical.specs.Fix.{Reads};
+ghost use Rattle.spdx_canonical.specs.Fix.{IsFixOf, Reads};
 ghost use Rattle.finding_forms.specs.Finding.{aid_of, told};
 ghost use Rattle.spdx_hints.specs.Borrowed.{nows};
 ghost use Rattle.spdx_list.specs.Shown.{instead_of};
@@ -18,10 +18,11 @@ ghost use Rattle.spdx_check.specs.Refusals.{aid_in, wrong_of};
 
 use crate::check::Check;
 use finding_forms::{Finding, Help, Place, Sight};
-use spdx_canonical::fix;
+use spdx_canonical::{fix, fix_of_refused};
 use spdx_catalogue::{Catalogue, Failure};
 use spdx_hints::{Meant, hints, phrase};
 use spdx_lexer::error::{ParseError, Reason};
+use spdx_lexer::token::ParseMode;
 use spdx_list::Instead;
 use spdx_parser::parse_nodes;
 use std::alloc::{AllocError, Global};
@@ -104,8 +105,8 @@ impl Refusal<'_> {
 /// it, and by which option another is taken. Bytes that are no UTF-8 are refused too: U+FFFD is shown for each invalid
 /// sequence, the first of which is the fault.
 ///
-/// Linear in the expression's tokens, besides their look-up. One that is refused is read up to four times more, and for
-/// names each heir, or each row of the catalogue, is looked at.
+/// Linear in the expression's tokens, besides their look-up. One that strict reading refuses is read up to three times more,
+/// one that another mode refuses four times, and for names each heir, or each row of the catalogue, is looked at.
 ///
 /// # Errors
 ///
@@ -180,6 +181,7 @@ fn refused<'c>(
     check: &Check<'c>,
     error: &ParseError<'_>,
 ) -> Result<Refusal<'c>, AllocError>
+    requires { Reads check.now.catalogue.now check.now.mode error.now.original.now → ⊥ }
     ensures { IfOk result (λ refusal. wrong_of refusal ≡
         wrong_in check.now.catalogue.now (heirs_in check.now) error.now.original.now
         (fault_of error.now.reason) (span_of error.now.span)
@@ -201,14 +203,28 @@ fn remedy_of<'c>(
     check: &Check<'c>,
     error: &ParseError<'_>,
 ) -> Result<Remedy<'c>, AllocError>
+    requires { Reads check.now.catalogue.now check.now.mode error.now.original.now → ⊥ }
     ensures { IfOk result (λ remedy. aid_in remedy ≡
         aid_by check.now.catalogue.now (heirs_in check.now) error.now.original.now
         (fault_of error.now.reason) (span_of error.now.span)
         (fix_of check.now.catalogue.now error.now.original.now)) }
 {
-    match fix(alloc, check.catalogue, error.original)? {
+    match fix_in(alloc, check, error.original)? {
         Some(mended) => Ok(Remedy::Write(mended)),
         None => names_for(alloc, check, error),
+    }
+}
+
+// The fix of a text that is refused as it is read here.
+fn fix_in(alloc: Global, check: &Check<'_>, text: &str) -> Result<Option<String>, AllocError>
+    requires { Reads check.now.catalogue.now check.now.mode text.now → ⊥ }
+    ensures { IfOk result (λ fix.
+        IsFixOf check.now.catalogue.now text.now (option_map string_bytes fix)) }
+{
+    if check.mode == ParseMode::STRICT {
+        fix_of_refused(alloc, check.catalogue, text)
+    } else {
+        fix(alloc, check.catalogue, text)
     }
 }
 
