@@ -11,7 +11,7 @@ use Rattle.line_engine.specs.Progress.{AppendsBeginning}
 use Rattle.manifests.specs.declared.form.Form.{Form}
 use Rattle.shelves.specs.Opened.{Gives, MayHave}
 use Rattle.shelves.specs.Shelf.{Shelved}
-use Rattle.source_trees.specs.Readings.{IsReading, is_input}
+use Rattle.source_trees.specs.Readings.{IsReading}
 use Rattle.source_trees.specs.declared.reading.Reading.{Reading}
 use Rattle.spdx_check.specs.declared.check.Check.{Check}
 use Rattle.spdx_check.specs.Checking.{ChecksLines}
@@ -29,10 +29,11 @@ use Rattle.check_program.specs.Begun.{AreLinesBegun, ArePathsBegun, IsLinesStepB
 use Rattle.check_program.specs.declared.run.CheckEnd.{CheckEnd}
 use Rattle.check_program.specs.declared.run.Request.{Request}
 use Rattle.check_program.specs.Lines as lines
-use Rattle.check_program.specs.Lines.{content_by, name_at}
+use Rattle.shelves.specs.AtPath.{IsContent, is_input, told_path}
+use Rattle.check_program.specs.Lines.{content_by}
 use Rattle.check_program.specs.Paths.{ArePathSteps, Ways, path_in}
 use Rattle.check_program.specs.Runs.{Inside, IsBegun, IsCheck, IsEndOf, IsNoRun, IsRunBegun, in_beginning, in_ending, in_paths, last_lines, ways_in}
-use Rattle.check_program.proofs.Streams.{all_had, some_had}
+use Rattle.check_program.proofs.Streams.{all_had, content_gives, some_had}
 
 -- nothing is written or told
 pub idle : (out : Told) (h k : Account CheckTrouble) (Is : List ℕ → List CheckTrouble → Type 0) → k ≡ h → Is [] [] → Does out out h k Is
@@ -109,18 +110,18 @@ unopened_begun Holds check name out h k old same = idle out h k (λ text told. I
 -- the path is standard input, or it isn't
 pub at_path_begun : (b : Bool) (s : Shelved) (check : Check) (path : List ℕ) (out out' : Told) (h k : Account CheckTrouble) (old : Tally) → b ≡ is_input path
     → Does out out' h k (λ text told. IsLinesStepBegun (content_by b s path).Holds check (if b then codes "<stdin>" else path) old text told)
-    → Does out out' h k (λ text told. IsLinesStepBegun (lines.Gives s path) check (name_at path) old text told)
+    → Does out out' h k (λ text told. IsLinesStepBegun (lines.Gives s path) check (told_path path) old text told)
 at_path_begun b s check path out out' h k old e d =
     subst (λ (c : Bool). Does out out' h k (λ text told. IsLinesStepBegun (content_by c s path).Holds check (if c then codes "<stdin>" else path) old text told)) e d
 
 -- ---- a file that is read whole
 
 module _ (s : Shelved) (check : Check) (form : Option Form) (path : List ℕ) (old : Tally) where
-  pub part_begun : (bytes : List ℕ) (out out' : Told) (h : Account CheckTrouble) → lines.Gives s path bytes → Writes out out' (IsBeginning (IsPartText check form (name_at path) bytes old))
+  pub part_begun : (bytes : List ℕ) (out out' : Told) (h : Account CheckTrouble) → IsContent s path bytes → Writes out out' (IsBeginning (IsPartText check form (told_path path) bytes old))
       → Does out out' h h (λ text told. IsPartStepBegun s check form path old text told)
-  part_begun bytes out out' h gives w =
-      written_alone out out' h (IsBeginning (IsPartText check form (name_at path) bytes old)) (λ text told. IsPartStepBegun s check form path old text told) w
-      (λ text is. (refl, inr (bytes, gives, is)))
+  part_begun bytes out out' h content w =
+      written_alone out out' h (IsBeginning (IsPartText check form (told_path path) bytes old)) (λ text told. IsPartStepBegun s check form path old text told) w
+      (λ text is. (refl, inr (bytes, content_gives s path bytes content, is)))
 
   pub part_unread : (out : Told) (h k : Account CheckTrouble) → k ≡ h → Does out out h k (λ text told. IsPartStepBegun s check form path old text told)
   part_unread out h k same = idle out h k (λ text told. IsPartStepBegun s check form path old text told) same (refl, inl refl)

@@ -24,7 +24,8 @@ use Rattle.check_files.proofs.Clean.{accepted, manifest_clean, not_passed, passi
 use Rattle.check_program.proofs.TreeClean.{tree_clean}
 use Rattle.check_program.specs.declared.run.Request.{Request}
 use Rattle.check_program.specs.Clean.{AreAllClean, AreLinesClean, AreLinesCleanAt, IsCleanAs, IsLineClean, IsPartClean, IsPartCleanAt, IsPathClean}
-use Rattle.check_program.specs.Lines.{AreFindings, AreLinesChecked, IsLinesStep, name_at, rule_of}
+use Rattle.shelves.specs.AtPath.{told_path}
+use Rattle.check_program.specs.Lines.{AreFindings, AreLinesChecked, IsLinesStep, rule_of}
 use Rattle.check_program.specs.Paths.{ArePathSteps, IsPartChecked, IsPartStep, IsPathStep, IsReadStep, Ways, below, more, none}
 use Rattle.check_program.specs.Runs.{Inside, IsRun, ways_in}
 
@@ -63,10 +64,10 @@ module _ (s : Shelved) (check : Check) where
   lines_step : (path : List ℕ) (old : Tally) (text : List ℕ) (told : List CheckTrouble) (new : Tally) → IsLinesStep s check path old text told new
       → IsPassing new → IsPassing old × AreLinesCleanAt s check path
   lines_step path old text told new (inl (inl h)) passes =
-      let parts = lines_clean check (name_at path) h.0 old text new h.2 passes in (parts.0, (h.0, h.1, parts.1))
+      let parts = lines_clean check (told_path path) h.0 old text new h.2 passes in (parts.0, (h.0, h.1, parts.1))
   lines_step path old text told new (inl (inr h)) passes =
       let lines = (cut h.0).whole in
-      let counted = with_lines (summary_of (rule_of check h.4.finding old (name_at path)) lines) (capped (count_by is_white lines)) old in
+      let counted = with_lines (summary_of (rule_of check h.4.finding old (told_path path)) lines) (capped (count_by is_white lines)) old in
       absurd (not_passed counted new h.4.new_is passes)
   lines_step path old text told new (inr h) passes = absurd (not_passed old new h.new_is passes)
 
@@ -80,7 +81,7 @@ module _ (s : Shelved) (check : Check) where
   part_step : (form : Option Form) (path : List ℕ) (old : Tally) (text : List ℕ) (told : List CheckTrouble) (new : Tally) → IsPartStep s check form path old text told new
       → IsPassing new → IsPassing old × IsPartCleanAt s check form path
   part_step form path old text told new (inl h) passes =
-      let parts = part_clean form (name_at path) h.0 old text new h.2 passes in (parts.0, (h.0, h.1, parts.1))
+      let parts = part_clean form (told_path path) h.0 old text new h.2 passes in (parts.0, (h.0, h.1, parts.1))
   part_step form path old text told new (inr h) passes = absurd (not_passed old new h.new_is passes)
 
   -- ---- paths

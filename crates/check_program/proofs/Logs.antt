@@ -19,7 +19,8 @@ use Rattle.check_files.specs.declared.trouble.CheckTrouble.{CheckTrouble}
 use Rattle.check_files.specs.Parts.{source_at}
 use Rattle.check_files.specs.Tally.{Tally, is_clean, tally_of, with_lines}
 use Rattle.check_program.specs.declared.run.Request.{Request}
-use Rattle.check_program.specs.Lines.{IsLinesStep, name_at, rule_of}
+use Rattle.shelves.specs.AtPath.{told_path}
+use Rattle.check_program.specs.Lines.{IsLinesStep, rule_of}
 use Rattle.check_program.specs.Logs.{IsOneLog, WritesOneLog}
 use Rattle.check_program.specs.Paths.{ArePathSteps, IsPartChecked, IsPartStep, IsPathStep, IsReadStep, Ways, below, more, none}
 use Rattle.check_program.specs.Runs.{Inside, IsRunBy, last_lines, ways_in}
@@ -34,16 +35,16 @@ module _ (s : Shelved) (check : Check) where
   lines_step path old text told new (inl (inl h)) =
       let c = h.2 in
       let lines = lines_of h.0 in
-      let rule = rule_of check c.finding old (name_at path) in
+      let rule = rule_of check c.finding old (told_path path) in
       let blanks = capped (count_by is_white lines) in
-      same_added check old (text_of rule lines) text new (with_lines (summary_of rule lines) blanks old) (lines_counted check c.finding (name_at path) lines blanks old)
+      same_added check old (text_of rule lines) text new (with_lines (summary_of rule lines) blanks old) (lines_counted check c.finding (told_path path) lines blanks old)
       (c.text_is ∙ append-nil (text_of rule lines)) (ap is_clean c.new_is)
   lines_step path old text told new (inl (inr h)) =
       let c = h.4 in
       let lines = (cut h.0).whole in
-      let rule = rule_of check c.finding old (name_at path) in
+      let rule = rule_of check c.finding old (told_path path) in
       let blanks = capped (count_by is_white lines) in
-      same_added check old (text_of rule lines) text new (with_lines (summary_of rule lines) blanks old) (lines_counted check c.finding (name_at path) lines blanks old) c.text_is
+      same_added check old (text_of rule lines) text new (with_lines (summary_of rule lines) blanks old) (lines_counted check c.finding (told_path path) lines blanks old) c.text_is
       (ap is_clean c.new_is)
   lines_step path old text told new (inr h) = nothing_added check old text new h.text_is (ap is_clean h.new_is)
 
@@ -52,7 +53,7 @@ module _ (s : Shelved) (check : Check) where
   part_checked None name bytes old text new h = tags_step check (source_at name (source_bytes bytes)) old text h.0 new h.1
 
   part_step : (form : Option Form) (path : List ℕ) (old : Tally) (text : List ℕ) (told : List CheckTrouble) (new : Tally) → IsPartStep s check form path old text told new → AddsTo check old text new
-  part_step form path old text told new (inl h) = part_checked form (name_at path) h.0 old text new h.2
+  part_step form path old text told new (inl h) = part_checked form (told_path path) h.0 old text new h.2
   part_step form path old text told new (inr h) = nothing_added check old text new h.text_is (ap is_clean h.new_is)
 
   module _ (w : Ways) where

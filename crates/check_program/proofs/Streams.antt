@@ -1,5 +1,5 @@
 -- The lines of what is read piece by piece.
-use Rattle.std.proofs.Common.{◌≡◌, ◌∙◌, ap, inl, inr, refl, subst, ℕ, Bool, List, [], ◌∷◌, ◌++◌, Option, None, Some, Ok, Err, codes, count_by, if◌then◌else◌}
+use Rattle.std.proofs.Common.{◌≡◌, ◌∙◌, ap, inl, inr, refl, subst, ℕ, Bool, true, false, List, [], ◌∷◌, ◌++◌, Option, None, Some, Ok, Err, codes, count_by, if◌then◌else◌}
 use Rattle.std.proofs.lemmas.List.{append-nil}
 use Rattle.std.specs.Io.KnownBytes.{Consumes, IsAtEnd}
 use Rattle.std.specs.declared.io.Error.{Error}
@@ -9,7 +9,7 @@ use Rattle.line_engine.specs.Output.{capped, output_of, summary_of, text_of}
 use Rattle.line_engine.specs.declared.lines.Summary.{Summary}
 use Rattle.shelves.specs.Opened.{Gives, MayHave}
 use Rattle.shelves.specs.Shelf.{Shelved}
-use Rattle.source_trees.specs.Readings.{is_input}
+use Rattle.shelves.specs.AtPath.{IsContent, IsContentBy, is_input}
 use Rattle.spdx_check.specs.declared.check.Check.{Check}
 use Rattle.spdx_check.specs.declared.lines.Checked.{Checked}
 use Rattle.spdx_check.specs.declared.lines.LinesFault.TheVariants as fault
@@ -20,6 +20,7 @@ use Rattle.check_files.specs.Passing.{IsPassed}
 use Rattle.check_files.specs.Tally.{Tally, is_clean, passed_over, with_lines}
 use Rattle.check_files.specs.Told.{Account, Does}
 use Rattle.check_files.proofs.Doing.{heard_alone, hears_nil, known}
+use Rattle.check_program.specs.Lines as lines
 use Rattle.check_program.specs.Lines.{AreRead, Content, IsLinesStep, IsLinesStepOf, content_by, opened, rule_of}
 use Rattle.check_program.specs.Unread.{PassesBroken, PassesUnread}
 
@@ -123,6 +124,14 @@ pub unopened : (content : Content) (check : Check) (name : List ℕ) (e : Error)
     → content.Fails e → PassesUnread name e heard heard' old new → Does out out heard heard' (λ text told. IsLinesStepOf content check name old text told new)
 unopened content check name e out heard heard' old new f p =
     heard_alone out heard heard' (trouble.Unreadable p.0 e ∷ []) (λ text told. IsLinesStepOf content check name old text told new) p.2.tells (inr (passed content.Fails name e heard heard' old new f p))
+
+-- what is read at once is what a stream of the same path would give
+content_gives_by : (b : Bool) (s : Shelved) (path bytes : List ℕ) → IsContentBy b s path bytes → (content_by b s path).Holds bytes
+content_gives_by true s path bytes content = content
+content_gives_by false s path bytes content = content
+
+pub content_gives : (s : Shelved) (path bytes : List ℕ) → IsContent s path bytes → lines.Gives s path bytes
+content_gives s path = content_gives_by (is_input path) s path
 
 -- the path is standard input, or it isn't
 pub at_path : (b : Bool) (s : Shelved) (check : Check) (path : List ℕ) (out out' : Told) (heard heard' : Account CheckTrouble) (old new : Tally) → b ≡ is_input path

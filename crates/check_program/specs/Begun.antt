@@ -14,7 +14,8 @@ use Rattle.check_files.specs.declared.trouble.CheckTrouble.{CheckTrouble}
 use Rattle.check_files.specs.Parts.{source_at}
 use Rattle.check_files.specs.Tally.{Tally}
 use Rattle.check_program.specs.TreeBegun.{IsTreeBegun}
-use Rattle.check_program.specs.Lines.{AreFindings, Gives, name_at, rule_of}
+use Rattle.shelves.specs.AtPath.{told_path}
+use Rattle.check_program.specs.Lines.{AreFindings, Gives, rule_of}
 use Rattle.check_program.specs.Paths.{ArePathSteps, Ways, below}
 
 -- ---- a file of lines
@@ -53,14 +54,14 @@ abbrev pub IsPartStepBegun : Shelved → Check → Option Form → List ℕ → 
     List CheckTrouble → Type 0
 IsPartStepBegun s check form path old text told = (told ≡ []) × ((text ≡ [])
     ⊎ ((bytes : List ℕ) × Gives s path bytes
-    × IsBeginning (IsPartText check form (name_at path) bytes old) text))
+    × IsBeginning (IsPartText check form (told_path path) bytes old) text))
 
 -- ---- a path
 
 abbrev pub IsReadBegun : Shelved → Check → Ways → Reading → List ℕ → Tally → List ℕ →
     List CheckTrouble → Type 0
 IsReadBegun s check w reading.Lines path old text told =
-    IsLinesStepBegun (Gives s path) check (name_at path) old text told
+    IsLinesStepBegun (Gives s path) check (told_path path) old text told
 IsReadBegun s check w reading.Tags path old text told =
     IsPartStepBegun s check None path old text told
 IsReadBegun s check w (reading.Manifest form) path old text told =

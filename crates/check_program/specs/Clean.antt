@@ -13,7 +13,8 @@ use Rattle.check_files.specs.Clean.{AreTagsClean, IsAccepted, IsManifestClean}
 use Rattle.check_files.specs.Parts.{source_at}
 use Rattle.check_program.specs.TreeClean.{IsTreeClean}
 use Rattle.check_program.specs.declared.run.Request.{Request}
-use Rattle.check_program.specs.Lines.{Gives, name_at}
+use Rattle.shelves.specs.AtPath.{told_path}
+use Rattle.check_program.specs.Lines.{Gives}
 use Rattle.check_program.specs.Paths.{Ways, below, path_in}
 use Rattle.check_program.specs.Runs.{Inside, IsCheck, ways_in}
 
@@ -37,7 +38,7 @@ AreLinesCleanAt s check path = (bytes : List ℕ) × Gives s path bytes × AreLi
 
 abbrev pub IsPartCleanAt : Shelved → Check → Option Form → List ℕ → Type 0
 IsPartCleanAt s check form path =
-    (bytes : List ℕ) × Gives s path bytes × IsPartClean check form (name_at path) bytes
+    (bytes : List ℕ) × Gives s path bytes × IsPartClean check form (told_path path) bytes
 
 -- ---- a path
 

@@ -6,9 +6,9 @@ use Rattle.line_engine.specs.Device.{Told}
 use Rattle.line_engine.specs.Lines.{cut, lines_of}
 use Rattle.line_engine.specs.Output.{capped, output_of, summary_of, text_of}
 use Rattle.line_engine.specs.Rule.{Rule}
+use Rattle.shelves.specs.AtPath.{is_input, told_path}
 use Rattle.shelves.specs.Opened.{MayHave}
-use Rattle.shelves.specs.Shelf.{Shelved, to_open, to_read}
-use Rattle.source_trees.specs.Readings.{is_input}
+use Rattle.shelves.specs.Shelf.{Shelved, to_open}
 use Rattle.spdx_check.specs.declared.check.Check.{Check}
 use Rattle.spdx_check.specs.Checking.{heirs_in, is_white, rule_by}
 use Rattle.spdx_check.specs.Finding.{IsTheFinding, Wrong}
@@ -45,18 +45,6 @@ content_at s path = content_by (is_input path) s path
 
 abbrev pub Gives : Shelved → List ℕ → List ℕ → Type 0
 Gives s path bytes = (content_at s path).Holds bytes
-
--- why it can't be read at once
-abbrev pub FailsBy : Bool → Shelved → List ℕ → Error → Type 0
-FailsBy true s path e = s.InputFails e
-FailsBy false s path e = s.Fails to_read path e
-
-abbrev pub Fails : Shelved → List ℕ → Error → Type 0
-Fails s path e = FailsBy (is_input path) s path e
-
--- what it is called
-abbrev pub name_at : List ℕ → List ℕ
-name_at path = if is_input path then codes "<stdin>" else path
 
 -- ---- lines
 
@@ -117,4 +105,4 @@ IsLinesStepOf content check name old text told new =
 abbrev pub IsLinesStep : Shelved → Check → List ℕ → Tally → List ℕ → List CheckTrouble → Tally →
     Type 0
 IsLinesStep s check path old text told new =
-    IsLinesStepOf (content_at s path) check (name_at path) old text told new
+    IsLinesStepOf (content_at s path) check (told_path path) old text told new

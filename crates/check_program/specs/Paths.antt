@@ -23,7 +23,8 @@ use Rattle.check_files.specs.Tally.{Tally}
 use Rattle.check_program.specs.Steps.{ArePassed}
 use Rattle.check_program.specs.Trees.{IsTreeStep, Manner}
 use Rattle.check_program.specs.declared.path.Ways as written
-use Rattle.check_program.specs.Lines.{Fails, Gives, IsLinesStep, name_at}
+use Rattle.shelves.specs.AtPath.{FailsAt, told_path}
+use Rattle.check_program.specs.Lines.{Gives, IsLinesStep}
 
 abbrev pub path_in : Bor (List ℕ) → List ℕ
 path_in path = path.now
@@ -54,13 +55,13 @@ IsPartChecked check None name bytes old text new = (count : ℕ) ×
 abbrev pub IsPartRead : Shelved → Check → Option Form → List ℕ → Tally → List ℕ →
     List CheckTrouble → Tally → Type 0
 IsPartRead s check form path old text told new = (bytes : List ℕ) × Gives s path bytes
-    × IsPartChecked check form (name_at path) bytes old text new × (told ≡ [])
+    × IsPartChecked check form (told_path path) bytes old text new × (told ≡ [])
 
 -- it can't be read, or is checked
 abbrev pub IsPartStep : Shelved → Check → Option Form → List ℕ → Tally → List ℕ →
     List CheckTrouble → Tally → Type 0
 IsPartStep s check form path old text told new = IsPartRead s check form path old text told new
-    ⊎ IsPassed (name_at path) (Fails s path) old text told new
+    ⊎ IsPassed (told_path path) (FailsAt s path) old text told new
 
 -- ---- a path
 

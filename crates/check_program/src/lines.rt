@@ -4,32 +4,19 @@ ghost use Rattle.std.specs.Prelude.{◌≡◌, ◌∷◌, [], IfErr, OnErr, OnOk
 ghost use Rattle.check_files.specs.Tally.{tally_of, with_lines};
 ghost use Rattle.check_files.specs.Told.{Does, IsBrokenOff};
 ghost use Rattle.check_files.specs.declared.trouble.CheckFault.TheVariants.{Memory};
+ghost use Rattle.shelves.specs.AtPath.{told_path};
 ghost use Rattle.shelves.specs.Opened.{MayHave};
-ghost use Rattle.source_trees.specs.Readings.{is_input};
 ghost use Rattle.check_program.specs.Begun.{IsLinesStepBegun};
-ghost use Rattle.check_program.specs.Lines.{AreRead, Gives, IsLinesStep, IsLinesStepOf, name_at, of_file, of_input, opened};
+ghost use Rattle.check_program.specs.Lines.{AreRead, Gives, IsLinesStep, IsLinesStepOf, of_file, of_input, opened};
 ghost use Rattle.check_program.specs.Unread.{PassesBroken, PassesUnread};
 
 use check_files::{CheckFault, CheckTrouble, Telling, pass_over};
 use check_sources::Sums;
 use line_engine::device::{Sink, Source};
-use shelves::OpenShelf;
+use shelves::{OpenShelf, is_input};
 use spdx_check::{Check, Checked, LinesFault, check_lines};
 use std::alloc::Global;
 use std::io;
-
-pub(crate) fn is_input(path: &str) -> bool
-    ensures { result ≡ is_input path.now }
-{
-    path == "-"
-}
-
-/// The path, or what standard input is called.
-pub(crate) fn name_at(path: &str) -> &str
-    ensures { result.now ≡ name_at path.now }
-{
-    if is_input(path) { "<stdin>" } else { path }
-}
 
 /// Writes the findings of the lines of the file, or of standard input, and counts them. Where it can't be opened, or what is read
 /// breaks off behind these lines, that is told and it is passed over.
@@ -52,7 +39,7 @@ pub(crate) fn check_list<S: OpenShelf, O: Sink, T: Telling>(
     ensures err { IfErr result (IsBrokenOff (O.told output.new)) }
     ensures begun { OnErr result (Does (O.told output.old) (O.told output.new)
         (T.told teller.old) (T.told teller.new) (λ text told. IsLinesStepBegun
-        (Gives (S.Shelf.told shelf.now) path.now) check.now (name_at path.now)
+        (Gives (S.Shelf.told shelf.now) path.now) check.now (told_path path.now)
         (tally_of sums.old) text told)) }
 {
     if is_input(path) {

@@ -5,7 +5,6 @@ ghost use Rattle.check_files.specs.Tally.{tally_of};
 ghost use Rattle.check_files.specs.Told.{Does, IsBrokenOff, Writes};
 ghost use Rattle.check_files.specs.Begun.{IsBeginning};
 ghost use Rattle.check_program.specs.Begun.{ArePathsBegun, IsPartStepBegun, IsPartText, IsPathBegun, IsReadBegun};
-ghost use Rattle.check_program.specs.Lines.{Fails, Gives};
 ghost use Rattle.check_program.specs.Paths as spec;
 ghost use Rattle.check_program.specs.Paths.{
   ArePathSteps,
@@ -19,17 +18,16 @@ ghost use Rattle.check_program.specs.Paths.{
 ghost use Rattle.check_files.specs.declared.trouble.CheckFault.TheVariants.{Memory};
 ghost use Rattle.check_program.specs.Trees.{manner_of};
 
-use crate::lines::{check_list, is_input, name_at, pass_unread};
+use crate::lines::{check_list, pass_unread};
 use crate::tree::{Manner, check_tree};
 use check_files::{CheckFault, CheckTrouble, Telling, check_declared, check_tagged, pass_over};
 use check_sources::{Source, Sums, bytes_or, utf16_text, without_mark};
 use line_engine::device::Sink;
 use manifests::Form;
-use shelves::{OpenShelf, Shelf};
+use shelves::{OpenShelf, Shelf, bytes_at, told_path};
 use source_trees::{Reading, ReadingFault, Taken, Wanted, reading_of};
 use spdx_check::Check;
 use std::alloc::Global;
-use std::io;
 
 /// What is taken of what is named.
 #[derive(Clone, Copy)]
@@ -202,21 +200,10 @@ fn check_whole<S: Shelf, O: Sink, T: Telling>(
         (T.told teller.old) (T.told teller.new) (λ text told. IsPartStepBegun
         (S.told shelf.now) check.now form path.now (tally_of sums.old) text told)) }
 {
-    let name = name_at(path);
+    let name = told_path(path);
     match bytes_at(alloc, shelf, path) {
         Ok(bytes) => check_part(alloc, check, form, name, &bytes, sums, output),
         Err(error) => pass_unread(alloc, name, error, sums, teller),
-    }
-}
-
-fn bytes_at<S: Shelf>(alloc: Global, shelf: &S, path: &str) -> io::Result<Vec<u8>>
-    ensures ok { IfOk result (λ bytes. Gives (S.told shelf.now) path.now bytes.items) }
-    ensures err { IfErr result (Fails (S.told shelf.now) path.now) }
-{
-    if is_input(path) {
-        shelf.input(alloc)
-    } else {
-        shelf.read(alloc, path)
     }
 }
 

@@ -8,7 +8,8 @@ use Rattle.file_fixes.proofs.Accepted.{stays}
 use Rattle.fix_program.specs.declared.file.Deed.{Deed}
 use Rattle.fix_program.specs.declared.file.Deed.TheVariants as deed
 use Rattle.fix_program.specs.declared.file.Fixed.{Fixed}
-use Rattle.fix_program.specs.Files.{AreAllRead, IsDeedBy, IsFixedAt, IsUntouched, is_input, is_replaced, read_as}
+use Rattle.shelves.specs.AtPath.{is_input}
+use Rattle.fix_program.specs.Files.{AreAllRead, IsDeedBy, IsFixedAt, IsUntouched, is_replaced, read_as}
 
 not_replaced : (w input : Bool) (p : Parts) (path old : List ℕ) (new : Option (Vec ℕ)) (d : Deed) → new ≡ None → IsDeedBy w input p path old new d → is_replaced d ≡ false
 not_replaced false input p path old None d none h = ap is_replaced h

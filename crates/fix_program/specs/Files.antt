@@ -2,6 +2,7 @@
 use Rattle.std.specs.Prelude.{◌≡◌, ◌⊎◌, ℕ, Bool, true, false, ◌&&◌, List, Option, None, Some, is_some, bytes_eq, codes, string_bytes, if◌then◌else◌}
 use Rattle.std.specs.Global.{Vec}
 use Rattle.std.specs.declared.io.Error.{Error}
+use Rattle.shelves.specs.AtPath.{IsContent, is_input, told_path}
 use Rattle.shelves.specs.Shelf.{Shelved, to_look, to_read}
 use Rattle.shelves.specs.declared.shelf.Kind.{Kind}
 use Rattle.shelves.specs.declared.shelf.Kind.TheVariants as kind
@@ -21,16 +22,7 @@ use Rattle.file_fixes.specs.declared.mended.Parts.{Parts}
 use Rattle.fix_program.specs.declared.trouble.FixTrouble.{FixTrouble}
 use Rattle.fix_program.specs.declared.trouble.FixTrouble.TheVariants as trouble
 
--- `-` is standard input
-abbrev pub is_input : List ℕ → Bool
-is_input path = bytes_eq path (codes "-")
-
 -- ---- what is read
-
--- what the file at the path holds, or standard input
-abbrev pub IsContentBy : Bool → Shelved → List ℕ → List ℕ → Type 0
-IsContentBy true s path bytes = s.IsInput bytes
-IsContentBy false s path bytes = s.Holds path bytes
 
 -- a device or a pipe
 abbrev pub is_special : Kind → Bool
@@ -48,7 +40,7 @@ IsWritable false input s path = Unit {0}
 
 -- what is read of the path, and where files are written it is no special file
 pub record IsRead (s : Shelved) (is_written : Bool) (path bytes : List ℕ) : Type 0 where
-  pub content : IsContentBy (is_input path) s path bytes
+  pub content : IsContent s path bytes
   pub writable : IsWritable is_written (is_input path) s path
 
 -- by what the file at the path is known to hold these bytes; standard input is known by nothing
@@ -83,7 +75,7 @@ IsUnread s is_written path t = IsUnreadBy is_written (is_input path) s path t
 
 -- the path under which it is read: standard input has none where it is put out as it is mended
 abbrev pub read_as : Bool → List ℕ → List ℕ
-read_as is_written path = if is_written && is_input path then codes "<stdin>" else path
+read_as is_written path = if is_written then told_path path else path
 
 -- it is no manifest of its form
 abbrev pub IsUnmendedAs : Rows → Parts → List ℕ → List ℕ → FixTrouble → Type 0

@@ -17,7 +17,7 @@ use Rattle.file_fixes.specs.declared.mended.Parts.{Parts}
 use Rattle.file_fixes.specs.declared.mended.Parts.TheVariants as parts
 use Rattle.fix_program.specs.declared.trouble.FixTrouble.TheVariants as trouble
 use Rattle.fix_program.specs.Ends.{IsFileEnd}
-use Rattle.fix_program.specs.Files.{is_input}
+use Rattle.shelves.specs.AtPath.{is_input}
 use Rattle.fix_program.specs.Troubles.{is_of_memory}
 
 -- ---- which parts of a file are mended

@@ -1,5 +1,6 @@
 // What is done with a file, over a shelf.
 
+ghost use Rattle.shelves.specs.AtPath.{is_input};
 ghost use Rattle.shelves.specs.Shelf.{to_read};
 ghost use Rattle.std.specs.Prelude.{◌≡◌, Bool, false, IfErr, IfOk, OnOk, codes};
 ghost use Rattle.fix_program.specs.Files as spec;
@@ -21,7 +22,6 @@ ghost use Rattle.fix_program.specs.Files.{
   IsUnreadAs,
   IsUnmendedAs,
   IsUntouched,
-  is_input,
 };
 ghost use Rattle.file_fixes.specs.Mended.{IsMended};
 ghost use Rattle.shelves.specs.declared.shelf.Stamp.{Stamp};
@@ -29,7 +29,7 @@ ghost use Rattle.shelves.specs.declared.shelf.Stamp.{Stamp};
 use crate::diffs::{diff_name, diff_text};
 use crate::trouble::FixTrouble;
 use file_fixes::{Content, MendError, Outcome, Parts, mended_of};
-use shelves::{Kind, Shelf, Stamp, Stamped};
+use shelves::{Kind, Shelf, Stamp, Stamped, is_input, told_path};
 use spdx_catalogue::Catalogue;
 use std::alloc::{AllocError, Global};
 
@@ -125,11 +125,7 @@ fn fixed_at<S: Shelf>(
 fn read_as(is_written: bool, path: &str) -> &str
     ensures { result.now ≡ spec.read_as is_written path.now }
 {
-    if is_written && path == "-" {
-        "<stdin>"
-    } else {
-        path
-    }
+    if is_written { told_path(path) } else { path }
 }
 
 fn outcome_of(
@@ -165,7 +161,7 @@ fn read_at<S: Shelf>(
         IsKnown (is_input path.now) (S.told shelf.now) path.now file.bytes.items file.stamp) }
     ensures err { IfErr result (IsUnread (S.told shelf.now) is_written path.now) }
 {
-    if path == "-" {
+    if is_input(path) {
         input(alloc, shelf)
     } else if is_written {
         regular_file(alloc, shelf, path)
@@ -230,7 +226,7 @@ fn deed_of(
     let Stamped { bytes, stamp } = read;
     if !is_written {
         shown(alloc, path, &bytes, new)
-    } else if path == "-" {
+    } else if is_input(path) {
         Ok(Deed::Put(new.unwrap_or(bytes)))
     } else {
         Ok(replaced(alloc, parts, path, stamp, new)?)

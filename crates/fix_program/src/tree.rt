@@ -10,7 +10,7 @@ use crate::ends::{FileEnd, alone, file_end, left_out};
 use crate::file::Manner;
 use crate::trouble::FixTrouble;
 use file_fixes::Parts;
-use shelves::Shelf;
+use shelves::{Shelf, is_input};
 use source_trees::{Seen, Taken, Walk, form_below};
 use std::alloc::{AllocError, Global};
 use std::io;
@@ -177,7 +177,7 @@ fn add_file<S: Shelf>(
 fn as_file(path: &str) -> &str
     ensures { result.now ≡ spec.as_file path.now }
 {
-    if path == "-" { "./-" } else { path }
+    if is_input(path) { "./-" } else { path }
 }
 
 // What is mended of a file below a folder, if anything is.

@@ -8,7 +8,8 @@ use Rattle.std.specs.declared.io.Error.{Error}
 use Rattle.std.specs.declared.io.ErrorKind.{ErrorKind}
 use Rattle.std.specs.declared.io.ErrorKind.TheVariants as kind
 use Rattle.line_engine.specs.Lines.{lines_of}
-use Rattle.shelves.specs.Shelf.{Shelved, to_read}
+use Rattle.shelves.specs.AtPath.{FailsAt, IsContent, told_path}
+use Rattle.shelves.specs.Shelf.{Shelved}
 use Rattle.spdx_requirement.specs.Rows.{Rows}
 use Rattle.list_program.specs.Named.{InsideBytes, IsNamedList}
 use Rattle.list_program.specs.Troubles.{IsNoNamedList}
@@ -26,33 +27,9 @@ use Rattle.meaning_program.specs.declared.trouble.MeaningTrouble.TheVariants as 
 abbrev pub path_in : Bor (List ℕ) → List ℕ
 path_in path = path.now
 
--- `-` is standard input
-abbrev pub is_input : List ℕ → Bool
-is_input path = bytes_eq path (codes "-")
-
--- what the file at the path holds, or standard input
-abbrev pub IsContentBy : Bool → Shelved → List ℕ → List ℕ → Type 0
-IsContentBy true s path bytes = s.IsInput bytes
-IsContentBy false s path bytes = s.Holds path bytes
-
-abbrev pub IsContent : Shelved → List ℕ → List ℕ → Type 0
-IsContent s path bytes = IsContentBy (is_input path) s path bytes
-
--- why it can't be read
-abbrev pub FailsBy : Bool → Shelved → List ℕ → Error → Type 0
-FailsBy true s path e = s.InputFails e
-FailsBy false s path e = s.Fails to_read path e
-
-abbrev pub Fails : Shelved → List ℕ → Error → Type 0
-Fails s path e = FailsBy (is_input path) s path e
-
 abbrev pub refuses_memory : ErrorKind → Bool
 refuses_memory kind.OutOfMemory = true
 refuses_memory _ = false
-
--- the path of a file, as it is told
-abbrev pub told_path : List ℕ → List ℕ
-told_path path = if is_input path then codes "<stdin>" else path
 
 pub record IsSimplifiedAt (s : Shelved) (c : Rows) (is_lax : Bool) (path : List ℕ)
     (x : Simplified) : Type 0 where
@@ -66,7 +43,7 @@ abbrev pub IsEndOf : Shelved → Rows → Bool → List ℕ → FileEnd → Type
 IsEndOf s c is_lax path (end.Read n x) =
     (string_bytes n ≡ told_path path) × IsSimplifiedAt s c is_lax path x
 IsEndOf s c is_lax path (end.Unread n e) =
-    (string_bytes n ≡ told_path path) × Fails s path e × (refuses_memory (error_kind e) ≡ false)
+    (string_bytes n ≡ told_path path) × FailsAt s path e × (refuses_memory (error_kind e) ≡ false)
 
 -- ---- a run
 

@@ -17,7 +17,7 @@ ghost use Rattle.meaning_program.specs.Files.{
 use crate::simplified::{Simplified, simplify_lines};
 use crate::trouble::MeaningTrouble;
 use list_program::{Inside, named_list};
-use shelves::Shelf;
+use shelves::{Shelf, bytes_at, told_path};
 use spdx_catalogue::Catalogue;
 use std::alloc::{AllocError, Global};
 use std::io::{self, ErrorKind};
@@ -137,8 +137,8 @@ fn end_of<S: Shelf>(
 ) -> Result<FileEnd, AllocError>
     ensures { IfOk result (IsEndOf (S.told shelf.now) catalogue.now is_lax path.now) }
 {
-    let name = String::from_str(alloc, told(path))?;
-    match content(alloc, shelf, path) {
+    let name = String::from_str(alloc, told_path(path))?;
+    match bytes_at(alloc, shelf, path) {
         Ok(bytes) => {
             let simplified = simplify_lines(alloc, catalogue, is_lax, &bytes)?;
             Ok(FileEnd::Read(name, simplified))
@@ -152,23 +152,4 @@ fn refuses_memory(error: &io::Error) -> bool
     ensures { result ≡ spec.refuses_memory (error_kind error.now) }
 {
     matches!(error.kind(), ErrorKind::OutOfMemory)
-}
-
-// The path of a file, as it is told.
-fn told(path: &str) -> &str
-    ensures { result.now ≡ spec.told_path path.now }
-{
-    if path == "-" { "<stdin>" } else { path }
-}
-
-// What the file holds, or standard input.
-fn content<S: Shelf>(alloc: Global, shelf: &S, path: &str) -> io::Result<Vec<u8>>
-    ensures ok { IfOk result (λ bytes. spec.IsContent (S.told shelf.now) path.now bytes.items) }
-    ensures err { IfErr result (spec.Fails (S.told shelf.now) path.now) }
-{
-    if path == "-" {
-        shelf.input(alloc)
-    } else {
-        shelf.read(alloc, path)
-    }
 }

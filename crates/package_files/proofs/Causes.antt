@@ -6,7 +6,7 @@ use Rattle.package_files.specs.declared.fault.FileFault.TheVariants as fault
 use Rattle.package_files.specs.declared.listed.Source.{Source}
 use Rattle.package_files.specs.declared.listed.Wanted.{Wanted}
 use Rattle.package_files.specs.Faults.{IsUnread, IsUnreadAs, IsNotRead, IsNotListed, IsNotEarlier, IsNotListedBefore}
-use Rattle.package_files.specs.Listed.{IsContent, told_path}
+use Rattle.shelves.specs.AtPath.{IsContent, told_path}
 
 pub unread : (s : Shelved) (w : Wanted) (path : List ℕ) (f : FileFault) → IsUnread s path f → IsNotListed s w path f
 unread s w path (fault.Unreadable n e) is = is

@@ -13,7 +13,8 @@ use Rattle.package_files.specs.declared.listed.Listed.{Listed}
 use Rattle.package_files.specs.declared.listed.Source.{Source}
 use Rattle.package_files.specs.declared.listed.Wanted.{Wanted}
 use Rattle.package_files.specs.Faults.{IsEmptyOf, IsNotEarlier, IsNotListed, IsNotRead}
-use Rattle.package_files.specs.Listed.{IsContent, IsEarlier, IsListedAt, IsReadFrom, Passes, source_before, told_path, wanted_of}
+use Rattle.shelves.specs.AtPath.{IsContent, told_path}
+use Rattle.package_files.specs.Listed.{IsEarlier, IsListedAt, IsReadFrom, Passes, source_before, wanted_of}
 use Rattle.package_files.specs.Reading.{read}
 
 kept : {X Y : Type 0} (h : Y → X) (b : Bool) (y : Y) (ys : List Y) → map h (cond b (y ∷ ys) ys) ≡ cond b (h y ∷ map h ys) (map h ys)

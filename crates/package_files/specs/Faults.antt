@@ -3,13 +3,14 @@ use Rattle.std.specs.Prelude.{◌≡◌, ℕ, Bool, true, false, List, [], Optio
 use Rattle.std.specs.declared.io.Error.{Error}
 use Rattle.package_items.specs.Rows.{fault_of}
 use Rattle.package_sources.specs.declared.form.Form.{Form}
+use Rattle.shelves.specs.AtPath.{FailsAt, IsContent, told_path}
 use Rattle.shelves.specs.Shelf.{Shelved, to_read}
 use Rattle.package_files.specs.declared.fault.FileFault.{FileFault}
 use Rattle.package_files.specs.declared.fault.FileFault.TheVariants as fault
 use Rattle.package_files.specs.declared.listed.Listed.{Listed}
 use Rattle.package_files.specs.declared.listed.Source.{Source}
 use Rattle.package_files.specs.declared.listed.Wanted.{Wanted}
-use Rattle.package_files.specs.Listed.{is_input, told_path, IsContent, read_before}
+use Rattle.package_files.specs.Listed.{read_before}
 use Rattle.package_files.specs.Reading.{read}
 
 -- it can't be read by such an error, and is told so
@@ -18,13 +19,9 @@ IsUnreadAs told Fails (fault.Unreadable n e) = (string_bytes n ≡ told) × Fail
 IsUnreadAs told Fails fault.Memory = Unit {0}
 IsUnreadAs told Fails f = ⊥
 
-abbrev pub FailsBy : Bool → Shelved → List ℕ → Error → Type 0
-FailsBy true s path e = s.InputFails e
-FailsBy false s path e = s.Fails to_read path e
-
 -- the file at the path, or standard input, can't be read
 abbrev pub IsUnread : Shelved → List ℕ → FileFault → Type 0
-IsUnread s path f = IsUnreadAs (told_path path) (FailsBy (is_input path) s path) f
+IsUnread s path f = IsUnreadAs (told_path path) (FailsAt s path) f
 
 -- these bytes aren't of their form
 abbrev pub IsNotRead : Source → List ℕ → List ℕ → FileFault → Type 0
@@ -49,7 +46,7 @@ pub record IsEmpty (s : Shelved) (w : Wanted) (path : List ℕ) : Type 0 where
 
 abbrev pub IsNotListed : Shelved → Wanted → List ℕ → FileFault → Type 0
 IsNotListed s w path (fault.Unreadable n e) =
-    (string_bytes n ≡ told_path path) × FailsBy (is_input path) s path e
+    (string_bytes n ≡ told_path path) × FailsAt s path e
 IsNotListed s w path (fault.Source n f) =
     (bytes : List ℕ) × IsContent s path bytes × (string_bytes n ≡ told_path path) ×
     (read w.source (told_path path) bytes ≡ Err (fault_of f))

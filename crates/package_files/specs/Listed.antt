@@ -1,33 +1,18 @@
 -- The packages of a file.
-use Rattle.std.specs.Prelude.{◌≡◌, ◌≢◌, ℕ, Bool, true, false, not, length, List, [], Option, None, Result, Ok, filter, map, bytes_eq, codes, string_bytes, if◌then◌else◌}
+use Rattle.std.specs.Prelude.{◌≡◌, ◌≢◌, ℕ, Bool, true, false, not, length, List, [], Option, None, Result, Ok, filter, map, string_bytes, if◌then◌else◌}
 use Rattle.std.specs.List.{list_all}
 use Rattle.std.specs.Char.{is_ascii_whitespace}
 use Rattle.package_items.specs.Rows.{Fault, PackageRow, row_of}
 use Rattle.package_sources.specs.declared.form.Form.{Form}
 use Rattle.package_sources.specs.declared.form.Form.TheVariants as form
 use Rattle.package_sources.specs.Guess.{guessed_form}
+use Rattle.shelves.specs.AtPath.{IsContent, told_path}
 use Rattle.shelves.specs.Shelf.{Shelved}
 use Rattle.package_files.specs.declared.listed.Listed.{Listed}
 use Rattle.package_files.specs.declared.listed.Source.{Source}
 use Rattle.package_files.specs.declared.listed.Source.TheVariants as source
 use Rattle.package_files.specs.declared.listed.Wanted.{Wanted}
 use Rattle.package_files.specs.Reading.{read}
-
--- `-` is standard input
-abbrev pub is_input : List ℕ → Bool
-is_input path = bytes_eq path (codes "-")
-
--- the path of a file, as it is told
-abbrev pub told_path : List ℕ → List ℕ
-told_path path = if is_input path then codes "<stdin>" else path
-
--- what the file at the path holds, or standard input
-abbrev pub IsContentBy : Bool → Shelved → List ℕ → List ℕ → Type 0
-IsContentBy true s path bytes = s.IsInput bytes
-IsContentBy false s path bytes = s.Holds path bytes
-
-abbrev pub IsContent : Shelved → List ℕ → List ℕ → Type 0
-IsContent s path bytes = IsContentBy (is_input path) s path bytes
 
 -- those that aren't of one's own project
 abbrev pub others : List PackageRow → List PackageRow

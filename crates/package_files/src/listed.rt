@@ -1,19 +1,18 @@
 // The packages of a file, over a shelf.
 
+ghost use Rattle.shelves.specs.AtPath.{IsContent};
 ghost use Rattle.shelves.specs.Shelf.{to_read};
-ghost use Rattle.std.specs.Prelude.{◌≡◌, ℕ, IfErr, IfOk, List, codes, map, string_bytes};
+ghost use Rattle.std.specs.Prelude.{◌≡◌, ℕ, IfErr, IfOk, List, map, string_bytes};
 ghost use Rattle.std.specs.Char.{is_ascii_whitespace};
 ghost use Rattle.std.specs.List.{list_all};
 ghost use Rattle.package_items.specs.Rows.{row_of};
 ghost use Rattle.package_files.specs.Listed as spec;
 ghost use Rattle.package_files.specs.Listed.{
-  IsContent,
   IsEarlier,
   IsListedAt,
   IsListedBefore,
   IsReadFrom,
   Passes,
-  told_path,
 };
 ghost use Rattle.package_files.specs.Faults.{
   IsEmptyOf,
@@ -28,7 +27,7 @@ ghost use Rattle.package_files.specs.Faults.{
 use crate::fault::FileFault;
 use crate::reading::read;
 use package_sources::{Form, Package, Pointers, SourceError, guessed_form};
-use shelves::Shelf;
+use shelves::{Shelf, bytes_at, told_path};
 use std::alloc::{AllocError, Global};
 
 /// How files are read.
@@ -78,7 +77,7 @@ pub fn listed_at<S: Shelf>(
     ensures err { IfErr result (IsNotListed (S.told shelf.now) wanted.entry path.now) }
 {
     let bytes = content(alloc, shelf, path)?;
-    let listed = listed_in(alloc, wanted.source, told(path), &bytes)?;
+    let listed = listed_in(alloc, wanted.source, told_path(path), &bytes)?;
     let listed = unless_empty(wanted, listed)?;
     Ok(without_own(wanted, listed))
 }
@@ -207,20 +206,9 @@ fn content<S: Shelf>(alloc: Global, shelf: &S, path: &str) -> Result<Vec<u8>, Fi
     ensures ok { IfOk result (λ bytes. IsContent (S.told shelf.now) path.now bytes.items) }
     ensures err { IfErr result (IsUnread (S.told shelf.now) path.now) }
 {
-    if path == "-" {
-        input_bytes(alloc, shelf)
-    } else {
-        file_bytes(alloc, shelf, path)
-    }
-}
-
-fn input_bytes<S: Shelf>(alloc: Global, shelf: &S) -> Result<Vec<u8>, FileFault>
-    ensures ok { IfOk result (λ bytes. (S.told shelf.now).IsInput bytes.items) }
-    ensures err { IfErr result (IsUnreadAs (codes "<stdin>") (S.told shelf.now).InputFails) }
-{
-    match shelf.input(alloc) {
+    match bytes_at(alloc, shelf, path) {
         Ok(bytes) => Ok(bytes),
-        Err(error) => Err(FileFault::Unreadable(String::from_str(alloc, "<stdin>")?, error)),
+        Err(error) => Err(FileFault::Unreadable(String::from_str(alloc, told_path(path))?, error)),
     }
 }
 
@@ -233,11 +221,4 @@ fn file_bytes<S: Shelf>(alloc: Global, shelf: &S, path: &str) -> Result<Vec<u8>,
         Ok(bytes) => Ok(bytes),
         Err(error) => Err(FileFault::Unreadable(String::from_str(alloc, path)?, error)),
     }
-}
-
-// The path of a file, as it is told.
-fn told(path: &str) -> &str
-    ensures { result.now ≡ told_path path.now }
-{
-    if path == "-" { "<stdin>" } else { path }
 }

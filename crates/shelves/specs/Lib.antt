@@ -1,3 +1,4 @@
+pub mod AtPath
 pub mod Opened
 pub mod Shelf
 pub mod Variables

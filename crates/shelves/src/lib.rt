@@ -14,6 +14,7 @@ mod held;
 mod held_bytes;
 pub mod open;
 mod open_system;
+pub mod path;
 pub mod shelf;
 mod system;
 
@@ -21,5 +22,6 @@ pub use crate::held::{Held, HeldFile, HeldFolder, HeldLink, HeldVariable};
 pub use crate::held_bytes::HeldBytes;
 pub use crate::open::OpenShelf;
 pub use crate::open_system::OpenSystem;
+pub use crate::path::{bytes_at, is_input, told_path};
 pub use crate::shelf::{Entries, Entry, Kind, Shelf, Stamp, Stamped, VariableFault};
 pub use crate::system::SystemShelf;

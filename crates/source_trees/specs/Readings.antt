@@ -1,5 +1,6 @@
 -- As what a file is read, or a folder.
-use Rattle.std.specs.Prelude.{◌≡◌, ℕ, Bool, true, false, List, Option, Some, None, option_map, codes, bytes_eq, string_bytes, ◌&&◌, if◌then◌else◌}
+use Rattle.std.specs.Prelude.{◌≡◌, ℕ, Bool, true, false, List, Option, Some, None, option_map, string_bytes, ◌&&◌, if◌then◌else◌}
+use Rattle.shelves.specs.AtPath.{is_input}
 use Rattle.shelves.specs.Shelf.{Shelved, to_look}
 use Rattle.manifests.specs.declared.form.Form.{Form}
 use Rattle.manifests.specs.Names.{form_of, form_named}
@@ -35,9 +36,6 @@ file_reading wanted.ByName path = Some (or_lines (form_of path))
 file_reading wanted.Headers path = Some reading.Tags
 file_reading wanted.Manifests path = option_map reading.Manifest (form_of path)
 file_reading (wanted.Form word) path = option_map reading.Manifest (form_named word.now)
-
-abbrev pub is_input : List ℕ → Bool
-is_input path = bytes_eq path (codes "-")
 
 -- whether the path is a folder; standard input is none
 abbrev pub IsTreeBy : Bool → Shelved → List ℕ → Bool → Type 0

@@ -6,7 +6,7 @@ ghost use Rattle.source_trees.specs.Readings as spec;
 ghost use Rattle.source_trees.specs.Readings.{IsNoReading, IsReading};
 
 use manifests::{Form, form_named, form_of};
-use shelves::Shelf;
+use shelves::{Shelf, is_input};
 use std::alloc::{AllocError, Global};
 use std::io;
 
@@ -108,7 +108,7 @@ fn is_tree<S: Shelf>(alloc: Global, shelf: &S, path: &str) -> Result<bool, Readi
     ensures ok { IfOk result (spec.IsTree (S.told shelf.now) path.now) }
     ensures err { IfErr result (spec.IsUnlooked (S.told shelf.now) path.now) }
 {
-    if path == "-" {
+    if is_input(path) {
         return Ok(false);
     }
     match shelf.is_folder(path) {

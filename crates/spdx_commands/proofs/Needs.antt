@@ -11,7 +11,8 @@ use Rattle.spdx_requirement.specs.Rows.{Rows}
 use Rattle.file_fixes.specs.Mended.{bytes_in}
 use Rattle.file_fixes.proofs.Accepted.{stays}
 use Rattle.file_fixes.specs.declared.mended.Parts.{Parts}
-use Rattle.fix_program.specs.Files.{IsDeedBy, IsFixedAt, IsRead, is_input, read_as}
+use Rattle.shelves.specs.AtPath.{is_input}
+use Rattle.fix_program.specs.Files.{IsDeedBy, IsFixedAt, IsRead, read_as}
 use Rattle.fix_program.specs.Files as files
 use Rattle.fix_program.specs.declared.ends.FileEnd.{FileEnd}
 use Rattle.fix_program.specs.declared.ends.FileEnd.TheVariants as end

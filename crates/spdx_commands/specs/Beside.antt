@@ -15,7 +15,7 @@ use Rattle.shelves.specs.declared.shelf.Kind.{Kind}
 use Rattle.shelves.specs.declared.shelf.Kind.TheVariants as kind
 use Rattle.source_trees.specs.Stops.{below}
 use Rattle.source_trees.specs.Visits.{is_beside}
-use Rattle.fix_program.specs.Files.{is_input}
+use Rattle.shelves.specs.AtPath.{is_input}
 use Rattle.spdx_troubles.specs.declared.trouble.Trouble.{Trouble}
 use Rattle.spdx_troubles.specs.declared.trouble.Trouble.TheVariants as trouble
 

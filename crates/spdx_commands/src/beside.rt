@@ -18,7 +18,7 @@ ghost use Rattle.spdx_commands.specs.Said.{HearsBeginning};
 ghost use Rattle.spdx_troubles.specs.declared.trouble.Trouble.TheVariants.{LeftBehind};
 
 use crate::listener::Listener;
-use shelves::{Entries, Entry, Kind, Shelf};
+use shelves::{Entries, Entry, Kind, Shelf, is_input};
 use source_trees::{below, is_beside};
 use spdx_troubles::Trouble;
 use std::alloc::{AllocError, Global};
@@ -97,7 +97,7 @@ fn tell_beside<'p, S: Shelf, T: Listener>(
 fn is_file<S: Shelf>(shelf: &S, path: &str) -> bool
     ensures { IsFileBy result (S.told shelf.now) path.now }
 {
-    if path == "-" {
+    if is_input(path) {
         return false;
     }
     match shelf.is_folder(path) {

@@ -2,7 +2,7 @@ use Rattle.std.proofs.Common.{ℕ, List, subst, sym}
 use Rattle.check_files.specs.Tally.{tally_of}
 use Rattle.check_files.specs.Told.{Writes}
 use Rattle.check_files.proofs.Steps.{on_ok}
-use Rattle.check_program.specs.Lines.{Gives}
+use Rattle.shelves.specs.AtPath.{IsContent}
 use Rattle.check_program.specs.Paths.{IsPartChecked}
 use Rattle.check_program.specs.Unread.{PassesUnread}
 use Rattle.check_program.proofs.Wholes.{read, unread}
@@ -22,8 +22,8 @@ returns-in-Ok-clause-ok g c =
     on_ok c.check_part.result _ _
     (λ w.
     read s c.args.check.now c.args.form c.args.path.now c.deref.result.now out out' (g.T.Telling.told c.args.teller.now) old new
-    (subst (λ (bytes : List ℕ). Gives s c.args.path.now bytes) (sym c.deref.ensures.value) c.in-Ok.ensures.ok)
-    (subst (λ (name : List ℕ). Writes out out' (λ text. IsPartChecked c.args.check.now c.args.form name c.deref.result.now old text new)) c.name_at-name.ensures w))
+    (subst (λ (bytes : List ℕ). IsContent s c.args.path.now bytes) (sym c.deref.ensures.value) c.in-Ok.ensures.ok)
+    (subst (λ (name : List ℕ). Writes out out' (λ text. IsPartChecked c.args.check.now c.args.form name c.deref.result.now old text new)) c.told_path-name.ensures.value w))
     c.check_part.ensures.ok
 
 pub returns-in-Err-clause-ok : goal.returns-in-Err-clause-ok
@@ -35,7 +35,7 @@ returns-in-Err-clause-ok g c =
     on_ok c.pass_unread.result _ _
     (λ p.
     unread (g.S.Shelf.told c.args.shelf.now) c.args.check.now c.args.form c.args.path.now c.in-Err.error (g.O.Sink.told c.args.output.now) k l old new c.in-Err.ensures.err
-    (subst (λ (name : List ℕ). PassesUnread name c.in-Err.error k l old new) c.name_at-name.ensures p))
+    (subst (λ (name : List ℕ). PassesUnread name c.in-Err.error k l old new) c.told_path-name.ensures.value p))
     c.pass_unread.ensures.ok
 
 pub returns-in-Ok-clause-begun : goal.returns-in-Ok-clause-begun
@@ -47,8 +47,8 @@ returns-in-Ok-clause-begun g c =
     on_err c.check_part.result _ _
     (λ w.
     part_begun s c.args.check.now c.args.form c.args.path.now old c.deref.result.now out out' (g.T.Telling.told c.args.teller.now)
-    (subst (λ (bytes : List ℕ). Gives s c.args.path.now bytes) (sym c.deref.ensures.value) c.in-Ok.ensures.ok)
-    (subst (λ (name : List ℕ). Writes out out' (IsBeginning (IsPartText c.args.check.now c.args.form name c.deref.result.now old))) c.name_at-name.ensures w))
+    (subst (λ (bytes : List ℕ). IsContent s c.args.path.now bytes) (sym c.deref.ensures.value) c.in-Ok.ensures.ok)
+    (subst (λ (name : List ℕ). Writes out out' (IsBeginning (IsPartText c.args.check.now c.args.form name c.deref.result.now old))) c.told_path-name.ensures.value w))
     c.check_part.ensures.begun
 
 pub returns-in-Err-clause-begun : goal.returns-in-Err-clause-begun
