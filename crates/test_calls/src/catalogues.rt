@@ -2,7 +2,7 @@
 
 use crate::answer::NoAnswer;
 use spdx::{Catalogue, ParseMode};
-use std::alloc::Global;
+use std::alloc::{AllocError, Global};
 
 // The test catalogue K1, of the collected rows.
 const K1: &str = "{\"version\":\"K1\",\"licenses\":[\
@@ -68,61 +68,61 @@ const TWO_CASES: &str = "{\"version\":\"\",\"licenses\":[\
     {\"name\":\"mit\",\"full_name\":\"\",\"flags\":0}],\
     \"exceptions\":[],\"imprecise\":[]}";
 
+const TEXTS: [(&str, &str); 5] = [
+    ("k1", K1),
+    ("k2", K2),
+    ("k3", K3),
+    ("reference-name", REFERENCE_NAME),
+    ("two-cases", TWO_CASES),
+];
+
 /// The catalogues that rows name.
 #[derive(Drop)]
 pub struct Catalogues {
-    k1: Catalogue,
-    k2: Catalogue,
-    k3: Catalogue,
-    reference_name: Catalogue,
-    two_cases: Catalogue,
-    long_versions: Catalogue,
-    list: Catalogue,
+    all: Vec<Named>,
+}
+
+#[derive(Drop)]
+struct Named {
+    name: &'static str,
+    catalogue: Catalogue,
 }
 
 impl Catalogues {
     /// These here, and the one of the bytes of a list.
     pub(crate) fn new(alloc: Global, list: &[u8]) -> Result<Catalogues, NoAnswer> {
-        Ok(Catalogues {
-            k1: read(alloc, K1)?,
-            k2: read(alloc, K2)?,
-            k3: read(alloc, K3)?,
-            reference_name: read(alloc, REFERENCE_NAME)?,
-            two_cases: read(alloc, TWO_CASES)?,
-            long_versions: long_versions(alloc)?,
-            list: Catalogue::from_json(alloc, list)?,
-        })
+        let mut all = Vec::new(alloc);
+        for (name, json) in &TEXTS {
+            all.push(read(alloc, *name, json.as_bytes())?)?;
+        }
+        let versions = long_versions(alloc)?;
+        all.push(read(alloc, "long-versions", versions.as_bytes())?)?;
+        all.push(read(alloc, "list", list)?)?;
+        Ok(Catalogues { all })
     }
 
-    /// The catalogue of that name; K1 for any other name.
-    pub(crate) fn named(&self, name: &str) -> &Catalogue {
-        match name {
-            "k2" => &self.k2,
-            "k3" => &self.k3,
-            "reference-name" => &self.reference_name,
-            "two-cases" => &self.two_cases,
-            "long-versions" => &self.long_versions,
-            "list" => &self.list,
-            _ => &self.k1,
-        }
+    /// The catalogue of that name.
+    pub(crate) fn get(&self, name: &str) -> Option<&Catalogue> {
+        let found = self.all.iter().find(|one| one.name == name)?;
+        Some(&found.catalogue)
     }
 }
 
-fn read(alloc: Global, json: &str) -> Result<Catalogue, NoAnswer> {
-    Ok(Catalogue::from_json(alloc, json.as_bytes())?)
+fn read(alloc: Global, name: &'static str, json: &[u8]) -> Result<Named, NoAnswer> {
+    let catalogue = Catalogue::from_json(alloc, json)?;
+    Ok(Named { name, catalogue })
 }
 
 // Three versions, of 100, 100 and 99 digits: ten, a power of ten, and the number before it.
-fn long_versions(alloc: Global) -> Result<Catalogue, NoAnswer> {
-    let json = format!(in alloc;
+fn long_versions(alloc: Global) -> Result<String, AllocError> {
+    format!(in alloc;
         "{{\"version\":\"\",\"licenses\":[\
         {{\"name\":\"A-{:0>100}\",\"full_name\":\"\",\"flags\":0}},\
         {{\"name\":\"A-{:0<100}\",\"full_name\":\"\",\"flags\":0}},\
         {{\"name\":\"A-{:9<99}\",\"full_name\":\"\",\"flags\":0}}],\
         \"exceptions\":[],\"imprecise\":[]}}",
         10, 1, 9
-    )?;
-    read(alloc, json.as_str())
+    )
 }
 
 /// The mode of that name: `strict`, `lax`, or the permissions that it has alone.

@@ -74,7 +74,9 @@ impl<'a> Tally<'a> {
         let (given, wanted) = two_parts(row, " => ")?;
         let given = written_out(alloc, given)?;
         let wanted = written_out(alloc, wanted)?;
-        let catalogue = self.catalogues.named(self.heading.catalogue);
+        let Some(catalogue) = self.catalogues.get(self.heading.catalogue) else {
+            return Err(NoAnswer::Row);
+        };
         let shown = answer(alloc, catalogue, self.heading.call, given.as_str())?;
         let is_wanted = shown == wanted || (shown.is_empty() && wanted.as_str() == "(empty)");
         Ok(if is_wanted { None } else { Some(shown) })

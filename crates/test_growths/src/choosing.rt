@@ -1,9 +1,9 @@
 // Licensees that are chosen.
 
-use crate::end::{Answer, End, end_if};
+use crate::end::{Answer, End};
+use crate::lent::Lent;
 use spdx::{
-    AcceptedLicensees, Catalogue, Expression, ExpressionJudge, Failure, LicenseReq, Licensee,
-    MinimizeError, minimized_for_all,
+    AcceptedLicensees, Catalogue, Expression, ExpressionJudge, Licensee, minimized_for_all,
 };
 use std::alloc::{AllocError, Global};
 
@@ -20,16 +20,6 @@ fn licensees<'c>(alloc: Global, catalogue: &'c Catalogue) -> Result<Vec<Licensee
     Ok(licensees)
 }
 
-// The requirements with commas between.
-fn joined(alloc: Global, requirements: &[LicenseReq<'_>]) -> Answer {
-    let mut shown = String::new(alloc);
-    for requirement in requirements {
-        let between = if shown.is_empty() { "" } else { "," };
-        write!(shown, "{between}{requirement}")?;
-    }
-    Ok(shown)
-}
-
 /// What the call of that name answers.
 pub(crate) fn answer(alloc: Global, catalogue: &Catalogue, call: &str) -> Answer {
     match call {
@@ -41,59 +31,58 @@ pub(crate) fn answer(alloc: Global, catalogue: &Catalogue, call: &str) -> Answer
     }
 }
 
-fn judge(alloc: Global, catalogue: &Catalogue) -> Answer {
-    let accepted = licensees(alloc, catalogue)?;
-    judge_of(alloc, catalogue, accepted.as_slice())
-}
-
-fn judge_of<'c>(alloc: Global, catalogue: &'c Catalogue, accepted: &[Licensee<'c>]) -> Answer {
-    let expression = Expression::parse(alloc, catalogue, TEXT)?;
-    let before = expression.try_clone(alloc)?;
+// The licensees, lent.
+fn members<'l, 'c>(
+    alloc: Global,
+    accepted: &'l [Licensee<'c>],
+) -> Result<Vec<&'l Licensee<'c>>, AllocError> {
     let mut members = Vec::new(alloc);
     for licensee in accepted {
         members.push(licensee)?;
     }
-    match ExpressionJudge::new(alloc, &expression, members.as_slice()) {
+    Ok(members)
+}
+
+fn judge(alloc: Global, catalogue: &Catalogue) -> Answer {
+    let accepted = licensees(alloc, catalogue)?;
+    let lent = Lent::new(alloc, catalogue, TEXT)?;
+    judge_of(alloc, &lent, &accepted)
+}
+
+fn judge_of<'c>(alloc: Global, lent: &Lent<'c>, accepted: &[Licensee<'c>]) -> Answer {
+    let members = members(alloc, accepted)?;
+    match ExpressionJudge::new(alloc, &lent.expression, members.as_slice()) {
         Ok(judge) => Ok(format!(in alloc; "{} questions", judge.asked())?),
-        Err(AllocError) => Err(end_if(expression == before)),
+        Err(AllocError) => Err(lent.end()),
     }
 }
 
 fn for_one(alloc: Global, catalogue: &Catalogue) -> Answer {
     let accepted = licensees(alloc, catalogue)?;
-    let expression = Expression::parse(alloc, catalogue, TEXT)?;
-    let before = expression.try_clone(alloc)?;
-    match expression.minimized_requirements(alloc, accepted.as_slice()) {
-        Ok(requirements) => joined(alloc, requirements.as_slice()),
-        Err(Failure::Memory(_)) => Err(end_if(expression == before)),
-        Err(Failure::Refused(_)) => Err(End::Otherwise("no choice")),
-    }
+    let lent = Lent::new(alloc, catalogue, TEXT)?;
+    let choice = lent.expression.minimized_requirements(alloc, &accepted);
+    lent.chosen(alloc, choice)
 }
 
-// What was chosen, or how a call ended that gave no choice.
-fn chosen<'c>(
-    choice: Result<Vec<LicenseReq<'c>>, Failure<MinimizeError>>,
-    is_as_before: bool,
-) -> Result<Vec<LicenseReq<'c>>, End> {
-    match choice {
-        Ok(requirements) => Ok(requirements),
-        Err(Failure::Memory(_)) => Err(end_if(is_as_before)),
-        Err(Failure::Refused(_)) => Err(End::Otherwise("no choice")),
-    }
+fn among(alloc: Global, catalogue: &Catalogue) -> Answer {
+    let licensees = licensees(alloc, catalogue)?;
+    let lent = Lent::new(alloc, catalogue, TEXT)?;
+    let mut accepted = AcceptedLicensees::new(alloc, &licensees);
+    among_twice(alloc, &lent, &mut accepted)
 }
 
 // Twice, so that the second choice has what the first one left in memory, if there was some.
-fn among(alloc: Global, catalogue: &Catalogue) -> Answer {
-    let licensees = licensees(alloc, catalogue)?;
-    let expression = Expression::parse(alloc, catalogue, TEXT)?;
-    let before = expression.try_clone(alloc)?;
-    let mut accepted = AcceptedLicensees::new(alloc, licensees.as_slice());
-    let choice = expression.minimized_among(alloc, &mut accepted);
-    let first = chosen(choice, expression == before)?;
-    let choice = expression.minimized_among(alloc, &mut accepted);
-    let second = chosen(choice, expression == before)?;
+fn among_twice<'c>(
+    alloc: Global,
+    lent: &Lent<'c>,
+    accepted: &mut AcceptedLicensees<'_, 'c>,
+) -> Answer {
+    let choice = lent.expression.minimized_among(alloc, accepted);
+    let first = lent.chosen(alloc, choice)?;
+    let choice = lent.expression.minimized_among(alloc, accepted);
+    let second = lent.chosen(alloc, choice)?;
     if first == second {
-        joined(alloc, second.as_slice())
+        Ok(second)
     } else {
         Err(End::Otherwise("another choice"))
     }
@@ -101,12 +90,8 @@ fn among(alloc: Global, catalogue: &Catalogue) -> Answer {
 
 fn for_two(alloc: Global, catalogue: &Catalogue) -> Answer {
     let accepted = licensees(alloc, catalogue)?;
-    let expression = Expression::parse(alloc, catalogue, TEXT)?;
-    let before = expression.try_clone(alloc)?;
+    let lent = Lent::new(alloc, catalogue, TEXT)?;
     let other = Expression::parse(alloc, catalogue, OTHER)?;
-    match minimized_for_all(alloc, &[&expression, &other], accepted.as_slice()) {
-        Ok(requirements) => joined(alloc, requirements.as_slice()),
-        Err(Failure::Memory(_)) => Err(end_if(expression == before)),
-        Err(Failure::Refused(_)) => Err(End::Otherwise("no choice")),
-    }
+    let choice = minimized_for_all(alloc, &[&lent.expression, &other], &accepted);
+    lent.chosen(alloc, choice)
 }

@@ -43,12 +43,3 @@ impl<E: Drop> From<Failure<E>> for End {
         }
     }
 }
-
-/// The end of a call that wanted memory, where what was lent is as it was or not.
-pub(crate) fn end_if(is_as_before: bool) -> End {
-    if is_as_before {
-        End::InTheCall
-    } else {
-        End::Otherwise("what was lent has changed")
-    }
-}

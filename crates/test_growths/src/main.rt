@@ -8,6 +8,7 @@
 
 mod choosing;
 mod end;
+mod lent;
 mod lines;
 mod meaning;
 mod reading;

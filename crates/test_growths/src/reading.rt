@@ -1,6 +1,7 @@
 // Catalogues, expressions and licensees that are read.
 
-use crate::end::{Answer, End, end_if};
+use crate::end::{Answer, End};
+use crate::lent::Lent;
 use spdx::{Catalogue, Expression, Failure, Licensee, ParseMode};
 use std::alloc::Global;
 
@@ -42,11 +43,11 @@ pub(crate) fn parse_canonical(alloc: Global, catalogue: &Catalogue, text: &str) 
 
 /// Copies the expression of the references.
 pub(crate) fn try_clone(alloc: Global, catalogue: &Catalogue) -> Answer {
-    let expression = Expression::parse(alloc, catalogue, REFERENCES)?;
-    let before = Expression::parse(alloc, catalogue, REFERENCES)?;
-    match expression.try_clone(alloc) {
+    let lent = Lent::new(alloc, catalogue, REFERENCES)?;
+    match lent.expression.try_clone(alloc) {
         Ok(copy) => Ok(format!(in alloc; "{copy:?}")?),
-        Err(_) => Err(end_if(expression == before && expression.text() == REFERENCES)),
+        Err(_) if lent.expression.text() == REFERENCES => Err(lent.end()),
+        Err(_) => Err(End::Otherwise("the text has changed")),
     }
 }
 

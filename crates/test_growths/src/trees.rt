@@ -1,6 +1,8 @@
 // Trees that are evaluated and written.
 
-use crate::end::{Answer, End, end_if};
+use crate::end::{Answer, End};
+use crate::lent::Lent;
+use spdx::expression::ExpressionReq;
 use spdx::{Catalogue, Expression, Failure, LicenseReq};
 use std::alloc::{AllocError, Global};
 
@@ -13,52 +15,72 @@ fn long_text(alloc: Global) -> Result<String, AllocError> {
     Ok(text)
 }
 
+fn long_expression<'c>(alloc: Global, catalogue: &'c Catalogue) -> Result<Lent<'c>, End> {
+    let text = long_text(alloc)?;
+    Lent::new(alloc, catalogue, text.as_str())
+}
+
+// What the tree of a thousand requirements comes to, where the last alone is true, and how often the closure was called.
+fn truth_by_the_last(alloc: Global, tree: &Expression<'_>) -> (Result<bool, AllocError>, u32) {
+    let mut calls = 0u32;
+    let truth = tree.evaluate(
+        alloc,
+        &mut |_: &LicenseReq| {
+            calls = calls.saturating_add(1);
+            calls == 1000
+        },
+    );
+    (truth, calls)
+}
+
 /// Evaluates a thousand requirements, the last alone true.
 pub(crate) fn evaluate(alloc: Global, catalogue: &Catalogue) -> Answer {
-    let text = long_text(alloc)?;
-    let expression = Expression::parse(alloc, catalogue, text.as_str())?;
-    let before = expression.try_clone(alloc)?;
-    let mut calls = 0u32;
-    let mut last_alone = |_: &LicenseReq| {
-        calls = calls.saturating_add(1);
-        calls == 1000
-    };
-    match expression.evaluate(alloc, &mut last_alone) {
+    let lent = long_expression(alloc, catalogue)?;
+    let (truth, calls) = truth_by_the_last(alloc, &lent.expression);
+    match truth {
         Ok(truth) => Ok(format!(in alloc; "{truth}, {calls} calls")?),
         Err(AllocError) if calls > 0 => Err(End::Otherwise("the closure was called")),
-        Err(AllocError) => Err(end_if(expression == before)),
+        Err(AllocError) => Err(lent.end()),
     }
+}
+
+// The same with the list of those that were refused, where all are false.
+fn all_refused<'t, 'c>(
+    alloc: Global,
+    tree: &'t Expression<'c>,
+) -> (Result<(), Failure<Vec<&'t ExpressionReq<'c>>>>, u32) {
+    let mut calls = 0u32;
+    let refused = tree.evaluate_with_failures(
+        alloc,
+        &mut |_: &LicenseReq| {
+            calls = calls.saturating_add(1);
+            false
+        },
+    );
+    (refused, calls)
 }
 
 /// The same, all of them false, with the list of those that were refused.
 pub(crate) fn evaluate_with_failures(alloc: Global, catalogue: &Catalogue) -> Answer {
-    let text = long_text(alloc)?;
-    let expression = Expression::parse(alloc, catalogue, text.as_str())?;
-    let before = expression.try_clone(alloc)?;
-    let mut calls = 0u32;
-    let mut none = |_: &LicenseReq| {
-        calls = calls.saturating_add(1);
-        false
-    };
-    let refused = match expression.evaluate_with_failures(alloc, &mut none) {
-        Ok(()) => return Err(End::Otherwise("true")),
-        Err(Failure::Refused(refused)) => Some(refused.len()),
-        Err(Failure::Memory(_)) => None,
-    };
+    let lent = long_expression(alloc, catalogue)?;
+    let (refused, calls) = all_refused(alloc, &lent.expression);
     match refused {
-        Some(count) => Ok(format!(in alloc; "{count} refused, {calls} calls")?),
-        None if calls > 0 => Err(End::Otherwise("the closure was called")),
-        None => Err(end_if(expression == before)),
+        Ok(()) => Err(End::Otherwise("true")),
+        Err(Failure::Refused(refused)) => {
+            let count = refused.len();
+            Ok(format!(in alloc; "{count} refused, {calls} calls")?)
+        }
+        Err(Failure::Memory(_)) if calls > 0 => Err(End::Otherwise("the closure was called")),
+        Err(Failure::Memory(_)) => Err(lent.end()),
     }
 }
 
 /// Writes the normal text of a tree that leans left.
 pub(crate) fn normal_text(alloc: Global, catalogue: &Catalogue) -> Answer {
     let text = "((MIT AND (Zlib)) AND Apache-2.0 OR LicenseRef-a) OR BSD-2-Clause+ OR Zlib";
-    let expression = Expression::parse(alloc, catalogue, text)?;
-    let before = expression.try_clone(alloc)?;
-    match expression.normal_text(alloc) {
+    let lent = Lent::new(alloc, catalogue, text)?;
+    match lent.expression.normal_text(alloc) {
         Ok(normal) => Ok(normal),
-        Err(AllocError) => Err(end_if(expression == before)),
+        Err(AllocError) => Err(lent.end()),
     }
 }

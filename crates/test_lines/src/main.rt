@@ -149,15 +149,15 @@ fn try_over(rt: &HostRuntime, rows: &[u8]) -> io::Result<u8> {
 // Tries the rows over this catalogue, and says how many hold.
 fn try_rows(rt: &HostRuntime, catalogue: &[u8], text: &str) -> io::Result<u8> {
     let mut tally = Tally::new();
+    let mut shown = String::new(rt.alloc());
     for line in text.lines() {
-        if line.is_empty() || line.starts_with('#') {
-            continue;
+        if !line.is_empty() && !line.starts_with('#') {
+            try_row(rt.alloc(), &mut tally, &mut shown, catalogue, line)?;
         }
-        let shown = try_row(rt.alloc(), &mut tally, catalogue, line)?;
-        print!(rt; "{shown}")?;
     }
-    rt.print(tally.line(rt.alloc())?.as_str())?;
-    Ok(u8::from(!tally.is_good()))
+    let is_good = tally.end(&mut shown)?;
+    rt.print(shown.as_str())?;
+    Ok(u8::from(!is_good))
 }
 
 // The argument: a catalogue.

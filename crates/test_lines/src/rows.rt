@@ -4,18 +4,19 @@ use crate::served::{Served, serve_over, words_of};
 use std::alloc::{AllocError, Global};
 use test_rows::{Tally, written_out};
 
-/// Tries a row over this catalogue, and says what is to be printed of it.
+/// Tries a row over this catalogue, and appends it with its answer where it doesn't hold.
 pub(crate) fn try_row(
     alloc: Global,
     tally: &mut Tally,
+    shown: &mut String,
     catalogue: &[u8],
     row: &str,
-) -> Result<String, AllocError> {
+) -> Result<(), AllocError> {
     let row = written_out(alloc, row)?;
     let row = row.as_str();
     let (given, wanted) = row.split_once(" => ").unwrap_or((row, ""));
     let answered = answer(alloc, catalogue, given)?;
-    tally.count(alloc, row, wanted, answered.as_str())
+    tally.count(shown, row, wanted, answered.as_str())
 }
 
 // What is answered to the fields that are given.

@@ -21,12 +21,10 @@ pub(crate) fn try_rows(
         if !row.is_empty() && !row.starts_with('#') {
             let (given, wanted) = row.split_once("=>").unwrap_or((row, ""));
             let answered = answer(alloc, catalogue, given.trim())?;
-            let told = tally.count(alloc, row, wanted.trim(), answered.as_str())?;
-            shown.push_str(told.as_str())?;
+            tally.count(shown, row, wanted.trim(), answered.as_str())?;
         }
     }
-    shown.push_str(tally.line(alloc)?.as_str())?;
-    Ok(tally.is_good())
+    tally.end(shown)
 }
 
 // The names that the phrase may mean, with a blank between them, and the rule.

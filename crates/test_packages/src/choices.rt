@@ -26,8 +26,7 @@ pub(crate) fn try_rows(
     for section in text.split("==\n") {
         try_section(alloc, shown, &mut tally, catalogue, section)?;
     }
-    shown.push_str(tally.line(alloc)?.as_str())?;
-    Ok(tally.is_good())
+    tally.end(shown)
 }
 
 fn try_section(
@@ -40,16 +39,14 @@ fn try_section(
     let (text, lines) = section.split_once("--\n").unwrap_or((section, ""));
     let heirs = Heirs::new(alloc);
     let Ok(policy) = Policy::from_toml(alloc, catalogue, heirs, text.as_bytes()) else {
-        let told = tally.count(alloc, text, "a policy", "none")?;
-        return shown.push_str(told.as_str());
+        return tally.count(shown, text, "a policy", "none");
     };
     let rows = read_rows(alloc, catalogue, &policy, lines)?;
     let given = answers(alloc, &rows)?;
     for (place, answered) in given.iter().enumerate() {
         let asked = rows.asked.get(place).map_or("", |text| text.as_str());
         let wanted = rows.wanted.get(place).map_or("", |text| text.as_str());
-        let told = tally.count(alloc, asked, wanted, answered.as_str())?;
-        shown.push_str(told.as_str())?;
+        tally.count(shown, asked, wanted, answered.as_str())?;
     }
     Ok(())
 }

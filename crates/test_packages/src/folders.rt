@@ -6,24 +6,8 @@
 use crate::names::{names_of, put_name};
 use notice_texts::owed_texts;
 use std::alloc::{AllocError, Global};
-use test_rows::Tally;
 
-/// Appends the rows that don't hold, and how many do; gives whether all do.
-pub(crate) fn try_rows(alloc: Global, shown: &mut String, text: &str) -> Result<bool, AllocError> {
-    let mut tally = Tally::new();
-    for row in text.lines() {
-        if !row.is_empty() && !row.starts_with('#') {
-            let (given, wanted) = row.split_once(" => ").unwrap_or((row, ""));
-            let answered = answer(alloc, given)?;
-            let told = tally.count(alloc, row, wanted, answered.as_str())?;
-            shown.push_str(told.as_str())?;
-        }
-    }
-    shown.push_str(tally.line(alloc)?.as_str())?;
-    Ok(tally.is_good())
-}
-
-fn answer(alloc: Global, given: &str) -> Result<String, AllocError> {
+pub(crate) fn answer(alloc: Global, given: &str) -> Result<String, AllocError> {
     let (used, files) = given.split_once(" | ").unwrap_or((given, ""));
     let used = names_of(alloc, used)?;
     let files = names_of(alloc, files)?;

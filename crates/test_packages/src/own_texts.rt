@@ -4,23 +4,95 @@
 // `path FOLDER | PATH => PATH` has `none` where a path isn't taken. `shared FILE: TEXT | .. => TEXT: FILES | ..` has the
 // escapes of `escapes` in its texts. A line that begins with `#` says something to readers.
 
-mod answers;
-
-use crate::own_texts::answers::answer;
+use crate::escapes::{bytes_of, put_bytes};
+use crate::names::{names_of, put_name};
+use notice_texts::{File, Holder, OwnText, SharedText, owed_files, path_in, shared_texts};
 use std::alloc::{AllocError, Global};
-use test_rows::Tally;
 
-/// Appends the rows that don't hold, and how many do; gives whether all do.
-pub(crate) fn try_rows(alloc: Global, shown: &mut String, text: &str) -> Result<bool, AllocError> {
-    let mut tally = Tally::new();
-    for row in text.lines() {
-        if !row.is_empty() && !row.starts_with('#') {
-            let (given, wanted) = row.split_once(" => ").unwrap_or((row, ""));
-            let answered = answer(alloc, given)?;
-            let told = tally.count(alloc, row, wanted, answered.as_str())?;
-            shown.push_str(told.as_str())?;
+/// What is answered to what stands before a row's `=>`.
+pub(crate) fn answer(alloc: Global, given: &str) -> Result<String, AllocError> {
+    match given.split_once(' ') {
+        Some(("owed", asked)) => owed(alloc, asked),
+        Some(("path", asked)) => path(alloc, asked),
+        Some(("shared", asked)) => shared(alloc, asked),
+        _ => String::from_str(alloc, "no such row"),
+    }
+}
+
+fn files_of<'t>(alloc: Global, text: &'t str) -> Result<Vec<File<'t>>, AllocError> {
+    let mut files = Vec::new(alloc);
+    for name in text.split(' ') {
+        let path = name.strip_prefix('+').unwrap_or(name);
+        if !path.is_empty() {
+            files.push(File {
+                path,
+                is_declared: name.starts_with('+'),
+            })?;
         }
     }
-    shown.push_str(tally.line(alloc)?.as_str())?;
-    Ok(tally.is_good())
+    Ok(files)
+}
+
+fn owed(alloc: Global, asked: &str) -> Result<String, AllocError> {
+    let (offered, rest) = asked.split_once(" | ").unwrap_or((asked, ""));
+    let (chosen, files) = rest.split_once(" | ").unwrap_or((rest, ""));
+    let offered = names_of(alloc, offered)?;
+    let chosen = names_of(alloc, chosen)?;
+    let files = files_of(alloc, files)?;
+    let mut shown = String::new(alloc);
+    for file in &owed_files(alloc, &files, &offered, &chosen)? {
+        put_name(&mut shown, file.path)?;
+    }
+    Ok(shown)
+}
+
+fn path(alloc: Global, asked: &str) -> Result<String, AllocError> {
+    let (folder, path) = asked.split_once(" | ").unwrap_or((asked, ""));
+    match path_in(alloc, folder, path)? {
+        Some(joined) => Ok(joined),
+        None => String::from_str(alloc, "none"),
+    }
+}
+
+fn texts_of(alloc: Global, asked: &str) -> Result<Vec<Vec<u8>>, AllocError> {
+    let mut texts = Vec::new(alloc);
+    for part in asked.split('|') {
+        let (_, text) = part.split_once(": ").unwrap_or((part, ""));
+        texts.push(bytes_of(alloc, text)?)?;
+    }
+    Ok(texts)
+}
+
+fn shared(alloc: Global, asked: &str) -> Result<String, AllocError> {
+    let texts = texts_of(alloc, asked)?;
+    let mut own = Vec::new(alloc);
+    for (part, text) in asked.split('|').zip(texts.iter()) {
+        let (file, _) = part.split_once(": ").unwrap_or((part, ""));
+        let holder = Holder {
+            name: file,
+            version: "",
+            file,
+        };
+        own.push(OwnText {
+            holder,
+            bytes: text.as_slice(),
+        })?;
+    }
+    shown_of(alloc, &shared_texts(alloc, &own)?)
+}
+
+fn shown_of(alloc: Global, found: &[SharedText<'_>]) -> Result<String, AllocError> {
+    let mut shown = String::new(alloc);
+    for (i, text) in found.iter().enumerate() {
+        if i > 0 {
+            shown.push('|')?;
+        }
+        put_bytes(&mut shown, text.bytes)?;
+        shown.push(':')?;
+        for holder in &text.holders {
+            shown.push(' ')?;
+            shown.push_str(holder.file)?;
+        }
+    }
+    Ok(shown)
 }

@@ -44,8 +44,7 @@ pub(crate) fn try_rows(
             None => try_section(rt, shown, &mut tally, catalogue, section)?,
         }
     }
-    shown.push_str(tally.line(rt.alloc())?.as_str())?;
-    Ok(tally.is_good())
+    Ok(tally.end(shown)?)
 }
 
 fn try_section(
@@ -61,8 +60,7 @@ fn try_section(
         if !row.is_empty() && !row.starts_with('#') {
             let (asked, wanted) = row.split_once("=>").unwrap_or((row, ""));
             let answered = answer_by(rt, catalogue, &policy, asked.trim())?;
-            let told = tally.count(rt.alloc(), row, wanted.trim(), answered.as_str())?;
-            shown.push_str(told.as_str())?;
+            tally.count(shown, row, wanted.trim(), answered.as_str())?;
         }
     }
     Ok(())

@@ -21,10 +21,8 @@ pub(crate) fn try_rows(alloc: Global, shown: &mut String, text: &str) -> Result<
         } else if !row.is_empty() && !row.starts_with('#') {
             let (given, wanted) = row.split_once(" => ").unwrap_or((row, ""));
             let answered = answer(alloc, call, given)?;
-            let told = tally.count(alloc, row, wanted, answered.as_str())?;
-            shown.push_str(told.as_str())?;
+            tally.count(shown, row, wanted, answered.as_str())?;
         }
     }
-    shown.push_str(tally.line(alloc)?.as_str())?;
-    Ok(tally.is_good())
+    tally.end(shown)
 }

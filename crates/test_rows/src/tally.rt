@@ -1,9 +1,9 @@
 // How many rows hold.
 
-ghost use Rattle.std.specs.Prelude.{◌≡◌, ◌≢◌, ◌++◌, ◌+◌, ◌^◌, ◌-◌, ◌==◌, IfOk, codes, min, string_bytes, []};
+ghost use Rattle.std.specs.Prelude.{◌≡◌, ◌≢◌, ◌++◌, ◌+◌, ◌^◌, ◌-◌, ◌==◌, IfOk, OnOk, codes, min, string_bytes};
 ghost use Rattle.std.specs.Fmt.{decimal};
 
-use std::alloc::{AllocError, Global};
+use std::alloc::AllocError;
 
 /// How many rows hold, and how many don't. Neither number goes beyond the greatest that there is.
 #[derive(Clone, Copy)]
@@ -21,63 +21,59 @@ impl Tally {
         Tally { held: 0, others: 0 }
     }
 
-    /// Counts a row that wants the one text and is answered the other, and gives what is to be printed of it: nothing
-    /// where it holds, which it does if both texts are the same.
+    /// Counts a row that wants the one text and is answered the other. It holds if both texts are the same; one that doesn't
+    /// is appended to what is shown, with its answer.
     ///
     /// # Errors
     ///
     /// Memory was refused; the row is counted.
     pub fn count(
         &mut self,
-        alloc: Global,
+        shown: &mut String,
         row: &str,
         wanted: &str,
         answered: &str,
-    ) -> Result<String, AllocError>
+    ) -> Result<(), AllocError>
         ensures held { answered.now ≡ wanted.now →
             (self.new.held ≡ min (self.old.held + 1) (2 ^ 64 - 1))
             × (self.new.others ≡ self.old.others) }
         ensures others { answered.now ≢ wanted.now →
             (self.new.others ≡ min (self.old.others + 1) (2 ^ 64 - 1))
             × (self.new.held ≡ self.old.held) }
-        ensures silent { answered.now ≡ wanted.now → IfOk result (λ told. string_bytes told ≡ []) }
-        ensures told { answered.now ≢ wanted.now → IfOk result (λ told. string_bytes told
-            ≡ row.now ++ (codes "\n    answered: " ++ (answered.now ++ codes "\n"))) }
+        ensures silent { answered.now ≡ wanted.now → string_bytes shown.new ≡ string_bytes shown.old }
+        ensures told { answered.now ≢ wanted.now → OnOk result (string_bytes shown.new
+            ≡ string_bytes shown.old ++ (row.now ++ (codes "\n    answered: "
+            ++ (answered.now ++ codes "\n")))) }
     {
         if answered == wanted {
             self.held = self.held.saturating_add(1);
-            return Ok(String::new(alloc));
+            return Ok(());
         }
         self.others = self.others.saturating_add(1);
-        failure(alloc, row, answered)
+        put_failure(shown, row, answered)
     }
 
-    /// The line that says both numbers.
+    /// Appends the line that says both numbers, and gives whether all rows hold.
     ///
     /// # Errors
     ///
     /// Memory was refused.
-    pub fn line(&self, alloc: Global) -> Result<String, AllocError>
-        ensures ok { IfOk result (λ line. string_bytes line
-            ≡ decimal self.now.held ++ (codes " rows hold, "
-            ++ (decimal self.now.others ++ codes " don't\n"))) }
+    pub fn end(&self, shown: &mut String) -> Result<bool, AllocError>
+        ensures ok { IfOk result (λ is_good. is_good ≡ (self.now.others == 0)) }
+        ensures line { OnOk result (string_bytes shown.new ≡ string_bytes shown.old
+            ++ (decimal self.now.held ++ (codes " rows hold, "
+            ++ (decimal self.now.others ++ codes " don't\n")))) }
     {
         let (held, others) = (self.held, self.others);
-        format!(in alloc; "{held} rows hold, {others} don't\n")
-    }
-
-    /// Whether all rows hold.
-    pub fn is_good(&self) -> bool
-        ensures value { result ≡ (self.now.others == 0) }
-    {
-        self.others == 0
+        write!(shown, "{held} rows hold, {others} don't\n")?;
+        Ok(others == 0)
     }
 }
 
-// What is printed of a row that doesn't hold.
-fn failure(alloc: Global, row: &str, answered: &str) -> Result<String, AllocError>
-    ensures { IfOk result (λ told. string_bytes told
-        ≡ row.now ++ (codes "\n    answered: " ++ (answered.now ++ codes "\n"))) }
+// Appends a row that doesn't hold.
+fn put_failure(shown: &mut String, row: &str, answered: &str) -> Result<(), AllocError>
+    ensures { OnOk result (string_bytes shown.new ≡ string_bytes shown.old
+        ++ (row.now ++ (codes "\n    answered: " ++ (answered.now ++ codes "\n")))) }
 {
-    format!(in alloc; "{row}\n    answered: {answered}\n")
+    write!(shown, "{row}\n    answered: {answered}\n")
 }

@@ -6,8 +6,8 @@
 // `empty`, `quiet`, without the totals, or `auto`, by which the form of the files is guessed; else their lines have
 // columns. A line that begins with `#` says something to readers.
 
-use crate::shelf::{HEIRS, inside, lines_of, shelf_of};
-use crate::told::Told;
+use crate::shelf::{HEIRS, inside, lines_of};
+use crate::told::{Told, line_of};
 use changes_program::Request;
 use line_engine::stream::Output;
 use package_changes::Format;
@@ -15,26 +15,9 @@ use package_commands::{AskedDiff, Changed, diff};
 use package_files::{Source, Wanted};
 use package_sources::Form;
 use shelves::Held;
-use spdx_commands::Listener;
 use std::alloc::{AllocError, Global};
-use test_rows::Tally;
 
-/// Appends the rows that don't hold, and how many do; gives whether all do.
-pub(crate) fn try_rows(alloc: Global, shown: &mut String, text: &str) -> Result<bool, AllocError> {
-    let mut tally = Tally::new();
-    let shelf = shelf_of(alloc, text)?;
-    for row in text.lines() {
-        if let Some((given, wanted)) = row.split_once(" => ") {
-            let answered = answer(alloc, &shelf, given)?;
-            let told = tally.count(alloc, row, wanted.trim(), answered.as_str())?;
-            shown.push_str(told.as_str())?;
-        }
-    }
-    shown.push_str(tally.line(alloc)?.as_str())?;
-    Ok(tally.is_good())
-}
-
-fn answer(alloc: Global, shelf: &Held, given: &str) -> Result<String, AllocError> {
+pub(crate) fn answer(alloc: Global, shelf: &Held, given: &str) -> Result<String, AllocError> {
     let (paths, rest) = given.split_once(" | ").unwrap_or((given, "-"));
     let (policy, words) = rest.split_once(" | ").unwrap_or((rest, ""));
     let asked = AskedDiff {
@@ -43,33 +26,27 @@ fn answer(alloc: Global, shelf: &Held, given: &str) -> Result<String, AllocError
     };
     let mut written = Output::new(Vec::new(alloc));
     let mut told = Told::new(alloc);
+    let Changed { status, totals } = changed(alloc, shelf, asked, &mut written, &mut told)?;
+    let lines = lines_of(alloc, &written.into_inner())?;
+    told.answer(alloc, status, lines.as_str(), line_of(&totals))
+}
+
+// How the command ends; where it stops at a trouble, that is told last.
+fn changed(
+    alloc: Global,
+    shelf: &Held,
+    asked: AskedDiff<'_>,
+    written: &mut Output<Vec<u8>>,
+    told: &mut Told,
+) -> Result<Changed, AllocError> {
     let heirs = HEIRS.as_bytes();
-    let end = diff(
-        alloc,
-        shelf,
-        inside(),
-        heirs,
-        asked,
-        &mut written,
-        &mut told,
-    );
-    let Changed { status, totals } = match end {
-        Ok(changed) => changed,
-        Err(trouble) => {
-            let status = trouble.status();
-            told.hear(alloc, trouble)?;
-            let totals = None;
-            Changed { status, totals }
-        }
-    };
-    let mut answer = format!(in alloc; "{status}:")?;
-    answer.push_str(lines_of(alloc, &written.into_inner())?.as_str())?;
-    answer.push_str(told.in_brackets(alloc)?.as_str())?;
-    if let Some(line) = totals {
-        let line = line.as_str().trim_end();
-        answer.push_str(format!(in alloc; "; {line}")?.as_str())?;
+    match diff(alloc, shelf, inside(), heirs, asked, written, told) {
+        Ok(changed) => Ok(changed),
+        Err(trouble) => Ok(Changed {
+            status: told.hear_last(alloc, trouble)?,
+            totals: None,
+        }),
     }
-    Ok(answer)
 }
 
 fn request<'r>(paths: &'r str, policy: &'r str, words: &'r str) -> Request<'r> {

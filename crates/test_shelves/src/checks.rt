@@ -7,7 +7,7 @@
 
 use crate::fixes::{put_quoted, wanted_by};
 use crate::fragile::Fragile;
-use crate::shelf::{HEIRS, inside, shelf_of};
+use crate::shelf::{HEIRS, inside};
 use check_files::{CheckTrouble, Telling};
 use check_program::{CheckEnd, Inside, Request, check};
 use finding_forms::Format;
@@ -15,7 +15,6 @@ use line_engine::stream::Output;
 use shelves::Held;
 use spdx_lexer::token::ParseMode;
 use std::alloc::{AllocError, Global};
-use test_rows::Tally;
 
 // What was told.
 #[derive(Drop)]
@@ -40,22 +39,7 @@ impl Telling for Listener {
     fn ended(&mut self) {}
 }
 
-/// Appends the rows that don't hold, and how many do; gives whether all do.
-pub(crate) fn try_rows(alloc: Global, shown: &mut String, text: &str) -> Result<bool, AllocError> {
-    let mut tally = Tally::new();
-    let shelf = shelf_of(alloc, text)?;
-    for row in text.lines() {
-        if let Some((given, wanted)) = row.split_once(" => ") {
-            let answered = answer(alloc, &shelf, given)?;
-            let told = tally.count(alloc, row, wanted.trim(), answered.as_str())?;
-            shown.push_str(told.as_str())?;
-        }
-    }
-    shown.push_str(tally.line(alloc)?.as_str())?;
-    Ok(tally.is_good())
-}
-
-fn answer(alloc: Global, shelf: &Held, given: &str) -> Result<String, AllocError> {
+pub(crate) fn answer(alloc: Global, shelf: &Held, given: &str) -> Result<String, AllocError> {
     let words: Vec<&str> = given.split(' ').collect(alloc)?;
     let [how, wanted, list, paths @ ..] = words.as_slice() else {
         return String::from_str(alloc, "no row");

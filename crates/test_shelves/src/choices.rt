@@ -7,35 +7,15 @@
 // What is wanted is of each package the choice and all that it offers, or why there is none. A line that begins with `#` says
 // something to readers.
 
-use crate::shelf::{HEIRS, inside, shelf_of};
+use crate::shelf::{HEIRS, inside};
 use choice_program::{Accepted, ChoiceTrouble, Chosen, Why, choose};
 use gate_program::PolicyTrouble;
 use list_program::named_list;
 use package_sources::{License, Package, Spot};
 use shelves::Held;
-use spdx_catalogue::Catalogue;
 use spdx_lexer::token::ParseMode;
 use spdx_licensee::RequirementTexts;
 use std::alloc::{AllocError, Global};
-use test_rows::Tally;
-
-/// Appends the rows that don't hold, and how many do; gives whether all do.
-pub(crate) fn try_rows(alloc: Global, shown: &mut String, text: &str) -> Result<bool, AllocError> {
-    let mut tally = Tally::new();
-    let shelf = shelf_of(alloc, text)?;
-    let Ok(catalogue) = named_list(alloc, &shelf, inside(), None) else {
-        return Err(AllocError);
-    };
-    for row in text.lines() {
-        if let Some((given, wanted)) = row.split_once(" => ") {
-            let answered = answer(alloc, &shelf, &catalogue, given)?;
-            let told = tally.count(alloc, row, wanted.trim(), answered.as_str())?;
-            shown.push_str(told.as_str())?;
-        }
-    }
-    shown.push_str(tally.line(alloc)?.as_str())?;
-    Ok(tally.is_good())
-}
 
 fn refs(alloc: Global, from: usize, to: usize, between: &str) -> Result<String, AllocError> {
     let mut text = String::new(alloc);
@@ -63,36 +43,43 @@ fn number(text: &str) -> usize {
     text.parse().unwrap_or(0)
 }
 
-fn answer(
+pub(crate) fn answer(alloc: Global, shelf: &Held, given: &str) -> Result<String, AllocError> {
+    let (packages, rest) = given.split_once(" | ").unwrap_or((given, ""));
+    let packages = packages_of(alloc, packages)?;
+    let mut lent = Vec::new(alloc);
+    for package in &packages {
+        lent.push(package)?;
+    }
+    answer_for(alloc, shelf, &lent, rest)
+}
+
+fn packages_of(alloc: Global, text: &str) -> Result<Vec<Package>, AllocError> {
+    let mut packages = Vec::new(alloc);
+    for one in text.split("; ") {
+        packages.push(package(alloc, one)?)?;
+    }
+    Ok(packages)
+}
+
+fn answer_for(
     alloc: Global,
     shelf: &Held,
-    catalogue: &Catalogue,
-    given: &str,
+    packages: &[&Package],
+    rest: &str,
 ) -> Result<String, AllocError> {
-    let (packages, rest) = given.split_once(" | ").unwrap_or((given, ""));
+    let Ok(catalogue) = named_list(alloc, shelf, inside(), None) else {
+        return Err(AllocError);
+    };
     let (accepted, words) = rest.split_once(" | ").unwrap_or((rest, ""));
-    let mut owned = Vec::new(alloc);
-    for one in packages.split("; ") {
-        owned.push(package(alloc, one)?)?;
-    }
-    let mut packages = Vec::new(alloc);
-    for one in &owned {
-        packages.push(one)?;
-    }
     let (kind, rest) = accepted.split_once(" ").unwrap_or((accepted, ""));
     let names = written(alloc, rest, ",")?;
     let accepted = accepted_by(kind, names.as_str());
     let heirs = HEIRS.as_bytes();
+    let together = words == "all";
     match choose(
-        alloc,
-        shelf,
-        heirs,
-        catalogue,
-        accepted,
-        words == "all",
-        &packages,
+        alloc, shelf, heirs, &catalogue, accepted, together, packages,
     ) {
-        Ok(chosen) => told(alloc, &packages, &chosen),
+        Ok(chosen) => told(alloc, packages, &chosen),
         Err(trouble) => told_trouble(alloc, &trouble),
     }
 }

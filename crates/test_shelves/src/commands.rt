@@ -8,15 +8,14 @@
 use crate::desk::Desk;
 use crate::fixes::put_quoted;
 use crate::mends::{Places, put_places};
-use crate::shelf::{HEIRS, inside, shelf_of};
+use crate::shelf::{HEIRS, inside};
 use check_program::Inside;
 use line_engine::stream::Output;
-use shelves::Held;
+use shelves::{Held, HeldFile};
 use spdx_catalogue::Catalogue;
 use spdx_program::{Screen, Teller, serve};
 use spdx_words::{Request, read};
 use std::alloc::{AllocError, Global};
-use test_rows::Tally;
 
 // Neither colours, nor how far a walk is.
 const PLAIN: Screen = Screen {
@@ -24,24 +23,9 @@ const PLAIN: Screen = Screen {
     progress: false,
 };
 
-/// Appends the rows that don't hold, and how many do; gives whether all do.
-pub(crate) fn try_rows(alloc: Global, shown: &mut String, text: &str) -> Result<bool, AllocError> {
-    let mut tally = Tally::new();
-    let shelf = shelf_of(alloc, text)?;
-    for row in text.lines() {
-        if let Some((given, wanted)) = row.split_once(" => ") {
-            let given = given.replace(alloc, "\\e", "\u{1b}")?;
-            let answered = answer(alloc, &shelf, given.as_str())?;
-            let told = tally.count(alloc, row, wanted.trim(), answered.as_str())?;
-            shown.push_str(told.as_str())?;
-        }
-    }
-    shown.push_str(tally.line(alloc)?.as_str())?;
-    Ok(tally.is_good())
-}
-
-fn answer(alloc: Global, shelf: &Held, given: &str) -> Result<String, AllocError> {
-    let words = words_in(alloc, given)?;
+pub(crate) fn answer(alloc: Global, shelf: &Held, given: &str) -> Result<String, AllocError> {
+    let given = given.replace(alloc, "\\e", "\u{1b}")?;
+    let words = words_in(alloc, given.as_str())?;
     match read(alloc, "0", words.as_slice()) {
         Ok(request) => told_of(alloc, shelf, &request),
         Err(_) => String::from_str(alloc, "no request"),
@@ -91,12 +75,34 @@ fn told_of(alloc: Global, shelf: &Held, request: &Request<'_>) -> Result<String,
         &mut written,
         &mut teller,
     );
-    let mut said = format!(in alloc; "{status} ")?;
-    put_written(alloc, &mut said, request, &written.into_inner())?;
-    put_places(&mut said, desk)?;
     let Teller { faults, .. } = teller;
-    put_lines(alloc, &mut said, &faults.into_inner())?;
-    Ok(said)
+    let ended = Ended {
+        status,
+        written: written.into_inner(),
+        put: desk.into_put(),
+        faults: faults.into_inner(),
+    };
+    ended.told(alloc, request)
+}
+
+// What came of a command: what it wrote, which bytes files were to take, and what standard error has.
+#[derive(Drop)]
+struct Ended {
+    status: u8,
+    written: Vec<u8>,
+    put: Vec<HeldFile>,
+    faults: Vec<u8>,
+}
+
+impl Ended {
+    fn told(&self, alloc: Global, request: &Request<'_>) -> Result<String, AllocError> {
+        let status = self.status;
+        let mut said = format!(in alloc; "{status} ")?;
+        put_written(alloc, &mut said, request, &self.written)?;
+        put_places(&mut said, &self.put)?;
+        put_lines(alloc, &mut said, &self.faults)?;
+        Ok(said)
+    }
 }
 
 // Each line in brackets behind a blank.

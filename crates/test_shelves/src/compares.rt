@@ -3,28 +3,12 @@
 // The first rows are the shelf's files, as `shelf` reads them. A row `MODE LIST | ONE | OTHER => WANTED`, where the mode is `strict` or
 // `lax` and `-` is the list inside, has `same` or `other` and what is told, with ` / ` between lines; or why nothing is.
 
-use crate::shelf::{inside, lines_of, shelf_of};
+use crate::shelf::{inside, lines_of};
 use meaning_program::{Asked, MeaningTrouble, Unsaid, compare};
 use shelves::Held;
 use std::alloc::{AllocError, Global};
-use test_rows::Tally;
 
-/// Appends the rows that don't hold, and how many do; gives whether all do.
-pub(crate) fn try_rows(alloc: Global, shown: &mut String, text: &str) -> Result<bool, AllocError> {
-    let mut tally = Tally::new();
-    let shelf = shelf_of(alloc, text)?;
-    for row in text.lines() {
-        if let Some((given, wanted)) = row.split_once(" => ") {
-            let answered = answer(alloc, &shelf, given)?;
-            let told = tally.count(alloc, row, wanted.trim(), answered.as_str())?;
-            shown.push_str(told.as_str())?;
-        }
-    }
-    shown.push_str(tally.line(alloc)?.as_str())?;
-    Ok(tally.is_good())
-}
-
-fn answer(alloc: Global, shelf: &Held, given: &str) -> Result<String, AllocError> {
+pub(crate) fn answer(alloc: Global, shelf: &Held, given: &str) -> Result<String, AllocError> {
     let (head, texts) = given.split_once(" | ").unwrap_or((given, ""));
     let (mode, list) = head.split_once(' ').unwrap_or((head, "-"));
     let (one, other) = texts.split_once(" | ").unwrap_or((texts, ""));

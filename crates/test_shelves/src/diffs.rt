@@ -5,7 +5,7 @@
 // and then what is told, with ` / ` between lines, and how many came, went, changed and are refused. A line that begins with
 // `#` says something to readers.
 
-use crate::shelf::{HEIRS, inside, lines_of, shelf_of, told_faults};
+use crate::shelf::{HEIRS, inside, lines_of, told_faults};
 use changes_program::{Request, Run, changes};
 use gate_program::{GateTrouble, PolicyTrouble};
 use package_changes::Format;
@@ -13,24 +13,8 @@ use package_files::{Source, Wanted};
 use package_sources::Form;
 use shelves::Held;
 use std::alloc::{AllocError, Global};
-use test_rows::Tally;
 
-/// Appends the rows that don't hold, and how many do; gives whether all do.
-pub(crate) fn try_rows(alloc: Global, shown: &mut String, text: &str) -> Result<bool, AllocError> {
-    let mut tally = Tally::new();
-    let shelf = shelf_of(alloc, text)?;
-    for row in text.lines() {
-        if let Some((given, wanted)) = row.split_once(" => ") {
-            let answered = answer(alloc, &shelf, given)?;
-            let told = tally.count(alloc, row, wanted.trim(), answered.as_str())?;
-            shown.push_str(told.as_str())?;
-        }
-    }
-    shown.push_str(tally.line(alloc)?.as_str())?;
-    Ok(tally.is_good())
-}
-
-fn answer(alloc: Global, shelf: &Held, given: &str) -> Result<String, AllocError> {
+pub(crate) fn answer(alloc: Global, shelf: &Held, given: &str) -> Result<String, AllocError> {
     let (paths, policy) = given.split_once(" | ").unwrap_or((given, "-"));
     let (old, new) = paths.split_once(' ').unwrap_or((paths, ""));
     let request = Request {

@@ -7,13 +7,12 @@
 
 ghost use Rattle.std.specs.Prelude.{ℕ};
 
-use crate::shelf::{inside, shelf_of};
+use crate::shelf::inside;
 use crate::simplifies::put_shown;
 use fix_program::{Deed, FileEnd, FixFault, FixTrouble, Fixed, Progress, Request, Run, fix};
 use shelves::Held;
 use source_trees::Wanted;
 use std::alloc::{AllocError, Global};
-use test_rows::Tally;
 
 // Tells nobody how far a run is.
 #[derive(Drop)]
@@ -29,22 +28,7 @@ impl Progress for Quiet {
     fn ended(&mut self) {}
 }
 
-/// Appends the rows that don't hold, and how many do; gives whether all do.
-pub(crate) fn try_rows(alloc: Global, shown: &mut String, text: &str) -> Result<bool, AllocError> {
-    let mut tally = Tally::new();
-    let shelf = shelf_of(alloc, text)?;
-    for row in text.lines() {
-        if let Some((given, wanted)) = row.split_once(" => ") {
-            let answered = answer(alloc, &shelf, given)?;
-            let told = tally.count(alloc, row, wanted.trim(), answered.as_str())?;
-            shown.push_str(told.as_str())?;
-        }
-    }
-    shown.push_str(tally.line(alloc)?.as_str())?;
-    Ok(tally.is_good())
-}
-
-fn answer(alloc: Global, shelf: &Held, given: &str) -> Result<String, AllocError> {
+pub(crate) fn answer(alloc: Global, shelf: &Held, given: &str) -> Result<String, AllocError> {
     let words: Vec<&str> = given.split(' ').collect(alloc)?;
     let Some(request) = request(&words) else {
         return String::from_str(alloc, "no row");

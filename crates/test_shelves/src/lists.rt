@@ -6,13 +6,13 @@
 // is none. `make LICENSES | EXCEPTIONS | EXTRAS => WANTED` has the version of the list that is written, or why there is none and
 // how many bytes are written. A line that begins with `#` says something to readers.
 
+use crate::shelf::empty;
 use line_engine::stream::Output;
 use list_program::{Inside, ListTrouble, MadeOf, named_list, put_made_list};
 use shelves::{Held, HeldFile, HeldFolder, HeldVariable};
 use spdx_catalogue::Catalogue;
 use spdx_known::EXTRAS;
 use std::alloc::{AllocError, Global};
-use test_rows::Tally;
 
 const FILES: [(&str, &str); 9] = [
     (
@@ -43,22 +43,7 @@ const FILES: [(&str, &str); 9] = [
 
 const INSIDE: &str = "inside\u{c}\u{c}\u{c}";
 
-/// Appends the rows that don't hold, and how many do; gives whether all do.
-pub(crate) fn try_rows(alloc: Global, shown: &mut String, text: &str) -> Result<bool, AllocError> {
-    let mut tally = Tally::new();
-    for row in text.lines() {
-        if !row.is_empty() && !row.starts_with('#') {
-            let (given, wanted) = row.split_once("=>").unwrap_or((row, ""));
-            let answered = answer(alloc, given.trim())?;
-            let told = tally.count(alloc, row, wanted.trim(), answered.as_str())?;
-            shown.push_str(told.as_str())?;
-        }
-    }
-    shown.push_str(tally.line(alloc)?.as_str())?;
-    Ok(tally.is_good())
-}
-
-fn answer(alloc: Global, given: &str) -> Result<String, AllocError> {
+pub(crate) fn answer(alloc: Global, given: &str) -> Result<String, AllocError> {
     match given.strip_prefix("make ") {
         Some(paths) => made(alloc, paths),
         None => named(alloc, given),
@@ -130,30 +115,36 @@ fn told(alloc: Global, trouble: &ListTrouble) -> Result<String, AllocError> {
 }
 
 fn shelf(alloc: Global, variable: Option<&str>) -> Result<Held, AllocError> {
-    let mut files = Vec::new(alloc);
-    for (path, text) in &FILES {
-        files.push(file(alloc, path, text)?)?;
+    let mut shelf = empty(alloc);
+    put_files(alloc, &mut shelf)?;
+    put_folders(alloc, &mut shelf)?;
+    if let Some(text) = variable {
+        shelf.variables.push(spdx_list(alloc, text)?)?;
     }
-    let mut folders = Vec::new(alloc);
+    Ok(shelf)
+}
+
+fn put_files(alloc: Global, shelf: &mut Held) -> Result<(), AllocError> {
+    for (path, text) in &FILES {
+        shelf.files.push(file(alloc, path, text)?)?;
+    }
+    Ok(())
+}
+
+fn put_folders(alloc: Global, shelf: &mut Held) -> Result<(), AllocError> {
     for path in ["spdx", "half", "wrong"] {
-        folders.push(HeldFolder {
+        shelf.folders.push(HeldFolder {
             path: String::from_str(alloc, path)?,
             entries: Vec::new(alloc),
         })?;
     }
-    let mut variables = Vec::new(alloc);
-    if let Some(text) = variable {
-        variables.push(HeldVariable {
-            name: String::from_str(alloc, "SPDX_LIST")?,
-            text: String::from_str(alloc, text)?,
-        })?;
-    }
-    Ok(Held {
-        files,
-        folders,
-        links: Vec::new(alloc),
-        variables,
-        input: Vec::new(alloc),
+    Ok(())
+}
+
+fn spdx_list(alloc: Global, text: &str) -> Result<HeldVariable, AllocError> {
+    Ok(HeldVariable {
+        name: String::from_str(alloc, "SPDX_LIST")?,
+        text: String::from_str(alloc, text)?,
     })
 }
 

@@ -8,15 +8,14 @@
 
 use crate::desk::Desk;
 use crate::fixes::{put_quoted, request};
-use crate::shelf::{inside, shelf_of};
+use crate::shelf::inside;
 use crate::told::Told;
 use fix_program::Request;
 use line_engine::stream::Output;
-use shelves::{Held, Shelf, Stamp, Stamped};
+use shelves::{Held, HeldFile, Shelf, Stamp, Stamped};
 use spdx_commands::{Loss, Obstacle, Replacing, fix};
 use std::alloc::{AllocError, Global};
 use std::io::{self, ErrorKind};
-use test_rows::Tally;
 
 /// Puts bytes in the places of the shelf's files, as far as their names have it.
 #[derive(Drop)]
@@ -79,22 +78,7 @@ fn loss(path: &str) -> Loss {
     }
 }
 
-/// Appends the rows that don't hold, and how many do; gives whether all do.
-pub(crate) fn try_rows(alloc: Global, shown: &mut String, text: &str) -> Result<bool, AllocError> {
-    let mut tally = Tally::new();
-    let shelf = shelf_of(alloc, text)?;
-    for row in text.lines() {
-        if let Some((given, wanted)) = row.split_once(" => ") {
-            let answered = answer(alloc, &shelf, given)?;
-            let told = tally.count(alloc, row, wanted.trim(), answered.as_str())?;
-            shown.push_str(told.as_str())?;
-        }
-    }
-    shown.push_str(tally.line(alloc)?.as_str())?;
-    Ok(tally.is_good())
-}
-
-fn answer(alloc: Global, shelf: &Held, given: &str) -> Result<String, AllocError> {
+pub(crate) fn answer(alloc: Global, shelf: &Held, given: &str) -> Result<String, AllocError> {
     let words: Vec<&str> = given.split(' ').collect(alloc)?;
     let Some(request) = request(&words) else {
         return String::from_str(alloc, "no row");
@@ -103,11 +87,17 @@ fn answer(alloc: Global, shelf: &Held, given: &str) -> Result<String, AllocError
     let mut written = Output::new(Vec::new(alloc));
     let mut told = Told::new(alloc);
     let status = status_of(alloc, &desk, request, &mut written, &mut told)?;
-    let mut answer = format!(in alloc; "{status} ")?;
-    put_quoted(&mut answer, &written.into_inner())?;
-    put_places(&mut answer, desk)?;
-    answer.push_str(told.in_brackets(alloc)?.as_str())?;
-    Ok(answer)
+    let told = told.in_brackets(alloc)?;
+    let said = said(alloc, status, &written.into_inner(), &desk.into_put())?;
+    format!(in alloc; "{said}{told}")
+}
+
+// The status, what is written, and what files were to take.
+fn said(alloc: Global, status: u8, written: &[u8], put: &[HeldFile]) -> Result<String, AllocError> {
+    let mut said = format!(in alloc; "{status} ")?;
+    put_quoted(&mut said, written)?;
+    put_places(&mut said, put)?;
+    Ok(said)
 }
 
 // With which status the command ends; where it stops at a trouble, that is told last.
@@ -125,8 +115,8 @@ fn status_of(
     }
 }
 
-pub(crate) fn put_places(answer: &mut String, desk: Desk<'_>) -> Result<(), AllocError> {
-    for file in desk.into_put() {
+pub(crate) fn put_places(answer: &mut String, put: &[HeldFile]) -> Result<(), AllocError> {
+    for file in put {
         answer.push_str("; ")?;
         answer.push_str(file.path.as_str())?;
         answer.push_str(" holds ")?;

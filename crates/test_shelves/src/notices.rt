@@ -7,7 +7,7 @@
 // The words are `texts DIR`, `sources DIR`, `installed`, `strict`, `follow`, `plain`, `html`, `together`, `list PATH`, and `auto`,
 // with which the form of the files is guessed. A line that begins with `#` says something to readers.
 
-use crate::shelf::{HEIRS, inside, shelf_of, told_faults};
+use crate::shelf::{HEIRS, inside, told_faults};
 use choice_program::Accepted;
 use notice_forms::Format;
 use notice_program::{End, NoticeTrouble, Request, Run, ToldPage, notice};
@@ -17,24 +17,8 @@ use package_sources::Form;
 use shelves::Held;
 use spdx_lexer::token::ParseMode;
 use std::alloc::{AllocError, Global};
-use test_rows::Tally;
 
-/// Appends the rows that don't hold, and how many do; gives whether all do.
-pub(crate) fn try_rows(alloc: Global, shown: &mut String, text: &str) -> Result<bool, AllocError> {
-    let mut tally = Tally::new();
-    let shelf = shelf_of(alloc, text)?;
-    for row in text.lines() {
-        if let Some((given, wanted)) = row.split_once(" => ") {
-            let answered = answer(alloc, &shelf, given)?;
-            let told = tally.count(alloc, row, wanted.trim(), answered.as_str())?;
-            shown.push_str(told.as_str())?;
-        }
-    }
-    shown.push_str(tally.line(alloc)?.as_str())?;
-    Ok(tally.is_good())
-}
-
-fn answer(alloc: Global, shelf: &Held, given: &str) -> Result<String, AllocError> {
+pub(crate) fn answer(alloc: Global, shelf: &Held, given: &str) -> Result<String, AllocError> {
     let (paths, rest) = given.split_once(" | ").unwrap_or((given, ""));
     let (accepted, words) = rest.split_once(" | ").unwrap_or((rest, ""));
     let paths: Vec<&str> = paths.split(' ').collect(alloc)?;

@@ -6,29 +6,12 @@
 // told, the form if it was guessed, and each package by name, version and licence, or why there are none. A line that begins
 // with `#` says something to readers.
 
-use crate::shelf::shelf_of;
 use package_files::{FileFault, Listed, Source, Wanted, listed_at, listed_before};
 use package_sources::{Form, License};
 use shelves::Held;
 use std::alloc::{AllocError, Global};
-use test_rows::Tally;
 
-/// Appends the rows that don't hold, and how many do; gives whether all do.
-pub(crate) fn try_rows(alloc: Global, shown: &mut String, text: &str) -> Result<bool, AllocError> {
-    let mut tally = Tally::new();
-    let shelf = shelf_of(alloc, text)?;
-    for row in text.lines() {
-        if let Some((given, wanted)) = row.split_once(" => ") {
-            let answered = answer(alloc, &shelf, given)?;
-            let told = tally.count(alloc, row, wanted.trim(), answered.as_str())?;
-            shown.push_str(told.as_str())?;
-        }
-    }
-    shown.push_str(tally.line(alloc)?.as_str())?;
-    Ok(tally.is_good())
-}
-
-fn answer(alloc: Global, shelf: &Held, given: &str) -> Result<String, AllocError> {
+pub(crate) fn answer(alloc: Global, shelf: &Held, given: &str) -> Result<String, AllocError> {
     let (path, words) = given.split_once(" | ").unwrap_or((given, ""));
     let listed = match path.strip_prefix("before ") {
         Some(path) => listed_before(alloc, shelf, source_of(words), path),

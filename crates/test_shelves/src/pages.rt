@@ -5,31 +5,15 @@
 // totals. A line that begins with `#` says something to readers.
 
 use crate::notices::{lines_told, request};
-use crate::shelf::{HEIRS, inside, shelf_of};
-use crate::told::Told;
+use crate::shelf::{HEIRS, inside};
+use crate::told::{Told, line_of};
 use line_engine::stream::Output;
 use notice_program::Request;
 use package_commands::{Noticed, notice};
 use shelves::Held;
 use std::alloc::{AllocError, Global};
-use test_rows::Tally;
 
-/// Appends the rows that don't hold, and how many do; gives whether all do.
-pub(crate) fn try_rows(alloc: Global, shown: &mut String, text: &str) -> Result<bool, AllocError> {
-    let mut tally = Tally::new();
-    let shelf = shelf_of(alloc, text)?;
-    for row in text.lines() {
-        if let Some((given, wanted)) = row.split_once(" => ") {
-            let answered = answer(alloc, &shelf, given)?;
-            let told = tally.count(alloc, row, wanted.trim(), answered.as_str())?;
-            shown.push_str(told.as_str())?;
-        }
-    }
-    shown.push_str(tally.line(alloc)?.as_str())?;
-    Ok(tally.is_good())
-}
-
-fn answer(alloc: Global, shelf: &Held, given: &str) -> Result<String, AllocError> {
+pub(crate) fn answer(alloc: Global, shelf: &Held, given: &str) -> Result<String, AllocError> {
     let (paths, rest) = given.split_once(" | ").unwrap_or((given, ""));
     let (accepted, words) = rest.split_once(" | ").unwrap_or((rest, ""));
     let paths: Vec<&str> = paths.split(' ').collect(alloc)?;
@@ -39,13 +23,7 @@ fn answer(alloc: Global, shelf: &Held, given: &str) -> Result<String, AllocError
     let request = request(&paths, accepted, &words);
     let Noticed { status, totals } = noticed(alloc, shelf, request, &mut written, &mut told)?;
     let page = lines_told(alloc, &written.into_inner())?;
-    let told = told.in_brackets(alloc)?;
-    let mut answer = format!(in alloc; "{status}:{page}{told}")?;
-    if let Some(line) = totals {
-        let line = line.as_str().trim_end();
-        answer.push_str(format!(in alloc; "; {line}")?.as_str())?;
-    }
-    Ok(answer)
+    told.answer(alloc, status, page.as_str(), line_of(&totals))
 }
 
 // How the command ends; where it stops at a trouble, that is told last.

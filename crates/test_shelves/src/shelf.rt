@@ -1,5 +1,6 @@
 // Shelves that stand in texts of rows, and how rows tell what comes of them.
 
+use crate::trees::put_trees;
 use list_program::Inside;
 use package_files::FileFault;
 use shelves::{Entry, Held, HeldFile, HeldFolder, HeldLink, Kind};
@@ -29,32 +30,46 @@ pub(crate) fn inside() -> Inside<'static> {
 
 /// The shelf of a text's files: `= PATH`, and behind it the file's lines, each behind `| `. `= -` is the input, and `= PATH/` a
 /// folder, whose lines are the names in it, those of folders with a slash behind them. `= PATH -> OTHER` says that what is at the
-/// path is a link to the other one.
+/// path is a link to the other one. A line `in PATH: NAMES` of the text is a folder too: `name` is an empty file, `name/` a folder
+/// and `name@` a link.
 pub(crate) fn shelf_of(alloc: Global, text: &str) -> Result<Held, AllocError> {
-    let mut files = Vec::new(alloc);
-    let mut folders = Vec::new(alloc);
-    let mut links = Vec::new(alloc);
+    let mut shelf = empty(alloc);
     for part in text.split("\n= ").skip(1) {
-        let head = part.lines().next().unwrap_or("");
-        if let Some((path, to)) = head.split_once(" -> ") {
-            links.push(HeldLink {
-                path: String::from_str(alloc, path)?,
-                to: String::from_str(alloc, to)?,
-            })?;
-            continue;
-        }
-        match head.strip_suffix("/") {
-            Some(path) => folders.push(folder(alloc, path, part)?)?,
-            None => files.push(file(alloc, part)?)?,
-        }
+        put_part(alloc, &mut shelf, part)?;
     }
-    let input = input_of(alloc, &files)?;
-    Ok(Held {
-        files,
-        folders,
-        links,
+    put_input(&mut shelf)?;
+    put_trees(alloc, &mut shelf, text)?;
+    Ok(shelf)
+}
+
+/// A shelf with nothing.
+pub(crate) fn empty(alloc: Global) -> Held {
+    Held {
+        files: Vec::new(alloc),
+        folders: Vec::new(alloc),
+        links: Vec::new(alloc),
         variables: Vec::new(alloc),
-        input,
+        input: Vec::new(alloc),
+    }
+}
+
+fn put_part(alloc: Global, shelf: &mut Held, part: &str) -> Result<(), AllocError> {
+    let head = part.lines().next().unwrap_or("");
+    if let Some((path, to)) = head.split_once(" -> ") {
+        shelf.links.push(link(alloc, path, to)?)?;
+        return Ok(());
+    }
+    match head.strip_suffix("/") {
+        Some(path) => shelf.folders.push(folder(alloc, path, part)?)?,
+        None => shelf.files.push(file(alloc, part)?)?,
+    }
+    Ok(())
+}
+
+fn link(alloc: Global, path: &str, to: &str) -> Result<HeldLink, AllocError> {
+    Ok(HeldLink {
+        path: String::from_str(alloc, path)?,
+        to: String::from_str(alloc, to)?,
     })
 }
 
@@ -87,12 +102,12 @@ fn folder(alloc: Global, path: &str, part: &str) -> Result<HeldFolder, AllocErro
     Ok(HeldFolder { path, entries })
 }
 
-fn input_of(alloc: Global, files: &[HeldFile]) -> Result<Vec<u8>, AllocError> {
-    let mut input = Vec::new(alloc);
+fn put_input(shelf: &mut Held) -> Result<(), AllocError> {
+    let Held { files, input, .. } = shelf;
     if let Some(file) = files.iter().find(|file| file.path.as_str() == "-") {
         input.extend_from_slice(&file.bytes)?;
     }
-    Ok(input)
+    Ok(())
 }
 
 /// The faults of files that are left out, each in brackets behind a blank.

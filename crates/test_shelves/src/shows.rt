@@ -5,29 +5,13 @@
 // of it, in brackets; or why nothing is told. In a row `unread LIST | ..` what is to stand in the place of deprecated names isn't
 // readable.
 
-use crate::shelf::{HEIRS, inside, lines_of, shelf_of};
+use crate::shelf::{HEIRS, inside, lines_of};
 use list_program::ListTrouble;
 use list_told::{Asked, show};
 use shelves::Held;
 use std::alloc::{AllocError, Global};
-use test_rows::Tally;
 
-/// Appends the rows that don't hold, and how many do; gives whether all do.
-pub(crate) fn try_rows(alloc: Global, shown: &mut String, text: &str) -> Result<bool, AllocError> {
-    let mut tally = Tally::new();
-    let shelf = shelf_of(alloc, text)?;
-    for row in text.lines() {
-        if let Some((given, wanted)) = row.split_once(" => ") {
-            let answered = answer(alloc, &shelf, given)?;
-            let told = tally.count(alloc, row, wanted.trim(), answered.as_str())?;
-            shown.push_str(told.as_str())?;
-        }
-    }
-    shown.push_str(tally.line(alloc)?.as_str())?;
-    Ok(tally.is_good())
-}
-
-fn answer(alloc: Global, shelf: &Held, given: &str) -> Result<String, AllocError> {
+pub(crate) fn answer(alloc: Global, shelf: &Held, given: &str) -> Result<String, AllocError> {
     let (head, names) = given.split_once(" | ").unwrap_or((given, ""));
     let (how, list) = head.split_once(' ').unwrap_or((head, "-"));
     let heirs = if how == "unread" { "[]" } else { HEIRS };

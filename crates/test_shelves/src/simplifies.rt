@@ -6,7 +6,7 @@
 // behind a semicolon each file with the same, or `unread`; or why there is nothing. `\s` is a space, `\t` a tab, `\n` a newline,
 // `\r` a carriage return, `\v` a vertical tab, and `\b` a byte that is in no UTF-8.
 
-use crate::shelf::{inside, shelf_of};
+use crate::shelf::inside;
 use list_program::named_list;
 use meaning_program::{
     FileEnd, MeaningTrouble, Request, Run, Simplified, simplify, simplify_lines,
@@ -14,37 +14,25 @@ use meaning_program::{
 use shelves::Held;
 use spdx_catalogue::Catalogue;
 use std::alloc::{AllocError, Global};
-use test_rows::Tally;
 
-/// Appends the rows that don't hold, and how many do; gives whether all do.
-pub(crate) fn try_rows(alloc: Global, shown: &mut String, text: &str) -> Result<bool, AllocError> {
-    let mut tally = Tally::new();
-    let shelf = shelf_of(alloc, text)?;
-    let Ok(catalogue) = named_list(alloc, &shelf, inside(), None) else {
-        return Err(AllocError);
-    };
-    for row in text.lines() {
-        if let Some((given, wanted)) = row.split_once(" => ") {
-            let answered = answer(alloc, &shelf, &catalogue, given)?;
-            let told = tally.count(alloc, row, wanted.trim(), answered.as_str())?;
-            shown.push_str(told.as_str())?;
-        }
-    }
-    shown.push_str(tally.line(alloc)?.as_str())?;
-    Ok(tally.is_good())
-}
-
-fn answer(
-    alloc: Global,
-    shelf: &Held,
-    catalogue: &Catalogue,
-    given: &str,
-) -> Result<String, AllocError> {
+pub(crate) fn answer(alloc: Global, shelf: &Held, given: &str) -> Result<String, AllocError> {
     let Some((mode, input)) = given.split_once(" |") else {
         return answer_of_run(alloc, shelf, given);
     };
+    let Ok(catalogue) = named_list(alloc, shelf, inside(), None) else {
+        return Err(AllocError);
+    };
     let input = bytes_of(alloc, input.strip_prefix(" ").unwrap_or(""))?;
-    let simplified = simplify_lines(alloc, catalogue, mode == "lax", &input)?;
+    answer_of_input(alloc, &catalogue, mode == "lax", &input)
+}
+
+fn answer_of_input(
+    alloc: Global,
+    catalogue: &Catalogue,
+    is_lax: bool,
+    input: &[u8],
+) -> Result<String, AllocError> {
+    let simplified = simplify_lines(alloc, catalogue, is_lax, input)?;
     let mut told = String::new(alloc);
     put_simplified(alloc, &mut told, &simplified)?;
     Ok(told)

@@ -25,6 +25,24 @@ impl Told {
         Ok(status)
     }
 
+    /// What a row has of a command: the status, what is written, each line that is told, and behind a semicolon that of totals.
+    pub(crate) fn answer(
+        &self,
+        alloc: Global,
+        status: u8,
+        written: &str,
+        totals: Option<&str>,
+    ) -> Result<String, AllocError> {
+        let told = self.in_brackets(alloc)?;
+        match totals {
+            Some(line) => {
+                let line = line.trim_end();
+                format!(in alloc; "{status}:{written}{told}; {line}")
+            }
+            None => format!(in alloc; "{status}:{written}{told}"),
+        }
+    }
+
     /// Each in brackets behind a blank.
     pub(crate) fn in_brackets(&self, alloc: Global) -> Result<String, AllocError> {
         let mut told = String::new(alloc);
@@ -32,6 +50,14 @@ impl Told {
             told.push_str(format!(in alloc; " [{line}]")?.as_str())?;
         }
         Ok(told)
+    }
+}
+
+/// The line of totals, where there is one.
+pub(crate) fn line_of(totals: &Option<String>) -> Option<&str> {
+    match totals {
+        Some(line) => Some(line.as_str()),
+        None => None,
     }
 }
 

@@ -6,23 +6,8 @@
 use spdx_troubles::Trouble;
 use std::alloc::{AllocError, Global};
 use std::io::{self, ErrorKind};
-use test_rows::Tally;
 
-/// Appends the rows that don't hold, and how many do; gives whether all do.
-pub(crate) fn try_rows(alloc: Global, shown: &mut String, text: &str) -> Result<bool, AllocError> {
-    let mut tally = Tally::new();
-    for row in text.lines() {
-        if let Some((given, wanted)) = row.split_once(" => ") {
-            let answered = answer(alloc, given)?;
-            let told = tally.count(alloc, row, wanted.trim(), answered.as_str())?;
-            shown.push_str(told.as_str())?;
-        }
-    }
-    shown.push_str(tally.line(alloc)?.as_str())?;
-    Ok(tally.is_good())
-}
-
-fn answer(alloc: Global, given: &str) -> Result<String, AllocError> {
+pub(crate) fn answer(alloc: Global, given: &str) -> Result<String, AllocError> {
     let (head, path) = given.split_once(" | ").unwrap_or((given, ""));
     let (act, kind) = head.split_once(' ').unwrap_or((head, ""));
     let path = path_of(alloc, path)?;

@@ -6,7 +6,7 @@ use spdx::{
     Catalogue, Expression, ExpressionJudge, Failure, LicenseReq, Licensee, least_selection,
     minimized_for_all,
 };
-use std::alloc::Global;
+use std::alloc::{AllocError, Global};
 
 // The licensees that the text names, with commas between.
 fn licensees<'c>(
@@ -85,14 +85,32 @@ fn asked<'c>(
     accepted: &[Licensee<'c>],
 ) -> Answer {
     let expression = Expression::parse(alloc, catalogue, text)?;
-    let mut members = Vec::new(alloc);
-    for licensee in accepted {
-        members.push(licensee)?;
-    }
-    let mut judge = ExpressionJudge::new(alloc, &expression, members.as_slice())?;
-    let mut selection = Vec::from_elem(alloc, false, members.len())?;
-    let suffices = least_selection(&mut judge, selection.as_mut_slice());
+    let members = lent(alloc, accepted)?;
+    let mut judge = ExpressionJudge::new(alloc, &expression, &members)?;
+    let (suffices, chosen) = selected(alloc, &mut judge, members.len())?;
     let are_few = judge.asked() <= (members.len() as u64).saturating_add(1);
-    let chosen = selection.iter().filter(|is_chosen| **is_chosen).count();
     Ok(format!(in alloc; "{suffices}, {chosen} chosen, few questions: {are_few}")?)
+}
+
+fn lent<'l, 'c>(
+    alloc: Global,
+    licensees: &'l [Licensee<'c>],
+) -> Result<Vec<&'l Licensee<'c>>, AllocError> {
+    let mut lent = Vec::new(alloc);
+    for licensee in licensees {
+        lent.push(licensee)?;
+    }
+    Ok(lent)
+}
+
+// Whether so many members suffice, and how many of them are selected.
+fn selected(
+    alloc: Global,
+    judge: &mut ExpressionJudge<'_, '_>,
+    count: usize,
+) -> Result<(bool, usize), AllocError> {
+    let mut selection = Vec::from_elem(alloc, false, count)?;
+    let suffices = least_selection(judge, selection.as_mut_slice());
+    let chosen = selection.iter().filter(|is_chosen| **is_chosen).count();
+    Ok((suffices, chosen))
 }

@@ -34,12 +34,10 @@ pub(crate) fn try_rows(alloc: Global, shown: &mut String, text: &str) -> Result<
         } else if !line.is_empty() && !line.starts_with('#') {
             let (given, wanted) = line.split_once(" => ").unwrap_or((line, ""));
             let answered = answer(alloc, call, given)?;
-            let told = tally.count(alloc, line, wanted, answered.as_str())?;
-            shown.push_str(told.as_str())?;
+            tally.count(shown, line, wanted, answered.as_str())?;
         }
     }
-    shown.push_str(tally.line(alloc)?.as_str())?;
-    Ok(tally.is_good())
+    tally.end(shown)
 }
 
 // What is answered, or the fault.
