@@ -113,6 +113,7 @@ fn answer_to_tree(alloc: Global, catalogue: &Catalogue, call: &str, given: &str)
         "choice for two" => choice::joint(alloc, catalogue, given),
         "choice for none" => choice::for_none(alloc, catalogue, given),
         "questions" => choice::questions(alloc, catalogue, given),
+        "questions for two" => choice::questions_for_two(alloc, catalogue, given),
         "printed fault" => printing::fault(alloc, catalogue, given),
         "reason" => printing::reason(alloc, given),
         "marked licence" => printing::marked(alloc, catalogue, given),

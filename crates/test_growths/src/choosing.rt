@@ -24,6 +24,7 @@ fn licensees<'c>(alloc: Global, catalogue: &'c Catalogue) -> Result<Vec<Licensee
 pub(crate) fn answer(alloc: Global, catalogue: &Catalogue, call: &str) -> Answer {
     match call {
         "ExpressionJudge::new" => judge(alloc, catalogue),
+        "ExpressionJudge::new_all" => joint_judge(alloc, catalogue),
         "minimized_requirements" => for_one(alloc, catalogue),
         "minimized_among" => among(alloc, catalogue),
         "minimized_for_all" => for_two(alloc, catalogue),
@@ -52,6 +53,17 @@ fn judge(alloc: Global, catalogue: &Catalogue) -> Answer {
 fn judge_of<'c>(alloc: Global, lent: &Lent<'c>, accepted: &[Licensee<'c>]) -> Answer {
     let members = members(alloc, accepted)?;
     match ExpressionJudge::new(alloc, &lent.expression, members.as_slice()) {
+        Ok(judge) => Ok(format!(in alloc; "{} questions", judge.asked())?),
+        Err(AllocError) => Err(lent.end()),
+    }
+}
+
+fn joint_judge(alloc: Global, catalogue: &Catalogue) -> Answer {
+    let accepted = licensees(alloc, catalogue)?;
+    let members = members(alloc, &accepted)?;
+    let lent = Lent::new(alloc, catalogue, TEXT)?;
+    let other = Expression::parse(alloc, catalogue, OTHER)?;
+    match ExpressionJudge::new_all(alloc, &[&lent.expression, &other], members.as_slice()) {
         Ok(judge) => Ok(format!(in alloc; "{} questions", judge.asked())?),
         Err(AllocError) => Err(lent.end()),
     }

@@ -31,6 +31,7 @@ evaluate
 evaluate_with_failures
 Licensee::parse
 ExpressionJudge::new
+ExpressionJudge::new_all
 minimized_requirements
 minimized_among
 minimized_for_all

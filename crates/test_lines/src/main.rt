@@ -9,23 +9,20 @@
 //! they are wanted, or the first that was not.
 #![tactic(auto)]
 
-mod again;
 mod devices;
-mod long;
-mod parts;
-mod readers;
 mod rows;
 mod served;
 mod shown;
+mod tries;
 mod ways;
 mod worked;
-mod writers;
 
 use crate::devices::Full;
-use crate::parts::Asked;
 use crate::rows::try_row;
 use crate::shown::Shown;
+use crate::tries::parts::Asked;
 use crate::ways::{Judge, WAYS, Way};
+use crate::worked::{LAX, NORMAL, STRICT, Worked};
 use spdx::{Catalogue, Licensee};
 use std::alloc::AllocError;
 use std::process::ExitCode;
@@ -49,7 +46,7 @@ fn try_writers(rt: &HostRuntime, judge: &Judge<'_>, way: Way) -> io::Result<()> 
         rt,
         way,
         "all is read and written",
-        writers::whole(judge, way),
+        writers::whole(judge, way, &LAX),
     )?;
     let shown = writers::cut_short(judge, way, all, Full::Error);
     tell(rt, way, "a writer fails after k bytes", shown)?;
@@ -113,6 +110,14 @@ fn try_all(rt: &HostRuntime, judge: &Judge<'_>) -> io::Result<()> {
     )
 }
 
+// Tries lines of the judge's mode.
+fn try_mode(rt: &HostRuntime, judge: &Judge<'_>, row: &str, worked: &Worked) -> io::Result<()> {
+    for way in WAYS {
+        tell(rt, way, row, writers::whole(judge, way, worked))?;
+    }
+    Ok(())
+}
+
 // Apache-2.0 and MIT, in this order; none where one of them isn't listed.
 fn licensees<'c>(
     rt: &HostRuntime,
@@ -137,12 +142,17 @@ fn try_over(rt: &HostRuntime, rows: &[u8]) -> io::Result<u8> {
         eprintln!(rt; "no licensees")?;
         return Ok(2);
     };
-    let judge = Judge {
+    let mut judge = Judge {
         alloc: rt.alloc(),
         catalogue: &catalogue,
+        mode: LAX.mode,
         accepted,
     };
     try_all(rt, &judge)?;
+    judge.mode = STRICT.mode;
+    try_mode(rt, &judge, "strict lines", &STRICT)?;
+    judge.mode = NORMAL.mode;
+    try_mode(rt, &judge, "normal texts", &NORMAL)?;
     Ok(0)
 }
 

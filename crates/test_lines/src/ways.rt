@@ -3,7 +3,7 @@
 ghost use Rattle.std.specs.Prelude.{◌<◌, ◌≤◌};
 
 use crate::devices::{Feed, Tray};
-use crate::worked::{EACH, JOINT};
+use crate::worked::{LAX, Worked};
 use spdx::{Catalogue, Licensee};
 use spdx_lines::{Input, LineMode, Output, RunFault, Summary, run, run_all, run_all_in, run_in};
 use std::alloc::Global;
@@ -51,9 +51,18 @@ impl Way {
         }
     }
 
-    /// What is written for the worked lines.
+    /// What is written for the worked lines of mode lax.
     pub(crate) fn output(self) -> &'static str {
-        if self.is_joint() { JOINT } else { EACH }
+        self.output_for(&LAX)
+    }
+
+    /// What is written for these lines.
+    pub(crate) fn output_for(self, worked: &Worked) -> &'static str {
+        if self.is_joint() {
+            worked.joint
+        } else {
+            worked.each
+        }
     }
 }
 
@@ -84,6 +93,7 @@ pub struct Played<'a> {
 pub struct Judge<'c> {
     pub alloc: Global,
     pub catalogue: &'c Catalogue,
+    pub mode: LineMode,
     pub accepted: Vec<Licensee<'c>>,
 }
 
@@ -107,15 +117,15 @@ impl Judge<'_> {
         input: &mut Input<Feed<'_>>,
         output: &mut Output<Tray>,
     ) -> Answer {
-        let (alloc, catalogue, accepted) = (self.alloc, self.catalogue, self.accepted.as_slice());
-        let lax = LineMode::Lax;
+        let (alloc, catalogue, mode) = (self.alloc, self.catalogue, self.mode);
+        let accepted = self.accepted.as_slice();
         let mut buffer = [0u8; 4096];
         let room = &mut buffer[..way.size()];
         match way {
-            Way::Run => run(alloc, catalogue, lax, accepted, input, output),
-            Way::RunIn(_) => run_in(alloc, catalogue, lax, accepted, input, output, room),
-            Way::RunAll => run_all(alloc, catalogue, lax, accepted, input, output),
-            Way::RunAllIn(_) => run_all_in(alloc, catalogue, lax, accepted, input, output, room),
+            Way::Run => run(alloc, catalogue, mode, accepted, input, output),
+            Way::RunIn(_) => run_in(alloc, catalogue, mode, accepted, input, output, room),
+            Way::RunAll => run_all(alloc, catalogue, mode, accepted, input, output),
+            Way::RunAllIn(_) => run_all_in(alloc, catalogue, mode, accepted, input, output, room),
         }
     }
 }

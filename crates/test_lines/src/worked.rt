@@ -1,6 +1,75 @@
-// The worked lines, and what is written for them whole, and for each beginning of them.
+// The worked lines, and what is written for them whole, and for each beginning of them. The licensees are Apache-2.0 and
+// MIT, in this order, and the last line has no newline.
 
-/// Mode lax, and the licensees are Apache-2.0 and MIT, in this order. The last line has no newline.
+use spdx_lines::{LineMode, Summary};
+
+/// Lines that are read whole, how many they are, and what is written for them: with a choice for each, and with one for all.
+#[derive(Clone, Copy)]
+pub struct Worked {
+    pub mode: LineMode,
+    pub input: &'static [u8],
+    pub counts: Summary,
+    pub each: &'static str,
+    pub joint: &'static str,
+}
+
+/// The lines of mode lax.
+pub const LAX: Worked = Worked {
+    mode: LineMode::Lax,
+    input: INPUT,
+    counts: Summary {
+        lines: 7,
+        refused: 3,
+    },
+    each: EACH,
+    joint: JOINT,
+};
+
+const NESTED: &[u8] = b"((MIT))\nmit\n(MIT AND Zlib) OR Apache-2.0\n\n\xff";
+
+/// Lines of mode strict, whose canonical text is the text itself.
+pub const STRICT: Worked = Worked {
+    mode: LineMode::Strict,
+    input: NESTED,
+    counts: Summary {
+        lines: 5,
+        refused: 3,
+    },
+    each: "accepted\t((MIT))\tMIT\n\
+        refused 0..3 unknown term\n\
+        accepted\t(MIT AND Zlib) OR Apache-2.0\tApache-2.0\n\
+        refused 0..0 empty expression\n\
+        bad-utf8\n",
+    joint: "accepted\t((MIT))\n\
+        refused 0..3 unknown term\n\
+        accepted\t(MIT AND Zlib) OR Apache-2.0\n\
+        refused 0..0 empty expression\n\
+        bad-utf8\n\
+        all\tApache-2.0, MIT\n",
+};
+
+/// The same lines, of which the normal text is written.
+pub const NORMAL: Worked = Worked {
+    mode: LineMode::Normal,
+    input: NESTED,
+    counts: Summary {
+        lines: 5,
+        refused: 3,
+    },
+    each: "accepted\tMIT\tMIT\n\
+        refused 0..3 unknown term\n\
+        accepted\tMIT AND Zlib OR Apache-2.0\tApache-2.0\n\
+        refused 0..0 empty expression\n\
+        bad-utf8\n",
+    joint: "accepted\tMIT\n\
+        refused 0..3 unknown term\n\
+        accepted\tMIT AND Zlib OR Apache-2.0\n\
+        refused 0..0 empty expression\n\
+        bad-utf8\n\
+        all\tApache-2.0, MIT\n",
+};
+
+/// Mode lax.
 pub const INPUT: &[u8] = b"MIT OR Apache-2.0\napache2\nmit/Zlib\n\nZlib\nMIT AND Apache-2.0\n\xff";
 
 /// With a choice for each line.

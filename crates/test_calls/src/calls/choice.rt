@@ -3,8 +3,8 @@
 use crate::answer::{Answer, NoAnswer, fields};
 use spdx::expression::MinimizeError;
 use spdx::{
-    Catalogue, Expression, ExpressionJudge, Failure, LicenseReq, Licensee, least_selection,
-    minimized_for_all,
+    Catalogue, Expression, ExpressionJudge, Failure, LicenseReq, Licensee, Sufficiency,
+    least_selection, minimized_for_all,
 };
 use std::alloc::{AllocError, Global};
 
@@ -78,6 +78,14 @@ pub(crate) fn questions(alloc: Global, catalogue: &Catalogue, given: &str) -> An
     asked(alloc, catalogue, text, accepted.as_slice())
 }
 
+/// The same for two texts together.
+pub(crate) fn questions_for_two(alloc: Global, catalogue: &Catalogue, given: &str) -> Answer {
+    let (first, others) = fields(given)?;
+    let (second, names) = fields(others)?;
+    let accepted = licensees(alloc, catalogue, names)?;
+    asked_of_both(alloc, catalogue, (first, second), accepted.as_slice())
+}
+
 fn asked<'c>(
     alloc: Global,
     catalogue: &'c Catalogue,
@@ -87,8 +95,25 @@ fn asked<'c>(
     let expression = Expression::parse(alloc, catalogue, text)?;
     let members = lent(alloc, accepted)?;
     let mut judge = ExpressionJudge::new(alloc, &expression, &members)?;
-    let (suffices, chosen) = selected(alloc, &mut judge, members.len())?;
-    let are_few = judge.asked() <= (members.len() as u64).saturating_add(1);
+    counted(alloc, &mut judge)
+}
+
+fn asked_of_both<'c>(
+    alloc: Global,
+    catalogue: &'c Catalogue,
+    texts: (&str, &str),
+    accepted: &[Licensee<'c>],
+) -> Answer {
+    let first = Expression::parse(alloc, catalogue, texts.0)?;
+    let second = Expression::parse(alloc, catalogue, texts.1)?;
+    let members = lent(alloc, accepted)?;
+    let mut judge = ExpressionJudge::new_all(alloc, &[&first, &second], &members)?;
+    counted(alloc, &mut judge)
+}
+
+fn counted(alloc: Global, judge: &mut ExpressionJudge<'_, '_>) -> Answer {
+    let (suffices, chosen) = selected(alloc, judge)?;
+    let are_few = judge.asked() <= (judge.members() as u64).saturating_add(1);
     Ok(format!(in alloc; "{suffices}, {chosen} chosen, few questions: {are_few}")?)
 }
 
@@ -103,13 +128,12 @@ fn lent<'l, 'c>(
     Ok(lent)
 }
 
-// Whether so many members suffice, and how many of them are selected.
+// Whether all members suffice, and how many of them are selected.
 fn selected(
     alloc: Global,
     judge: &mut ExpressionJudge<'_, '_>,
-    count: usize,
 ) -> Result<(bool, usize), AllocError> {
-    let mut selection = Vec::from_elem(alloc, false, count)?;
+    let mut selection = Vec::from_elem(alloc, false, judge.members())?;
     let suffices = least_selection(judge, selection.as_mut_slice());
     let chosen = selection.iter().filter(|is_chosen| **is_chosen).count();
     Ok((suffices, chosen))

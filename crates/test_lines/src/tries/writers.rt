@@ -3,29 +3,25 @@
 use crate::devices::{Feed, Full, Tray};
 use crate::shown::Shown;
 use crate::ways::{Judge, Way};
-use crate::worked::INPUT;
-use spdx_lines::{RunFault, Summary};
+use crate::worked::{INPUT, Worked};
+use spdx_lines::RunFault;
 
-// Whether all is written, and flushed once, behind the last byte.
-fn is_whole(judge: &Judge<'_>, way: Way, reads: usize, writes: usize) -> bool {
-    let mut feed = Feed::new(INPUT);
+// Whether all is written for these lines, and flushed once, behind the last byte.
+fn is_whole(judge: &Judge<'_>, way: Way, worked: &Worked, reads: usize, writes: usize) -> bool {
+    let mut feed = Feed::new(worked.input);
     feed.step = reads;
     let mut tray = Tray::new(judge.alloc);
     tray.step = writes;
     let played = judge.play(way, feed, tray);
-    let counts = Summary {
-        lines: 7,
-        refused: 3,
-    };
-    let wanted = way.output().as_bytes();
-    played.answer == Ok(counts)
+    let wanted = way.output_for(worked).as_bytes();
+    played.answer == Ok(worked.counts)
         && played.feed.rest.is_empty()
         && played.tray.taken.as_slice() == wanted
         && played.tray.flushes.as_slice() == [wanted.len()].as_slice()
 }
 
 /// Devices that give and take one byte at a time, or all at once.
-pub(crate) fn whole(judge: &Judge<'_>, way: Way) -> Shown {
+pub(crate) fn whole(judge: &Judge<'_>, way: Way, worked: &Worked) -> Shown {
     let steps = [
         (usize::MAX, usize::MAX),
         (usize::MAX, 1),
@@ -33,7 +29,7 @@ pub(crate) fn whole(judge: &Judge<'_>, way: Way) -> Shown {
         (1, 1),
     ];
     for (case, (reads, writes)) in steps.iter().enumerate() {
-        if !is_whole(judge, way, *reads, *writes) {
+        if !is_whole(judge, way, worked, *reads, *writes) {
             return Shown::Differs(case);
         }
     }
