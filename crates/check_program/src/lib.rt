@@ -2,7 +2,7 @@
 //! that is each file below it, then the licence texts that are missing or not needed, and the files without a licence.
 //!
 //! ```rust
-//! // crates/spdx_program/src/check.rt
+//! // crates/spdx_program/src/commands/check.rt
 //! let end = check_program::check(alloc, shelf, inside, asked, output, teller);
 //! ```
 //!

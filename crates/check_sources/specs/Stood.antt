@@ -1,7 +1,7 @@
 -- What the code holds, borrows aside.
 use Rattle.check_sources.specs.declared.findings.Source as held
-use Rattle.check_sources.specs.declared.written.Part as code
-use Rattle.check_sources.specs.declared.written.Written as code_written
+use Rattle.check_sources.specs.declared.findings.written.Part as code
+use Rattle.check_sources.specs.declared.findings.written.Written as code_written
 use Rattle.check_sources.specs.Findings.{Source}
 use Rattle.check_sources.specs.Written.{Part, Written}
 

@@ -6,8 +6,12 @@ ghost use Rattle.spdx_check.specs.Found.{finding_of};
 ghost use Rattle.check_sources.specs.Findings.{ChecksWritten, findings_text, refused_count};
 ghost use Rattle.check_sources.specs.Stood.{source_of, stood};
 
+pub(crate) mod declared;
+pub(crate) mod tags;
+pub(crate) mod written;
+
 use crate::cursor::Cursor;
-use crate::written::{Written, put_written};
+use crate::findings::written::{Written, put_written};
 use line_engine::lines::Summary;
 use spdx_check::Check;
 use std::alloc::{AllocError, Global};

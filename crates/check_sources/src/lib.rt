@@ -13,26 +13,23 @@
 
 pub mod counting;
 mod cursor;
-mod declared;
 pub mod decoding;
 mod findings;
 pub mod needs;
 pub mod owed;
 mod shown;
 pub mod sums;
-mod tags;
 pub mod untagged;
-mod written;
 
 pub use crate::counting::counted;
 pub use crate::cursor::Cursor;
-pub use crate::declared::{CheckedManifest, check_manifest, mode_in, reason_text};
 pub use crate::decoding::{bytes_or, utf16_text, without_mark};
+pub use crate::findings::declared::{CheckedManifest, check_manifest, mode_in, reason_text};
+pub use crate::findings::tags::{check_tags, is_binary};
+pub use crate::findings::written::slice_in;
 pub use crate::findings::{Findings, Source};
 pub use crate::needs::needed_by;
 pub use crate::owed::{Whole, owed_by, put_wholes, without_license};
 pub use crate::shown::Shown;
 pub use crate::sums::{Sums, summary_of};
-pub use crate::tags::{check_tags, is_binary};
 pub use crate::untagged::{is_text, needs_none};
-pub use crate::written::slice_in;

@@ -3,7 +3,7 @@
 //! It reads no expression: it gives their places, and writes another text there.
 //!
 //! ```rust
-//! // crates/check_sources/src/declared.rt
+//! // crates/check_sources/src/findings/declared.rt
 //! match sites(alloc, form, source.bytes) {
 //! ```
 //!

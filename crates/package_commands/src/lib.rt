@@ -1,7 +1,7 @@
 //! What the commands over packages write and tell, over a shelf of files, and with which status they end.
 //!
 //! ```rust
-//! // crates/spdx_program/src/gate.rt
+//! // crates/spdx_program/src/commands/gate.rt
 //! alone(package_commands::gate(alloc, shelf, list, heirs, asked, output, teller))
 //! ```
 //!

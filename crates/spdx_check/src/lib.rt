@@ -1,7 +1,7 @@
 //! What is wrong with the licence expressions of a file: one by one, where another finds them, or line by line.
 //!
 //! ```rust
-//! // crates/check_sources/src/written.rt
+//! // crates/check_sources/src/findings/written.rt
 //! let Some(refusal) = refusal_of(alloc, check, written.text)? else {
 //! ```
 //!

@@ -23,8 +23,8 @@ use Rattle.spdx_commands.specs.Said.{HearsBeginning}
 use Rattle.spdx_commands.specs.Steps.{Began, BeganPath, Comes, IsWorst}
 use Rattle.spdx_commands.specs.declared.deeds.SoFar.{SoFar}
 use Rattle.spdx_commands.specs.declared.nodes.Nodes.{Nodes}
-use Rattle.spdx_commands.specs.declared.replacing.Loss.{Loss}
-use Rattle.spdx_commands.specs.declared.replacing.Obstacle.{Obstacle}
+use Rattle.spdx_commands.specs.declared.mending.replacing.Loss.{Loss}
+use Rattle.spdx_commands.specs.declared.mending.replacing.Obstacle.{Obstacle}
 use Rattle.spdx_commands.proofs.Doings.{AreSoFar, HearsTried, after}
 use Rattle.spdx_troubles.specs.declared.trouble.Trouble.{Trouble}
 use Rattle.spdx_troubles.specs.declared.trouble.Trouble.TheVariants as trouble

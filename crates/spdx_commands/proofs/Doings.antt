@@ -21,10 +21,10 @@ use Rattle.spdx_commands.specs.Replaced.{Attempt, attempt, is_placed, is_replace
 use Rattle.spdx_commands.specs.Steps.{AreReplaced, Comes, ComesOfPath, IsLeftOutTold, IsUnwritten, IsWorst, told}
 use Rattle.spdx_commands.specs.declared.deeds.SoFar.{SoFar}
 use Rattle.spdx_commands.specs.declared.nodes.Nodes.{Nodes}
-use Rattle.spdx_commands.specs.declared.replacing.Loss.{Loss}
-use Rattle.spdx_commands.specs.declared.replacing.Loss.TheVariants as loss
-use Rattle.spdx_commands.specs.declared.replacing.Obstacle.{Obstacle}
-use Rattle.spdx_commands.specs.declared.replacing.Obstacle.TheVariants as obstacle
+use Rattle.spdx_commands.specs.declared.mending.replacing.Loss.{Loss}
+use Rattle.spdx_commands.specs.declared.mending.replacing.Loss.TheVariants as loss
+use Rattle.spdx_commands.specs.declared.mending.replacing.Obstacle.{Obstacle}
+use Rattle.spdx_commands.specs.declared.mending.replacing.Obstacle.TheVariants as obstacle
 use Rattle.spdx_troubles.specs.Causes.{IsFixTrouble, is_of_memory}
 use Rattle.spdx_troubles.specs.Status.{is_passed_over, status_of}
 use Rattle.spdx_troubles.specs.declared.trouble.Trouble.{Trouble}

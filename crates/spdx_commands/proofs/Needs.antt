@@ -28,8 +28,8 @@ use Rattle.fix_program.specs.Runs.{IsRun}
 use Rattle.list_program.specs.Named.{InsideBytes, IsNamedList}
 use Rattle.spdx_commands.specs.Mend.{AreEndsBegun, AreEndsDone, ArePathsBegun, ArePathsDone, Did, Done, IsDeedBegun, IsDeedDone, IsEndBegun, IsEndDone, IsFix, IsFixBegun, IsFixStopped, IsMere, IsNeeded, IsPathBegun, IsPathDone, IsPlaced, IsPlacedAgain, IsPlacedBy, IsPlacedIf, IsTried, IsTriedAgain, IsTriedBy, IsTriedIf, Setting, Stand, again, attempt_of, behind_paths, broken_off, caused, in_beside, in_files, in_left, in_paths, left_out, mended, no_end, no_path, nothing, setting, then_end, then_path, untried, worst}
 use Rattle.spdx_commands.specs.Replaced.{Attempt, attempt, is_of_memory, is_replaced, noted}
-use Rattle.spdx_commands.specs.declared.replacing.Loss.{Loss}
-use Rattle.spdx_commands.specs.declared.replacing.Obstacle.{Obstacle}
+use Rattle.spdx_commands.specs.declared.mending.replacing.Loss.{Loss}
+use Rattle.spdx_commands.specs.declared.mending.replacing.Obstacle.{Obstacle}
 use Rattle.spdx_troubles.specs.declared.trouble.Trouble.{Trouble}
 
 all_left : {X : Type 0} (P : X → Type 0) (xs ys : List X) → All P (xs ++ ys) → All P xs

@@ -31,10 +31,10 @@ use Rattle.fix_program.specs.declared.trouble.FixTrouble.{FixTrouble}
 use Rattle.spdx_commands.specs.Beside.{IsBesideTold}
 use Rattle.spdx_commands.specs.Replaced.{Attempt, attempt, is_replaced, noted}
 use Rattle.spdx_commands.specs.Said.{IsBroken}
-use Rattle.spdx_commands.specs.declared.replacing.Loss.{Loss}
-use Rattle.spdx_commands.specs.declared.replacing.Loss.TheVariants as loss
-use Rattle.spdx_commands.specs.declared.replacing.Obstacle.{Obstacle}
-use Rattle.spdx_commands.specs.declared.replacing.Obstacle.TheVariants as obstacle
+use Rattle.spdx_commands.specs.declared.mending.replacing.Loss.{Loss}
+use Rattle.spdx_commands.specs.declared.mending.replacing.Loss.TheVariants as loss
+use Rattle.spdx_commands.specs.declared.mending.replacing.Obstacle.{Obstacle}
+use Rattle.spdx_commands.specs.declared.mending.replacing.Obstacle.TheVariants as obstacle
 use Rattle.spdx_troubles.specs.Causes.{IsFixTrouble, fix_fault_trouble, is_of_memory}
 use Rattle.spdx_troubles.specs.Status.{status_of}
 use Rattle.spdx_troubles.specs.declared.trouble.Trouble.{Trouble}

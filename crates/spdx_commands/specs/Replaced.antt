@@ -2,9 +2,9 @@
 use Rattle.std.specs.Prelude.{◌==◌, ◌&&◌, ℕ, Bool, true, false, List, [], ◌∷◌, Result, Ok, Err, if◌then◌else◌}
 use Rattle.std.specs.List.{list_any}
 use Rattle.shelves.specs.declared.shelf.Stamp.{Stamp}
-use Rattle.spdx_commands.specs.declared.replacing.Loss.{Loss}
-use Rattle.spdx_commands.specs.declared.replacing.Obstacle.{Obstacle}
-use Rattle.spdx_commands.specs.declared.replacing.Obstacle.TheVariants as obstacle
+use Rattle.spdx_commands.specs.declared.mending.replacing.Loss.{Loss}
+use Rattle.spdx_commands.specs.declared.mending.replacing.Obstacle.{Obstacle}
+use Rattle.spdx_commands.specs.declared.mending.replacing.Obstacle.TheVariants as obstacle
 use Rattle.spdx_troubles.specs.Causes as causes
 
 -- these bytes were to take the place of the file's, which was known by the stamp when it was read, be

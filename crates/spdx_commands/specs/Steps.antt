@@ -9,8 +9,8 @@ use Rattle.spdx_commands.specs.Replaced.{Attempt, is_replaced}
 use Rattle.spdx_commands.specs.declared.deeds.Means.{Means}
 use Rattle.spdx_commands.specs.declared.deeds.SoFar.{SoFar}
 use Rattle.spdx_commands.specs.declared.nodes.Nodes.{Nodes}
-use Rattle.spdx_commands.specs.declared.replacing.Obstacle.{Obstacle}
-use Rattle.spdx_commands.specs.declared.replacing.Obstacle.TheVariants as obstacle
+use Rattle.spdx_commands.specs.declared.mending.replacing.Obstacle.{Obstacle}
+use Rattle.spdx_commands.specs.declared.mending.replacing.Obstacle.TheVariants as obstacle
 use Rattle.spdx_troubles.specs.Causes.{IsFixTrouble, is_of_memory}
 use Rattle.spdx_troubles.specs.Status.{status_of}
 use Rattle.spdx_troubles.specs.declared.trouble.Trouble.{Trouble}

@@ -35,8 +35,8 @@ ghost use Rattle.spdx_troubles.specs.Causes as causes;
 ghost use Rattle.spdx_troubles.specs.Status.{status_of};
 
 use crate::listener::Listener;
+use crate::mending::replacing::{Loss, Obstacle, Replacing};
 use crate::nodes::Nodes;
-use crate::replacing::{Loss, Obstacle, Replacing};
 use fix_program::{Deed, FileEnd, FixTrouble, Fixed, Manner, Replacement, file_fixed};
 use line_engine::device::Sink;
 use line_engine::lines::write_all;

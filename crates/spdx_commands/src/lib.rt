@@ -1,7 +1,7 @@
 //! What the commands of `spdx` write and tell, over a shelf of files, and with which status they end.
 //!
 //! ```rust
-//! // crates/spdx_program/src/compare.rt
+//! // crates/spdx_program/src/commands/compare.rt
 //! alone(spdx_commands::compare(alloc, shelf, inside.list, asked, output))
 //! ```
 //!
@@ -16,10 +16,8 @@ mod deeds;
 mod follower;
 mod listener;
 mod lists;
-mod mended_paths;
 mod mending;
 mod nodes;
-mod replacing;
 mod said;
 mod simplification;
 
@@ -28,6 +26,6 @@ pub use crate::follower::Follower;
 pub use crate::listener::Listener;
 pub use crate::lists::{diff, make, show};
 pub use crate::mending::fix;
-pub use crate::replacing::{Loss, Obstacle, Replacing};
+pub use crate::mending::replacing::{Loss, Obstacle, Replacing};
 pub use crate::said::{Said, say};
 pub use crate::simplification::simplify;

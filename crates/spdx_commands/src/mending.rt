@@ -15,11 +15,14 @@ ghost use Rattle.spdx_commands.specs.Mend.{
   stand,
 };
 
+pub(crate) mod paths;
+pub(crate) mod replacing;
+
 use crate::beside::tell_left_beside;
 use crate::deeds::Means;
 use crate::follower::Follower;
-use crate::mended_paths::{do_paths, greater};
-use crate::replacing::Replacing;
+use crate::mending::paths::{do_paths, greater};
+use crate::mending::replacing::Replacing;
 use crate::said::tell_each;
 use fix_program::{Request, Run};
 use line_engine::device::Sink;

@@ -1,7 +1,7 @@
 -- What the rows of the files show, as bytes and numbers.
 use Rattle.std.specs.Prelude.{string_bytes, map}
 use Rattle.spdx_requirement.specs.Rows.{imprecise_of}
-use Rattle.spdx_list.specs.declared.item.Entry.{Entry}
+use Rattle.spdx_list.specs.declared.tables.item.Entry.{Entry}
 use Rattle.spdx_list.specs.declared.tables.Stated.{Stated}
 use Rattle.spdx_list.specs.declared.extras.Instead.{Instead}
 use Rattle.spdx_list.specs.declared.extras.Extras.{Extras}

@@ -9,8 +9,8 @@ ghost use Rattle.spdx_list.specs.Shown.{shown_extras};
 ghost use Rattle.spdx_list.specs.declared.extras.Instead.{Instead};
 
 use crate::error::{File, ListFault, Table};
-use crate::item::table_at;
 use crate::json::value_of;
+use crate::tables::item::table_at;
 use serde_json::Value;
 use spdx_requirement::failure::Failure;
 use spdx_requirement::row::ImpreciseName;

@@ -13,10 +13,8 @@ pub mod diff;
 pub mod error;
 pub mod extras;
 mod forms;
-mod item;
 mod json;
 mod names;
-mod order;
 pub mod tables;
 pub mod text;
 

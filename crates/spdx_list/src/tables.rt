@@ -12,13 +12,16 @@ ghost use Rattle.spdx_list.specs.FullNames.{ReadsFullNames};
 ghost use Rattle.spdx_list.specs.Forms.{ReadsForms};
 ghost use Rattle.spdx_list.specs.Shown.{entry_of, shown_stated, shown_extras};
 
+pub(crate) mod item;
+pub(crate) mod order;
+
 use crate::error::{File, ListFault, Table};
 use crate::extras::Extras;
 use crate::forms::with_forms;
-use crate::item::{Entry, table_at};
 use crate::json::{text_at, value_of};
 use crate::names::{ends_in_plus, is_gnu_name, license_flags};
-use crate::order::in_order;
+use crate::tables::item::{Entry, table_at};
+use crate::tables::order::in_order;
 use serde_json::Value;
 use spdx_catalogue::Catalogue;
 use spdx_requirement::failure::Failure;

@@ -5,7 +5,7 @@ use Rattle.std.specs.Option.{ForSome}
 use Rattle.spdx_requirement.specs.Items.{Requirement, requirement_of}
 use Rattle.spdx_requirement.specs.Equality.{same_requirement}
 use Rattle.spdx_licensee.specs.Satisfies.{satisfies}
-use Rattle.spdx_minimize.specs.declared.found.Found.{Found}
+use Rattle.spdx_minimize.specs.declared.accepted.found.Found.{Found}
 
 -- the places, counted from k, of those that pass the test and are the same as none before them
 abbrev pub first_places_from : (Requirement → Bool) → ℕ → List Requirement → List Requirement →

@@ -12,8 +12,10 @@ ghost use Rattle.spdx_requirement.specs.Failures.{IfRefused};
 ghost use Rattle.spdx_minimize.specs.Trees.{trees_in};
 ghost use Rattle.std.specs.List.{flat_map};
 
+pub(crate) mod found;
+
+use crate::accepted::found::FoundPlaces;
 use crate::choice::choice_among_members;
-use crate::found::FoundPlaces;
 use crate::minimize_error::MinimizeError;
 use crate::nodes::TreeNodes;
 use crate::useful::{is_among, satisfies};

@@ -8,8 +8,10 @@ ghost use Rattle.spdx_minimize.specs.Choice.{useful, chosen, chosen_of, choice_o
 ghost use Rattle.spdx_minimize.specs.MinimizeFaults.{refused_choice};
 ghost use Rattle.spdx_minimize.specs.Trees.{trees_in};
 
-use crate::first::choice_for_one;
-use crate::held::HeldJudge;
+pub(crate) mod first;
+
+use crate::choice::first::choice_for_one;
+use crate::judge::held::HeldJudge;
 use crate::minimize_error::MinimizeError;
 use crate::nodes::TreeNodes;
 use crate::useful::useful_members;

@@ -9,6 +9,8 @@ ghost use Rattle.spdx_evaluation.specs.Requirements.{nows};
 ghost use Rattle.spdx_minimize.specs.Trees.{trees_in};
 ghost use Rattle.spdx_minimize.specs.Places.{places, part_of, met_by, leaf_places, any_at, IsOver, answered, all_true, longest};
 
+pub(crate) mod held;
+
 use crate::nodes::TreeNodes;
 use crate::question::{Meeting, Part, PartList, PlaceList, Question};
 use crate::useful::satisfies;

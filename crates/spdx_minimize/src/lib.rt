@@ -12,9 +12,6 @@
 pub mod accepted;
 pub mod choice;
 pub mod error;
-mod first;
-mod found;
-mod held;
 pub mod judge;
 pub mod laws;
 pub mod minimize_error;

@@ -25,9 +25,9 @@ use Rattle.spdx_commands.specs.Lists.{IsShow, IsUnmade, WritesMade}
 use Rattle.spdx_commands.specs.Mend.{Did, IsFix, IsFixStopped, Stand}
 use Rattle.spdx_commands.specs.Simplify.{IsSimplify}
 use Rattle.spdx_troubles.specs.declared.trouble.Trouble.{Trouble}
-use Rattle.spdx_words.specs.declared.packages_request.ChangesRequest.{ChangesRequest}
-use Rattle.spdx_words.specs.declared.packages_request.GateRequest.{GateRequest}
-use Rattle.spdx_words.specs.declared.packages_request.NoticeRequest.{NoticeRequest}
+use Rattle.spdx_words.specs.declared.packages.request.ChangesRequest.{ChangesRequest}
+use Rattle.spdx_words.specs.declared.packages.request.GateRequest.{GateRequest}
+use Rattle.spdx_words.specs.declared.packages.request.NoticeRequest.{NoticeRequest}
 use Rattle.spdx_words.specs.declared.request.CheckRequest.{CheckRequest}
 use Rattle.spdx_words.specs.declared.request.CompareRequest.{CompareRequest}
 use Rattle.spdx_words.specs.declared.request.DiffRequest.{DiffRequest}

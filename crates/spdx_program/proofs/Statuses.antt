@@ -40,7 +40,7 @@ use Rattle.spdx_commands.specs.Simplify.{IsSimplify}
 use Rattle.spdx_troubles.specs.Status.{status_of}
 use Rattle.spdx_troubles.specs.declared.trouble.Trouble.{Trouble}
 use Rattle.spdx_troubles.specs.declared.trouble.Trouble.TheVariants as told
-use Rattle.spdx_words.specs.declared.packages_request.GateRequest.{GateRequest}
+use Rattle.spdx_words.specs.declared.packages.request.GateRequest.{GateRequest}
 use Rattle.spdx_words.specs.declared.request.CheckRequest.{CheckRequest}
 use Rattle.spdx_words.specs.declared.request.FixRequest.{FixRequest}
 use Rattle.spdx_words.specs.declared.request.Request.{Request}

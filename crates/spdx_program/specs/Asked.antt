@@ -33,23 +33,23 @@ use Rattle.choice_program.specs.declared.acceptance.Accepted.{Accepted}
 use Rattle.choice_program.specs.declared.acceptance.Accepted.TheVariants as accepted
 use Rattle.source_trees.specs.declared.reading.Wanted as trees
 use Rattle.source_trees.specs.declared.reading.Wanted.TheVariants as wanted
-use Rattle.spdx_words.specs.declared.packages_request.Accepted as said_accepted
-use Rattle.spdx_words.specs.declared.packages_request.Accepted.TheVariants as say_accepted
-use Rattle.spdx_words.specs.declared.packages_request.ChangesFormat.{ChangesFormat}
-use Rattle.spdx_words.specs.declared.packages_request.ChangesFormat.TheVariants as say_changes
-use Rattle.spdx_words.specs.declared.packages_request.ChangesRequest.{ChangesRequest}
-use Rattle.spdx_words.specs.declared.packages_request.GateFormat.{GateFormat}
-use Rattle.spdx_words.specs.declared.packages_request.GateFormat.TheVariants as say_verdict
-use Rattle.spdx_words.specs.declared.packages_request.GateRequest.{GateRequest}
-use Rattle.spdx_words.specs.declared.packages_request.NoticeRequest.{NoticeRequest}
-use Rattle.spdx_words.specs.declared.packages_request.OwnTexts as said_own
-use Rattle.spdx_words.specs.declared.packages_request.OwnTexts.TheVariants as say_own
-use Rattle.spdx_words.specs.declared.packages_request.PageFormat.{PageFormat}
-use Rattle.spdx_words.specs.declared.packages_request.PageFormat.TheVariants as say_page
-use Rattle.spdx_words.specs.declared.packages_request.Source as said_source
-use Rattle.spdx_words.specs.declared.packages_request.Source.TheVariants as say_source
-use Rattle.spdx_words.specs.declared.packages_request.SourceForm.{SourceForm}
-use Rattle.spdx_words.specs.declared.packages_request.SourceForm.TheVariants as say_form
+use Rattle.spdx_words.specs.declared.packages.request.Accepted as said_accepted
+use Rattle.spdx_words.specs.declared.packages.request.Accepted.TheVariants as say_accepted
+use Rattle.spdx_words.specs.declared.packages.request.ChangesFormat.{ChangesFormat}
+use Rattle.spdx_words.specs.declared.packages.request.ChangesFormat.TheVariants as say_changes
+use Rattle.spdx_words.specs.declared.packages.request.ChangesRequest.{ChangesRequest}
+use Rattle.spdx_words.specs.declared.packages.request.GateFormat.{GateFormat}
+use Rattle.spdx_words.specs.declared.packages.request.GateFormat.TheVariants as say_verdict
+use Rattle.spdx_words.specs.declared.packages.request.GateRequest.{GateRequest}
+use Rattle.spdx_words.specs.declared.packages.request.NoticeRequest.{NoticeRequest}
+use Rattle.spdx_words.specs.declared.packages.request.OwnTexts as said_own
+use Rattle.spdx_words.specs.declared.packages.request.OwnTexts.TheVariants as say_own
+use Rattle.spdx_words.specs.declared.packages.request.PageFormat.{PageFormat}
+use Rattle.spdx_words.specs.declared.packages.request.PageFormat.TheVariants as say_page
+use Rattle.spdx_words.specs.declared.packages.request.Source as said_source
+use Rattle.spdx_words.specs.declared.packages.request.Source.TheVariants as say_source
+use Rattle.spdx_words.specs.declared.packages.request.SourceForm.{SourceForm}
+use Rattle.spdx_words.specs.declared.packages.request.SourceForm.TheVariants as say_form
 use Rattle.spdx_words.specs.declared.request.CheckRequest.{CheckRequest}
 use Rattle.spdx_words.specs.declared.request.CompareRequest.{CompareRequest}
 use Rattle.spdx_words.specs.declared.request.DiffRequest.{DiffRequest}

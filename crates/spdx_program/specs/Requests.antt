@@ -16,9 +16,9 @@ use Rattle.spdx_program.specs.Asked.{IsAskedOf, IsShowAsked, changes_of, check_o
 use Rattle.spdx_program.specs.Ends.{IsChangesEnd, IsCheckEnd, IsCompareEnd, IsFixEnd, IsGateEnd, IsListsEnd, IsMakeEnd, IsNoticeEnd, IsShowEnd, IsSimplifyEnd, World}
 use Rattle.spdx_program.specs.declared.ended.Ended.{Ended}
 use Rattle.spdx_troubles.specs.declared.trouble.Trouble.{Trouble}
-use Rattle.spdx_words.specs.declared.packages_request.ChangesRequest.{ChangesRequest}
-use Rattle.spdx_words.specs.declared.packages_request.GateRequest.{GateRequest}
-use Rattle.spdx_words.specs.declared.packages_request.NoticeRequest.{NoticeRequest}
+use Rattle.spdx_words.specs.declared.packages.request.ChangesRequest.{ChangesRequest}
+use Rattle.spdx_words.specs.declared.packages.request.GateRequest.{GateRequest}
+use Rattle.spdx_words.specs.declared.packages.request.NoticeRequest.{NoticeRequest}
 use Rattle.spdx_words.specs.declared.request.CheckRequest.{CheckRequest}
 use Rattle.spdx_words.specs.declared.request.CompareRequest.{CompareRequest}
 use Rattle.spdx_words.specs.declared.request.DiffRequest.{DiffRequest}

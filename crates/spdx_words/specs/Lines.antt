@@ -19,9 +19,9 @@ use Rattle.spdx_words.specs.Said.{AreLists, IsChanges, IsCheck, IsCompare, IsFix
 use Rattle.spdx_words.specs.Said.{IsNotice, IsShow, IsSimplify}
 use Rattle.spdx_words.specs.Unfit.{changes_unfit, check_unfit, compare_unfit, differ_unfit}
 use Rattle.spdx_words.specs.Unfit.{fix_unfit, gate_unfit, make_unfit, notice_unfit}
-use Rattle.spdx_words.specs.declared.packages_request.ChangesRequest.{ChangesRequest}
-use Rattle.spdx_words.specs.declared.packages_request.GateRequest.{GateRequest}
-use Rattle.spdx_words.specs.declared.packages_request.NoticeRequest.{NoticeRequest}
+use Rattle.spdx_words.specs.declared.packages.request.ChangesRequest.{ChangesRequest}
+use Rattle.spdx_words.specs.declared.packages.request.GateRequest.{GateRequest}
+use Rattle.spdx_words.specs.declared.packages.request.NoticeRequest.{NoticeRequest}
 use Rattle.spdx_words.specs.declared.request.CheckRequest.{CheckRequest}
 use Rattle.spdx_words.specs.declared.request.CompareRequest.{CompareRequest}
 use Rattle.spdx_words.specs.declared.request.DiffRequest.{DiffRequest}

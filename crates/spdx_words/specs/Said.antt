@@ -6,23 +6,23 @@ use Rattle.std.specs.Option.{option_map_or}
 use Rattle.std.specs.Prelude.{◌≡◌, Bool, true, false, not, List, Option, Some, None, bytes_eq}
 use Rattle.std.specs.Prelude.{codes, if◌then◌else◌, option_and_then, option_map, unwrap_or}
 use Rattle.spdx_words.specs.Options.{all_in, has}
-use Rattle.spdx_words.specs.declared.packages_request.Accepted.{Accepted}
-use Rattle.spdx_words.specs.declared.packages_request.Accepted.TheVariants as accepted
-use Rattle.spdx_words.specs.declared.packages_request.ChangesFormat.{ChangesFormat}
-use Rattle.spdx_words.specs.declared.packages_request.ChangesFormat.TheVariants as change
-use Rattle.spdx_words.specs.declared.packages_request.ChangesRequest.{ChangesRequest}
-use Rattle.spdx_words.specs.declared.packages_request.GateFormat.{GateFormat}
-use Rattle.spdx_words.specs.declared.packages_request.GateFormat.TheVariants as verdict
-use Rattle.spdx_words.specs.declared.packages_request.GateRequest.{GateRequest}
-use Rattle.spdx_words.specs.declared.packages_request.NoticeRequest.{NoticeRequest}
-use Rattle.spdx_words.specs.declared.packages_request.OwnTexts.{OwnTexts}
-use Rattle.spdx_words.specs.declared.packages_request.OwnTexts.TheVariants as own
-use Rattle.spdx_words.specs.declared.packages_request.PageFormat.{PageFormat}
-use Rattle.spdx_words.specs.declared.packages_request.PageFormat.TheVariants as page
-use Rattle.spdx_words.specs.declared.packages_request.Source.{Source}
-use Rattle.spdx_words.specs.declared.packages_request.Source.TheVariants as source
-use Rattle.spdx_words.specs.declared.packages_request.SourceForm.{SourceForm}
-use Rattle.spdx_words.specs.declared.packages_request.SourceForm.TheVariants as form
+use Rattle.spdx_words.specs.declared.packages.request.Accepted.{Accepted}
+use Rattle.spdx_words.specs.declared.packages.request.Accepted.TheVariants as accepted
+use Rattle.spdx_words.specs.declared.packages.request.ChangesFormat.{ChangesFormat}
+use Rattle.spdx_words.specs.declared.packages.request.ChangesFormat.TheVariants as change
+use Rattle.spdx_words.specs.declared.packages.request.ChangesRequest.{ChangesRequest}
+use Rattle.spdx_words.specs.declared.packages.request.GateFormat.{GateFormat}
+use Rattle.spdx_words.specs.declared.packages.request.GateFormat.TheVariants as verdict
+use Rattle.spdx_words.specs.declared.packages.request.GateRequest.{GateRequest}
+use Rattle.spdx_words.specs.declared.packages.request.NoticeRequest.{NoticeRequest}
+use Rattle.spdx_words.specs.declared.packages.request.OwnTexts.{OwnTexts}
+use Rattle.spdx_words.specs.declared.packages.request.OwnTexts.TheVariants as own
+use Rattle.spdx_words.specs.declared.packages.request.PageFormat.{PageFormat}
+use Rattle.spdx_words.specs.declared.packages.request.PageFormat.TheVariants as page
+use Rattle.spdx_words.specs.declared.packages.request.Source.{Source}
+use Rattle.spdx_words.specs.declared.packages.request.Source.TheVariants as source
+use Rattle.spdx_words.specs.declared.packages.request.SourceForm.{SourceForm}
+use Rattle.spdx_words.specs.declared.packages.request.SourceForm.TheVariants as form
 use Rattle.spdx_words.specs.declared.request.CheckRequest.{CheckRequest}
 use Rattle.spdx_words.specs.declared.request.CompareRequest.{CompareRequest}
 use Rattle.spdx_words.specs.declared.request.DiffRequest.{DiffRequest}

@@ -4,10 +4,10 @@ use Rattle.clap.specs.Walk.{Row}
 use Rattle.std.specs.Prelude.{Bool, true, false, not, ◌&&◌, ◌||◌, List, Option, Some, codes}
 use Rattle.spdx_words.specs.Options.{has, says}
 use Rattle.spdx_words.specs.Said.{form_in, gate_format_in}
-use Rattle.spdx_words.specs.declared.packages_request.GateFormat.{GateFormat}
-use Rattle.spdx_words.specs.declared.packages_request.GateFormat.TheVariants as verdict
-use Rattle.spdx_words.specs.declared.packages_request.SourceForm.{SourceForm}
-use Rattle.spdx_words.specs.declared.packages_request.SourceForm.TheVariants as form
+use Rattle.spdx_words.specs.declared.packages.request.GateFormat.{GateFormat}
+use Rattle.spdx_words.specs.declared.packages.request.GateFormat.TheVariants as verdict
+use Rattle.spdx_words.specs.declared.packages.request.SourceForm.{SourceForm}
+use Rattle.spdx_words.specs.declared.packages.request.SourceForm.TheVariants as form
 
 -- ---- the commands over expressions
 

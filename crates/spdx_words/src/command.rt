@@ -7,7 +7,7 @@ ghost use Rattle.spdx_words.specs.Options.{IsAlone, IsCommand};
 ghost use Rattle.spdx_words.specs.Commands as table;
 
 use crate::options::{choice, file, flag, lettered, option, optional_file, with_value, words};
-use crate::packages_command::{diff, gate, notice};
+use crate::packages::command::{diff, gate, notice};
 use clap::{Arg, Command};
 use std::alloc::{AllocError, Global};
 

@@ -10,20 +10,15 @@
 
 mod command;
 mod entered;
-mod expression_words;
-mod list_words;
 mod options;
-mod packages_command;
-pub mod packages_request;
-mod packages_requests;
-mod packages_words;
+pub mod packages;
 pub mod request;
 mod requests;
 mod unfit;
 mod values;
 mod words;
 
-pub use crate::packages_request::{
+pub use crate::packages::request::{
     Accepted, ChangesFormat, ChangesRequest, GateFormat, GateRequest, NoticeRequest, OwnTexts,
     PageFormat, Source, SourceForm,
 };

@@ -1,6 +1,6 @@
 // What a command line asks for.
 
-use crate::packages_request::{ChangesRequest, GateRequest, NoticeRequest};
+use crate::packages::request::{ChangesRequest, GateRequest, NoticeRequest};
 
 /// What the program is to do.
 #[derive(Drop)]

@@ -7,8 +7,8 @@ ghost use Rattle.clap.specs.Walk.{rows_of};
 ghost use Rattle.clap.specs.declared.error.kind.ErrorKind.TheVariants.{OutOfMemory};
 ghost use Rattle.spdx_words.specs.Unfit as unfit;
 
-use crate::packages_request::{GateFormat, SourceForm};
-use crate::packages_requests::{form_in, gate_format_in};
+use crate::packages::request::{GateFormat, SourceForm};
+use crate::packages::requests::{form_in, gate_format_in};
 use crate::values::{has, says};
 use clap::error::ErrorKind;
 use clap::{ArgMatches, Command, Error};

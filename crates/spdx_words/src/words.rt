@@ -5,12 +5,16 @@ ghost use Rattle.clap.specs.Walk.{Text};
 ghost use Rattle.spdx_words.specs.Lines.{IsAnswer};
 ghost use Rattle.spdx_words.specs.Options.{text_of};
 
+pub(crate) mod expression;
+pub(crate) mod list;
+pub(crate) mod packages;
+
 use crate::command::{list_alone, with_all};
 use crate::entered::refusal;
-use crate::expression_words::{read_check, read_compare, read_fix, read_simplify};
-use crate::list_words::read_list;
-use crate::packages_words::{read_diff, read_gate, read_notice};
 use crate::request::Request;
+use crate::words::expression::{read_check, read_compare, read_fix, read_simplify};
+use crate::words::list::read_list;
+use crate::words::packages::{read_diff, read_gate, read_notice};
 use clap::Error;
 use std::alloc::Global;
 

@@ -21,6 +21,7 @@ use crate::devices::Full;
 use crate::rows::try_row;
 use crate::shown::Shown;
 use crate::tries::parts::Asked;
+use crate::tries::{again, long, parts, readers, writers};
 use crate::ways::{Judge, WAYS, Way};
 use crate::worked::{LAX, NORMAL, STRICT, Worked};
 use spdx::{Catalogue, Licensee};

@@ -8,31 +8,13 @@
 //! that don't hold, then how many do. The head of each module has the form of its rows.
 #![tactic(auto)]
 
-mod changes;
-mod checks;
-mod choices;
-mod commands;
-mod compares;
 mod desk;
-mod diffs;
-mod fixes;
 mod fragile;
-mod gates;
-mod list_diffs;
-mod lists;
-mod mends;
-mod notices;
-mod packages;
-mod pages;
-mod rows;
+mod parts;
 mod shelf;
-mod shows;
-mod simplifies;
 mod told;
-mod trees;
-mod troubles;
 
-use crate::rows::{PARTS, Part};
+use crate::parts::{PARTS, Part};
 use std::io::Write;
 use std::process::ExitCode;
 use std::{fs, io};

@@ -1,6 +1,6 @@
 // Shelves that stand in texts of rows, and how rows tell what comes of them.
 
-use crate::trees::put_trees;
+use crate::parts::trees::put_trees;
 use list_program::Inside;
 use package_files::FileFault;
 use shelves::{Entry, Held, HeldFile, HeldFolder, HeldLink, Kind};

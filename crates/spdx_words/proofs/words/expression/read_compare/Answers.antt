@@ -1,0 +1,59 @@
+use Rattle.std.proofs.Common.{refl, subst, sym, ◌∷◌, codes, map}
+use Rattle.clap.specs.Matches.{found_of}
+use Rattle.clap.specs.Values.{kind_of}
+use Rattle.clap.specs.Walk.{rows_of}
+use Rattle.spdx_words.specs.Commands as table
+use Rattle.spdx_words.specs.Lines as lines
+use Rattle.spdx_words.specs.Options.{given, text_of}
+use Rattle.spdx_words.specs.Said as said
+use Rattle.spdx_words.specs.Unfit as unfit
+use Rattle.spdx_words.specs.declared.request.Request.TheVariants as request
+use Rattle.spdx_words.proofs.Answering.{enters, of_memory, passed_on, refused, says, unfit_is}
+use Rattle.spdx_words.proofs.Answering.{having, lacking}
+use Rattle.spdx_words.proofs.Saying.{spdx_given}
+use Rattle.spdx_words.proofs.words.expression.read_compare.Goals as goal
+
+pub returns-in_err-compare : goal.returns-in_err-compare
+returns-in_err-compare c program behind words =
+    of_memory _ c.from_residual.result c.from_residual.ensures.1
+
+pub returns-in_err-with : goal.returns-in_err-with
+returns-in_err-with c program behind words =
+    of_memory _ c.from_residual-in_err-with.result c.from_residual-in_err-with.ensures.1
+
+pub returns-in_err-matches : goal.returns-in_err-matches
+returns-in_err-matches c program behind words =
+    let options = table.compare_options in
+    let name = codes "compare" in
+    let ws = map text_of c.args.words.now in
+    let app = lines.of_spdx name options in
+    let taken = spdx_given name options program behind in
+    let e = c.in_err-matches.field-0.0 in
+    passed_on ws _ e c.from_residual-in_err-matches.ensures.1
+    (refused app (program ∷ name ∷ behind) name options behind taken ws words ws (unfit.compare_unfit (given options behind)) e (c.in_err-matches.ensures.err app (c.in_ok-with.ensures _ c.in_ok-compare.ensures) refl (enters app (program ∷ name ∷ behind) name options behind taken ws words))
+    (λ fault. subst (λ ws. lines.IsRefused ws (kind_of e)) (sym words) (lines.compare program behind (kind_of e) fault)))
+
+pub returns : goal.returns
+returns c program behind words =
+    let options = table.compare_options in
+    let name = codes "compare" in
+    let ws = map text_of c.args.words.now in
+    let app = lines.of_spdx name options in
+    let taken = spdx_given name options program behind in
+    let found = c.in_ok-matches.ensures.ok app (c.in_ok-with.ensures _ c.in_ok-compare.ensures) refl in
+    let k = kind_of c.error.result in
+    subst (λ ws. lines.IsRefused ws k) (sym words)
+    (lines.compare program behind k (unfit_is app (program ∷ name ∷ behind) name options behind taken ws words unfit.compare_unfit k (rows_of (found_of c.in_ok-matches.matches)) found (lacking _ c.in-None.ensures.none)))
+
+pub returns-in-Some : goal.returns-in-Some
+returns-in-Some c program behind words =
+    let options = table.compare_options in
+    let name = codes "compare" in
+    let ws = map text_of c.args.words.now in
+    let app = lines.of_spdx name options in
+    let taken = spdx_given name options program behind in
+    let found = c.in_ok-matches.ensures.ok app (c.in_ok-with.ensures _ c.in_ok-compare.ensures) refl in
+    let none = c.in_ok-matches.ensures.taken app (c.in_ok-with.ensures _ c.in_ok-compare.ensures) refl in
+    let r = c.in-Some.request in
+    subst (λ ws. lines.IsSaid ws (request.Compare r)) (sym words)
+    (lines.compare program behind r (says app (program ∷ name ∷ behind) name options behind taken ws words unfit.compare_unfit (λ rows. said.IsCompare rows r) (rows_of (found_of c.in_ok-matches.matches)) found none (having _ c.in-Some.ensures.none) c.in-Some.ensures.some))

@@ -1,0 +1,65 @@
+use Rattle.std.proofs.Common.{refl, subst, sym, ◌∷◌, codes, map}
+use Rattle.clap.specs.Matches.{found_of}
+use Rattle.clap.specs.Values.{kind_of}
+use Rattle.clap.specs.Walk.{rows_of}
+use Rattle.spdx_words.specs.Commands as table
+use Rattle.spdx_words.specs.Lines as lines
+use Rattle.spdx_words.specs.Options.{given, text_of}
+use Rattle.spdx_words.specs.Said as said
+use Rattle.spdx_words.specs.Unfit as unfit
+use Rattle.spdx_words.specs.declared.request.Request.TheVariants as request
+use Rattle.spdx_words.proofs.Answering.{enters, of_memory, passed_on, refused, says, unfit_is}
+use Rattle.spdx_words.proofs.Saying.{spdx_given}
+use Rattle.spdx_words.proofs.words.expression.read_fix.Goals as goal
+
+pub returns-in_err-fix : goal.returns-in_err-fix
+returns-in_err-fix c program behind words =
+    of_memory _ c.from_residual.result c.from_residual.ensures.1
+
+pub returns-in_err-with : goal.returns-in_err-with
+returns-in_err-with c program behind words =
+    of_memory _ c.from_residual-in_err-with.result c.from_residual-in_err-with.ensures.1
+
+pub returns-in_err-matches : goal.returns-in_err-matches
+returns-in_err-matches c program behind words =
+    let forms = c.in_ok-fix.ensures.0 in
+    let options = table.fix_options forms.0 in
+    let name = codes "fix" in
+    let ws = map text_of c.args.words.now in
+    let app = lines.of_spdx name options in
+    let taken = spdx_given name options program behind in
+    let e = c.in_err-matches.field-0.0 in
+    passed_on ws _ e c.from_residual-in_err-matches.ensures.1
+    (refused app (program ∷ name ∷ behind) name options behind taken ws words ws (unfit.fix_unfit (given options behind)) e (c.in_err-matches.ensures.err app (c.in_ok-with.ensures _ c.in_ok-fix.ensures.1) refl (enters app (program ∷ name ∷ behind) name options behind taken ws words))
+    (λ fault. subst (λ ws. lines.IsRefused ws (kind_of e)) (sym words) (lines.fix program behind (kind_of e) forms fault)))
+
+pub returns-in-Some : goal.returns-in-Some
+returns-in-Some c program behind words =
+    let forms = c.in_ok-fix.ensures.0 in
+    let options = table.fix_options forms.0 in
+    let name = codes "fix" in
+    let ws = map text_of c.args.words.now in
+    let app = lines.of_spdx name options in
+    let taken = spdx_given name options program behind in
+    let found = c.in_ok-matches.ensures.ok app (c.in_ok-with.ensures _ c.in_ok-fix.ensures.1) refl in
+    let k = kind_of c.error.result in
+    subst (λ ws. lines.IsRefused ws k) (sym words)
+    (lines.fix program behind k forms (unfit_is app (program ∷ name ∷ behind) name options behind taken ws words unfit.fix_unfit k (rows_of (found_of c.in_ok-matches.matches)) found (sym c.in-Some.ensures)))
+
+pub returns-in_err-fix_request-in-None : goal.returns-in_err-fix_request-in-None
+returns-in_err-fix_request-in-None c program behind words =
+    of_memory _ c.from_residual-in_err-fix_request-in-None.result c.from_residual-in_err-fix_request-in-None.ensures.1
+
+pub returns : goal.returns
+returns c program behind words =
+    let forms = c.in_ok-fix.ensures.0 in
+    let options = table.fix_options forms.0 in
+    let name = codes "fix" in
+    let ws = map text_of c.args.words.now in
+    let app = lines.of_spdx name options in
+    let taken = spdx_given name options program behind in
+    let found = c.in_ok-matches.ensures.ok app (c.in_ok-with.ensures _ c.in_ok-fix.ensures.1) refl in
+    let none = c.in_ok-matches.ensures.taken app (c.in_ok-with.ensures _ c.in_ok-fix.ensures.1) refl in
+    let r = c.in_ok-fix_request-in-None.field-0 in
+    subst (λ ws. lines.IsSaid ws (request.Fix r)) (sym words)
+    (lines.fix program behind r forms (says app (program ∷ name ∷ behind) name options behind taken ws words unfit.fix_unfit (λ rows. said.IsFix rows r) (rows_of (found_of c.in_ok-matches.matches)) found none (sym c.in-None.ensures) c.in_ok-fix_request-in-None.ensures))
