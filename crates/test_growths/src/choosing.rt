@@ -1,7 +1,7 @@
 // Licensees that are chosen.
 
 use crate::end::{Answer, End};
-use crate::lent::Lent;
+use crate::lent::{Lent, licensees};
 use spdx::{
     AcceptedLicensees, Catalogue, Expression, ExpressionJudge, Licensee, minimized_for_all,
 };
@@ -11,25 +11,52 @@ const TEXT: &str = "(MIT AND LicenseRef-a) OR Zlib";
 
 const OTHER: &str = "LicenseRef-a OR Apache-2.0";
 
-// The licensees of the rows, in the order of their priority.
-fn licensees<'c>(alloc: Global, catalogue: &'c Catalogue) -> Result<Vec<Licensee<'c>>, End> {
-    let mut licensees = Vec::new(alloc);
-    for name in ["MIT", "LicenseRef-a", "Zlib"] {
-        licensees.push(Licensee::parse(alloc, catalogue, name)?)?;
-    }
-    Ok(licensees)
-}
+// In the order of their priority.
+const ACCEPTED: [&str; 3] = ["MIT", "LicenseRef-a", "Zlib"];
 
 /// What the call of that name answers.
 pub(crate) fn answer(alloc: Global, catalogue: &Catalogue, call: &str) -> Answer {
+    let lent = Lent::new(alloc, catalogue, TEXT)?;
+    by_licensees(alloc, catalogue, &lent, call)
+}
+
+fn by_licensees<'c>(
+    alloc: Global,
+    catalogue: &'c Catalogue,
+    lent: &Lent<'c>,
+    call: &str,
+) -> Answer {
+    let accepted = licensees(alloc, catalogue, &ACCEPTED)?;
     match call {
-        "ExpressionJudge::new" => judge(alloc, catalogue),
-        "ExpressionJudge::new_all" => joint_judge(alloc, catalogue),
-        "minimized_requirements" => for_one(alloc, catalogue),
-        "minimized_among" => among(alloc, catalogue),
-        "minimized_for_all" => for_two(alloc, catalogue),
+        "ExpressionJudge::new" => judge(alloc, lent, &accepted),
+        "minimized_requirements" => for_one(alloc, lent, &accepted),
+        "minimized_among" => among(alloc, lent, &accepted),
+        _ => {
+            let other = Expression::parse(alloc, catalogue, OTHER)?;
+            for_two(alloc, lent, &both(lent, &other), &accepted, call)
+        }
+    }
+}
+
+// What the call of that name answers for two expressions.
+fn for_two<'c>(
+    alloc: Global,
+    lent: &Lent<'c>,
+    expressions: &[&Expression<'c>],
+    accepted: &[Licensee<'c>],
+    call: &str,
+) -> Answer {
+    match call {
+        "ExpressionJudge::new_all" => joint_judge(alloc, lent, expressions, accepted),
+        "minimized_for_all" => {
+            lent.chosen(alloc, minimized_for_all(alloc, expressions, accepted))
+        }
         _ => Err(End::Otherwise("no call has that name")),
     }
+}
+
+fn both<'l, 'c>(one: &'l Lent<'c>, other: &'l Expression<'c>) -> [&'l Expression<'c>; 2] {
+    [&one.expression, other]
 }
 
 // The licensees, lent.
@@ -44,43 +71,49 @@ fn members<'l, 'c>(
     Ok(members)
 }
 
-fn judge(alloc: Global, catalogue: &Catalogue) -> Answer {
-    let accepted = licensees(alloc, catalogue)?;
-    let lent = Lent::new(alloc, catalogue, TEXT)?;
-    judge_of(alloc, &lent, &accepted)
-}
-
-fn judge_of<'c>(alloc: Global, lent: &Lent<'c>, accepted: &[Licensee<'c>]) -> Answer {
+fn judge<'c>(alloc: Global, lent: &Lent<'c>, accepted: &[Licensee<'c>]) -> Answer {
     let members = members(alloc, accepted)?;
-    match ExpressionJudge::new(alloc, &lent.expression, members.as_slice()) {
+    made(
+        alloc,
+        lent,
+        ExpressionJudge::new(alloc, &lent.expression, members.as_slice()),
+    )
+}
+
+fn joint_judge<'c>(
+    alloc: Global,
+    lent: &Lent<'c>,
+    expressions: &[&Expression<'c>],
+    accepted: &[Licensee<'c>],
+) -> Answer {
+    let members = members(alloc, accepted)?;
+    made(
+        alloc,
+        lent,
+        ExpressionJudge::new_all(alloc, expressions, members.as_slice()),
+    )
+}
+
+fn made(
+    alloc: Global,
+    lent: &Lent<'_>,
+    judge: Result<ExpressionJudge<'_, '_>, AllocError>,
+) -> Answer {
+    match judge {
         Ok(judge) => Ok(format!(in alloc; "{} questions", judge.asked())?),
         Err(AllocError) => Err(lent.end()),
     }
 }
 
-fn joint_judge(alloc: Global, catalogue: &Catalogue) -> Answer {
-    let accepted = licensees(alloc, catalogue)?;
-    let members = members(alloc, &accepted)?;
-    let lent = Lent::new(alloc, catalogue, TEXT)?;
-    let other = Expression::parse(alloc, catalogue, OTHER)?;
-    match ExpressionJudge::new_all(alloc, &[&lent.expression, &other], members.as_slice()) {
-        Ok(judge) => Ok(format!(in alloc; "{} questions", judge.asked())?),
-        Err(AllocError) => Err(lent.end()),
-    }
+fn for_one<'c>(alloc: Global, lent: &Lent<'c>, accepted: &[Licensee<'c>]) -> Answer {
+    lent.chosen(
+        alloc,
+        lent.expression.minimized_requirements(alloc, accepted),
+    )
 }
 
-fn for_one(alloc: Global, catalogue: &Catalogue) -> Answer {
-    let accepted = licensees(alloc, catalogue)?;
-    let lent = Lent::new(alloc, catalogue, TEXT)?;
-    let choice = lent.expression.minimized_requirements(alloc, &accepted);
-    lent.chosen(alloc, choice)
-}
-
-fn among(alloc: Global, catalogue: &Catalogue) -> Answer {
-    let licensees = licensees(alloc, catalogue)?;
-    let lent = Lent::new(alloc, catalogue, TEXT)?;
-    let mut accepted = AcceptedLicensees::new(alloc, &licensees);
-    among_twice(alloc, &lent, &mut accepted)
+fn among<'c>(alloc: Global, lent: &Lent<'c>, accepted: &[Licensee<'c>]) -> Answer {
+    among_twice(alloc, lent, &mut AcceptedLicensees::new(alloc, accepted))
 }
 
 // Twice, so that the second choice has what the first one left in memory, if there was some.
@@ -98,12 +131,4 @@ fn among_twice<'c>(
     } else {
         Err(End::Otherwise("another choice"))
     }
-}
-
-fn for_two(alloc: Global, catalogue: &Catalogue) -> Answer {
-    let accepted = licensees(alloc, catalogue)?;
-    let lent = Lent::new(alloc, catalogue, TEXT)?;
-    let other = Expression::parse(alloc, catalogue, OTHER)?;
-    let choice = minimized_for_all(alloc, &[&lent.expression, &other], &accepted);
-    lent.chosen(alloc, choice)
 }

@@ -1,7 +1,10 @@
-// Expressions that are lent to a call.
+// What is lent to a call.
+//
+// A function here owns one value at most, and borrows the others: its proof grows with each value that is let go on each way
+// out of it.
 
 use crate::end::{Answer, End};
-use spdx::{Catalogue, Expression, Failure, LicenseReq};
+use spdx::{Catalogue, Expression, Failure, LicenseReq, Licensee};
 use std::alloc::Global;
 
 /// An expression, and a copy that no call is lent.
@@ -47,6 +50,19 @@ impl<'c> Lent<'c> {
             Err(failure) => Err(self.end_of(&failure)),
         }
     }
+}
+
+/// The licensees of these names.
+pub(crate) fn licensees<'c>(
+    alloc: Global,
+    catalogue: &'c Catalogue,
+    names: &[&str],
+) -> Result<Vec<Licensee<'c>>, End> {
+    let mut licensees = Vec::new(alloc);
+    for name in names {
+        licensees.push(Licensee::parse(alloc, catalogue, name)?)?;
+    }
+    Ok(licensees)
 }
 
 // The requirements with commas between.

@@ -1,14 +1,17 @@
 // Runs over lines.
 
 use crate::end::{Answer, End};
-use spdx::{Catalogue, Licensee};
+use crate::lent::licensees;
+use spdx::Catalogue;
 use spdx_lines::{Input, LineMode, Output, RunFault, Summary};
 use std::alloc::Global;
 
 // The worked lines.
 const INPUT: &[u8] = b"MIT OR Apache-2.0\napache2\nmit/Zlib\n\nZlib\nMIT AND Apache-2.0\n\xff";
 
-// Their answers by `run`, with Apache-2.0 and MIT accepted in that order.
+const ACCEPTED: [&str; 2] = ["Apache-2.0", "MIT"];
+
+// Their answers by `run`.
 const EACH: &[u8] = b"\
 accepted\tMIT OR Apache-2.0\tApache-2.0
 refused 6..7 unknown term
@@ -31,14 +34,6 @@ bad-utf8
 all\tunmet
 ";
 
-fn licensees<'c>(alloc: Global, catalogue: &'c Catalogue) -> Result<Vec<Licensee<'c>>, End> {
-    let mut licensees = Vec::new(alloc);
-    for name in ["Apache-2.0", "MIT"] {
-        licensees.push(Licensee::parse(alloc, catalogue, name)?)?;
-    }
-    Ok(licensees)
-}
-
 // The output has its room beforehand, so that it takes no memory in the run.
 fn room(alloc: Global) -> Result<Output<Vec<u8>>, End> {
     Ok(Output::new(Vec::with_capacity(alloc, 4096)?))
@@ -60,7 +55,7 @@ fn told(alloc: Global, outcome: Result<Summary, RunFault>, written: &[u8], whole
 
 /// Answers the worked lines.
 pub(crate) fn run(alloc: Global, catalogue: &Catalogue) -> Answer {
-    let accepted = licensees(alloc, catalogue)?;
+    let accepted = licensees(alloc, catalogue, &ACCEPTED)?;
     let mut input = Input::new(INPUT);
     let mut output = room(alloc)?;
     let result = spdx_lines::run(
@@ -77,7 +72,7 @@ pub(crate) fn run(alloc: Global, catalogue: &Catalogue) -> Answer {
 
 /// Answers the worked lines with one choice for all.
 pub(crate) fn run_all(alloc: Global, catalogue: &Catalogue) -> Answer {
-    let accepted = licensees(alloc, catalogue)?;
+    let accepted = licensees(alloc, catalogue, &ACCEPTED)?;
     let mut input = Input::new(INPUT);
     let mut output = room(alloc)?;
     let result = spdx_lines::run_all(

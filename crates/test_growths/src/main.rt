@@ -56,13 +56,11 @@ fn answer(alloc: Global, json: &[u8], call: &str) -> Answer {
         "canonicalize" => reading::canonicalize(alloc, &catalogue, reading::LAX),
         "fix" => reading::fix(alloc, &catalogue, reading::LAX),
         "Licensee::parse" => reading::licensee(alloc, &catalogue, reading::REFERENCES),
-        "evaluate" => trees::evaluate(alloc, &catalogue),
-        "evaluate_with_failures" => trees::evaluate_with_failures(alloc, &catalogue),
+        "evaluate" | "evaluate_with_failures" => trees::answer(alloc, &catalogue, call),
         "normal_text" => trees::normal_text(alloc, &catalogue),
-        "minimal_sets" => meaning::minimal_sets(alloc, &catalogue),
-        "meaning_text" => meaning::meaning_text(alloc, &catalogue),
-        "asks_at_least" => meaning::asks_at_least(alloc, &catalogue),
-        "is_equivalent" => meaning::is_equivalent(alloc, &catalogue),
+        "minimal_sets" | "meaning_text" | "asks_at_least" | "is_equivalent" => {
+            meaning::answer(alloc, &catalogue, call)
+        }
         "run" => lines::run(alloc, &catalogue),
         "run_all" => lines::run_all(alloc, &catalogue),
         _ => choosing::answer(alloc, &catalogue, call),

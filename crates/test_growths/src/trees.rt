@@ -8,16 +8,26 @@ use std::alloc::{AllocError, Global};
 
 // A thousand requirements, which the packed truths of no inline word hold.
 fn long_text(alloc: Global) -> Result<String, AllocError> {
-    let mut text = "MIT".to_string(alloc)?;
-    for _ in 0..999u32 {
-        text.push_str(" OR MIT")?;
-    }
+    let mut text = "MIT OR ".repeat(alloc, 999)?;
+    text.push_str("MIT")?;
     Ok(text)
 }
 
-fn long_expression<'c>(alloc: Global, catalogue: &'c Catalogue) -> Result<Lent<'c>, End> {
+const LEANS_LEFT: &str =
+    "((MIT AND (Zlib)) AND Apache-2.0 OR LicenseRef-a) OR BSD-2-Clause+ OR Zlib";
+
+/// What the call of that name answers of a thousand requirements.
+pub(crate) fn answer(alloc: Global, catalogue: &Catalogue, call: &str) -> Answer {
     let text = long_text(alloc)?;
-    Lent::new(alloc, catalogue, text.as_str())
+    answer_of(alloc, &Lent::new(alloc, catalogue, text.as_str())?, call)
+}
+
+fn answer_of(alloc: Global, lent: &Lent<'_>, call: &str) -> Answer {
+    if call == "evaluate" {
+        evaluate(alloc, lent)
+    } else {
+        evaluate_with_failures(alloc, lent)
+    }
 }
 
 // What the tree of a thousand requirements comes to, where the last alone is true, and how often the closure was called.
@@ -33,9 +43,8 @@ fn truth_by_the_last(alloc: Global, tree: &Expression<'_>) -> (Result<bool, Allo
     (truth, calls)
 }
 
-/// Evaluates a thousand requirements, the last alone true.
-pub(crate) fn evaluate(alloc: Global, catalogue: &Catalogue) -> Answer {
-    let lent = long_expression(alloc, catalogue)?;
+// Evaluates them, the last alone true.
+fn evaluate(alloc: Global, lent: &Lent<'_>) -> Answer {
     let (truth, calls) = truth_by_the_last(alloc, &lent.expression);
     match truth {
         Ok(truth) => Ok(format!(in alloc; "{truth}, {calls} calls")?),
@@ -60,9 +69,8 @@ fn all_refused<'t, 'c>(
     (refused, calls)
 }
 
-/// The same, all of them false, with the list of those that were refused.
-pub(crate) fn evaluate_with_failures(alloc: Global, catalogue: &Catalogue) -> Answer {
-    let lent = long_expression(alloc, catalogue)?;
+// The same, all of them false, with the list of those that were refused.
+fn evaluate_with_failures(alloc: Global, lent: &Lent<'_>) -> Answer {
     let (refused, calls) = all_refused(alloc, &lent.expression);
     match refused {
         Ok(()) => Err(End::Otherwise("true")),
@@ -77,8 +85,7 @@ pub(crate) fn evaluate_with_failures(alloc: Global, catalogue: &Catalogue) -> An
 
 /// Writes the normal text of a tree that leans left.
 pub(crate) fn normal_text(alloc: Global, catalogue: &Catalogue) -> Answer {
-    let text = "((MIT AND (Zlib)) AND Apache-2.0 OR LicenseRef-a) OR BSD-2-Clause+ OR Zlib";
-    let lent = Lent::new(alloc, catalogue, text)?;
+    let lent = Lent::new(alloc, catalogue, LEANS_LEFT)?;
     match lent.expression.normal_text(alloc) {
         Ok(normal) => Ok(normal),
         Err(AllocError) => Err(lent.end()),
