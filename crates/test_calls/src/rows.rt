@@ -72,14 +72,18 @@ impl<'a> Tally<'a> {
     // What the row is answered, where that is not what it wants.
     fn difference(&self, alloc: Global, row: &str) -> Result<Option<String>, NoAnswer> {
         let (given, wanted) = two_parts(row, " => ")?;
-        let given = written_out(alloc, given)?;
+        let shown = self.answered(alloc, given)?;
         let wanted = written_out(alloc, wanted)?;
-        let Some(catalogue) = self.catalogues.get(self.heading.catalogue) else {
-            return Err(NoAnswer::Row);
-        };
-        let shown = answer(alloc, catalogue, self.heading.call, given.as_str())?;
         let is_wanted = shown == wanted || (shown.is_empty() && wanted.as_str() == "(empty)");
         Ok(if is_wanted { None } else { Some(shown) })
+    }
+
+    fn answered(&self, alloc: Global, given: &str) -> Answer {
+        let given = written_out(alloc, given)?;
+        match self.catalogues.get(self.heading.catalogue) {
+            Some(catalogue) => answer(alloc, catalogue, self.heading.call, given.as_str()),
+            None => Err(NoAnswer::Row),
+        }
     }
 }
 

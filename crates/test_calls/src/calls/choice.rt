@@ -54,15 +54,66 @@ pub(crate) fn choice(alloc: Global, catalogue: &Catalogue, given: &str) -> Answe
 
 /// The choice for two texts together, or the error.
 pub(crate) fn joint(alloc: Global, catalogue: &Catalogue, given: &str) -> Answer {
+    for_two(alloc, catalogue, given, Wanted::Choice)
+}
+
+// What is asked of two texts together.
+#[derive(Clone, Copy)]
+enum Wanted {
+    Choice,
+    Questions,
+}
+
+// (Each function here owns one value: its proof grows with what is let go on each way out of it.)
+fn for_two(alloc: Global, catalogue: &Catalogue, given: &str, wanted: Wanted) -> Answer {
     let (first, others) = fields(given)?;
     let (second, names) = fields(others)?;
-    let first = Expression::parse(alloc, catalogue, first)?;
-    let second = Expression::parse(alloc, catalogue, second)?;
     let accepted = licensees(alloc, catalogue, names)?;
-    shown(
+    for_both(
         alloc,
-        minimized_for_all(alloc, &[&first, &second], accepted.as_slice()),
+        catalogue,
+        (first, second),
+        accepted.as_slice(),
+        wanted,
     )
+}
+
+fn for_both<'c>(
+    alloc: Global,
+    catalogue: &'c Catalogue,
+    texts: (&str, &str),
+    accepted: &[Licensee<'c>],
+    wanted: Wanted,
+) -> Answer {
+    let first = Expression::parse(alloc, catalogue, texts.0)?;
+    for_another(alloc, catalogue, (&first, texts.1), accepted, wanted)
+}
+
+fn for_another<'c>(
+    alloc: Global,
+    catalogue: &'c Catalogue,
+    (first, text): (&Expression<'c>, &str),
+    accepted: &[Licensee<'c>],
+    wanted: Wanted,
+) -> Answer {
+    let second = Expression::parse(alloc, catalogue, text)?;
+    for_all(alloc, &both(first, &second), accepted, wanted)
+}
+
+fn for_all<'c>(
+    alloc: Global,
+    expressions: &[&Expression<'c>],
+    accepted: &[Licensee<'c>],
+    wanted: Wanted,
+) -> Answer {
+    match wanted {
+        Wanted::Choice => shown(alloc, minimized_for_all(alloc, expressions, accepted)),
+        Wanted::Questions => asked_of_all(alloc, expressions, accepted),
+    }
+}
+
+fn both<'l, 'c>(one: &'l Expression<'c>, other: &'l Expression<'c>) -> [&'l Expression<'c>; 2] {
+    [one, other]
 }
 
 /// The choice for no text.
@@ -80,10 +131,7 @@ pub(crate) fn questions(alloc: Global, catalogue: &Catalogue, given: &str) -> An
 
 /// The same for two texts together.
 pub(crate) fn questions_for_two(alloc: Global, catalogue: &Catalogue, given: &str) -> Answer {
-    let (first, others) = fields(given)?;
-    let (second, names) = fields(others)?;
-    let accepted = licensees(alloc, catalogue, names)?;
-    asked_of_both(alloc, catalogue, (first, second), accepted.as_slice())
+    for_two(alloc, catalogue, given, Wanted::Questions)
 }
 
 fn asked<'c>(
@@ -93,22 +141,27 @@ fn asked<'c>(
     accepted: &[Licensee<'c>],
 ) -> Answer {
     let expression = Expression::parse(alloc, catalogue, text)?;
-    let members = lent(alloc, accepted)?;
-    let mut judge = ExpressionJudge::new(alloc, &expression, &members)?;
-    counted(alloc, &mut judge)
+    asked_of(alloc, &expression, accepted)
 }
 
-fn asked_of_both<'c>(
+fn asked_of<'c>(alloc: Global, expression: &Expression<'c>, accepted: &[Licensee<'c>]) -> Answer {
+    let members = lent(alloc, accepted)?;
+    counted(
+        alloc,
+        &mut ExpressionJudge::new(alloc, expression, &members)?,
+    )
+}
+
+fn asked_of_all<'c>(
     alloc: Global,
-    catalogue: &'c Catalogue,
-    texts: (&str, &str),
+    expressions: &[&Expression<'c>],
     accepted: &[Licensee<'c>],
 ) -> Answer {
-    let first = Expression::parse(alloc, catalogue, texts.0)?;
-    let second = Expression::parse(alloc, catalogue, texts.1)?;
     let members = lent(alloc, accepted)?;
-    let mut judge = ExpressionJudge::new_all(alloc, &[&first, &second], &members)?;
-    counted(alloc, &mut judge)
+    counted(
+        alloc,
+        &mut ExpressionJudge::new_all(alloc, expressions, &members)?,
+    )
 }
 
 fn counted(alloc: Global, judge: &mut ExpressionJudge<'_, '_>) -> Answer {

@@ -7,13 +7,18 @@ use std::alloc::Global;
 /// Whether the copy of an expression equals it, its text too, and each copied node the node.
 pub(crate) fn expression(alloc: Global, catalogue: &Catalogue, text: &str) -> Answer {
     let expression = Expression::parse(alloc, catalogue, text)?;
+    are_all_copied(alloc, &expression, text)
+}
+
+fn are_all_copied(alloc: Global, expression: &Expression<'_>, text: &str) -> Answer {
+    let is_same = is_copied(alloc, expression, text)?;
+    said(alloc, are_copied(alloc, expression)? && is_same)
+}
+
+fn is_copied(alloc: Global, expression: &Expression<'_>, text: &str) -> Result<bool, NoAnswer> {
     let copy = expression.try_clone(alloc)?;
-    let is_same = copy == expression && copy.text() == text;
-    let are_nodes_same = are_copied(alloc, &expression)?;
-    said(
-        alloc,
-        is_same && are_nodes_same && are_requirements_copied(alloc, &copy)?,
-    )
+    let is_same = copy == *expression && copy.text() == text;
+    Ok(are_requirements_copied(alloc, &copy)? && is_same)
 }
 
 fn are_copied(alloc: Global, expression: &Expression<'_>) -> Result<bool, NoAnswer> {
@@ -36,10 +41,20 @@ fn are_requirements_copied(alloc: Global, expression: &Expression<'_>) -> Result
 /// Whether the copy of a licensee equals it, its requirement too, and another licensee doesn't.
 pub(crate) fn licensee(alloc: Global, catalogue: &Catalogue, text: &str) -> Answer {
     let licensee = Licensee::parse(alloc, catalogue, text)?;
-    let copy = licensee.try_clone(alloc)?;
+    is_licensee_copied(alloc, catalogue, &licensee)
+}
+
+fn is_licensee_copied<'c>(
+    alloc: Global,
+    catalogue: &'c Catalogue,
+    licensee: &Licensee<'c>,
+) -> Answer {
+    let is_same = is_same_copy(alloc, licensee)?;
     let other = Licensee::parse(alloc, catalogue, "LicenseRef-another")?;
-    said(
-        alloc,
-        copy == licensee && copy.req() == licensee.req() && other != licensee,
-    )
+    said(alloc, is_same && other != *licensee)
+}
+
+fn is_same_copy(alloc: Global, licensee: &Licensee<'_>) -> Result<bool, NoAnswer> {
+    let copy = licensee.try_clone(alloc)?;
+    Ok(copy == *licensee && copy.req() == licensee.req())
 }

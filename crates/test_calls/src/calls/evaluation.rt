@@ -29,8 +29,12 @@ impl<'t> Answers<'t> {
 pub(crate) fn truth(alloc: Global, catalogue: &Catalogue, given: &str) -> Answer {
     let (text, letters) = fields(given)?;
     let expression = Expression::parse(alloc, catalogue, text)?;
+    truth_of(alloc, &expression, letters)
+}
+
+fn truth_of(alloc: Global, expression: &Expression<'_>, letters: &str) -> Answer {
     let mut answers = Answers::new(letters);
-    let truth = truth_over(alloc, &expression, &mut answers)?;
+    let truth = truth_over(alloc, expression, &mut answers)?;
     Ok(format!(in alloc; "{truth}, {} calls", answers.calls)?)
 }
 
@@ -46,8 +50,12 @@ fn truth_over(
 pub(crate) fn failures(alloc: Global, catalogue: &Catalogue, given: &str) -> Answer {
     let (text, letters) = fields(given)?;
     let expression = Expression::parse(alloc, catalogue, text)?;
+    failures_of(alloc, &expression, letters)
+}
+
+fn failures_of(alloc: Global, expression: &Expression<'_>, letters: &str) -> Answer {
     let mut answers = Answers::new(letters);
-    let shown = failures_over(alloc, &expression, &mut answers)?;
+    let shown = failures_over(alloc, expression, &mut answers)?;
     Ok(format!(in alloc; "{} calls, {shown}", answers.calls)?)
 }
 
@@ -70,8 +78,12 @@ fn listed(alloc: Global, refused: Vec<&ExpressionReq<'_>>) -> Answer {
 /// The truth where OSI has approved, and where it has not.
 pub(crate) fn osi_approved(alloc: Global, catalogue: &Catalogue, text: &str) -> Answer {
     let expression = Expression::parse(alloc, catalogue, text)?;
-    let truth = truth_where(alloc, &expression, true)?;
-    let other = truth_where(alloc, &expression, false)?;
+    osi_approved_of(alloc, &expression)
+}
+
+fn osi_approved_of(alloc: Global, expression: &Expression<'_>) -> Answer {
+    let truth = truth_where(alloc, expression, true)?;
+    let other = truth_where(alloc, expression, false)?;
     Ok(format!(in alloc; "{truth}, opposite {other}")?)
 }
 

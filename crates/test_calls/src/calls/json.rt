@@ -34,17 +34,20 @@ fn numbered(alloc: Global, count: u32) -> Result<String, AllocError> {
 pub(crate) fn large(alloc: Global, count: &str) -> Answer {
     let count = number(count);
     let json = numbered(alloc, count)?;
-    let catalogue = Catalogue::from_json(alloc, json.as_str().as_bytes())?;
-    let last = format!(in alloc; "L-{}", count.saturating_add(99_999))?;
-    let (Some(one), Some(other)) = (
-        catalogue.license_id("L-100000"),
-        catalogue.license_id(last.as_str()),
-    ) else {
-        return Err(NoAnswer::Row);
-    };
-    let (first, last) = (one.license().index, other.license().index);
+    let (first, last) = ends(alloc, json.as_str(), count)?;
     let millions = json.len() / 1_000_000;
     Ok(format!(in alloc; "{millions} million bytes, {first} to {last}")?)
+}
+
+fn ends(alloc: Global, json: &str, count: u32) -> Result<(usize, usize), NoAnswer> {
+    let last = format!(in alloc; "L-{}", count.saturating_add(99_999))?;
+    let catalogue = Catalogue::from_json(alloc, json.as_bytes())?;
+    let one = catalogue.license_id("L-100000");
+    let other = catalogue.license_id(last.as_str());
+    match (one, other) {
+        (Some(one), Some(other)) => Ok((one.license().index, other.license().index)),
+        _ => Err(NoAnswer::Row),
+    }
 }
 
 // What the bytes are read as: `read`, or the printed fault.

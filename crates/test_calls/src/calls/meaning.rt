@@ -9,19 +9,30 @@ use std::alloc::{AllocError, Global};
 pub(crate) fn told(alloc: Global, catalogue: &Catalogue, asked: &str) -> Answer {
     let (form, rest) = asked.split_once(" ").unwrap_or((asked, ""));
     let (first, second) = rest.split_once(" ; ").unwrap_or((rest, ""));
-    let Some(one) = read(alloc, catalogue, first)? else {
-        return Ok("no expression".to_string(alloc)?);
-    };
-    let told = match form {
-        "sets" => sets_text(alloc, &one),
-        "text" => one.meaning_text(alloc),
-        _ => {
-            let Some(other) = read(alloc, catalogue, second)? else {
-                return Ok("no expression".to_string(alloc)?);
-            };
-            relation(alloc, &one, &other)
-        }
-    };
+    match read(alloc, catalogue, first)? {
+        Some(one) => told_of(alloc, catalogue, &one, form, second),
+        None => Ok("no expression".to_string(alloc)?),
+    }
+}
+
+fn told_of<'c>(
+    alloc: Global,
+    catalogue: &'c Catalogue,
+    one: &Expression<'c>,
+    form: &str,
+    second: &str,
+) -> Answer {
+    match form {
+        "sets" => whole(alloc, sets_text(alloc, one)),
+        "text" => whole(alloc, one.meaning_text(alloc)),
+        _ => match read(alloc, catalogue, second)? {
+            Some(other) => whole(alloc, relation(alloc, one, &other)),
+            None => Ok("no expression".to_string(alloc)?),
+        },
+    }
+}
+
+fn whole(alloc: Global, told: Result<String, Failure<TooManySets>>) -> Answer {
     match told {
         Ok(text) => Ok(text),
         Err(Failure::Refused(refusal)) => Ok(format!(in alloc; "{refusal}")?),

@@ -15,18 +15,26 @@ fn are_ordered(one: &ExpressionReq<'_>, other: &ExpressionReq<'_>, order: Orderi
 /// Whether the requirements of the text ascend, each pair of them taken both ways.
 pub(crate) fn ascending(alloc: Global, catalogue: &Catalogue, text: &str) -> Answer {
     let expression = Expression::parse(alloc, catalogue, text)?;
+    said(alloc, do_ascend(&expression))
+}
+
+fn do_ascend(expression: &Expression<'_>) -> bool {
     let mut ascend = true;
     for (i, one) in expression.requirements().enumerate() {
         for (j, other) in expression.requirements().enumerate() {
             ascend &= are_ordered(one, other, i.cmp(&j));
         }
     }
-    said(alloc, ascend)
+    ascend
 }
 
 /// Whether the licences of the requirements of the text ascend.
 pub(crate) fn licenses_ascending(alloc: Global, catalogue: &Catalogue, text: &str) -> Answer {
     let expression = Expression::parse(alloc, catalogue, text)?;
+    said(alloc, do_licenses_ascend(&expression))
+}
+
+fn do_licenses_ascend(expression: &Expression<'_>) -> bool {
     let mut ascend = true;
     for (i, one) in expression.requirements().enumerate() {
         for (j, other) in expression.requirements().enumerate() {
@@ -35,5 +43,5 @@ pub(crate) fn licenses_ascending(alloc: Global, catalogue: &Catalogue, text: &st
             ascend &= a.partial_cmp(b) == Some(i.cmp(&j));
         }
     }
-    said(alloc, ascend)
+    ascend
 }

@@ -1,6 +1,6 @@
 // Which texts are expressions, and the first fault of those that are not.
 
-use crate::answer::{Answer, fields, placed_fault, said};
+use crate::answer::{Answer, fields, placed_fault};
 use crate::catalogues::mode_named;
 use spdx::expression::ExpressionReq;
 use spdx::{Catalogue, Expression};
@@ -19,17 +19,35 @@ pub(crate) fn tree(alloc: Global, catalogue: &Catalogue, given: &str) -> Answer 
 pub(crate) fn equal(alloc: Global, catalogue: &Catalogue, given: &str) -> Answer {
     let (left, right) = fields(given)?;
     let one = Expression::parse(alloc, catalogue, left)?;
-    let other = Expression::parse(alloc, catalogue, right)?;
-    if (one == other) != (other == one) {
-        return Ok("yes and no".to_string(alloc)?);
+    is_equal(alloc, catalogue, &one, right)
+}
+
+fn is_equal<'c>(
+    alloc: Global,
+    catalogue: &'c Catalogue,
+    one: &Expression<'c>,
+    text: &str,
+) -> Answer {
+    let other = Expression::parse(alloc, catalogue, text)?;
+    Ok(sides(one, &other).to_string(alloc)?)
+}
+
+fn sides<'c>(one: &Expression<'c>, other: &Expression<'c>) -> &'static str {
+    match (*one == *other, *other == *one) {
+        (true, true) => "yes",
+        (false, false) => "no",
+        _ => "yes and no",
     }
-    said(alloc, one == other)
 }
 
 /// Each requirement with its place.
 pub(crate) fn spans(alloc: Global, catalogue: &Catalogue, given: &str) -> Answer {
     let (mode, text) = fields(given)?;
     let expression = Expression::parse_mode(alloc, catalogue, text, mode_named(mode))?;
+    spans_of(alloc, &expression)
+}
+
+fn spans_of(alloc: Global, expression: &Expression<'_>) -> Answer {
     let mut shown = String::new(alloc);
     for requirement in expression.requirements() {
         put_placed(&mut shown, requirement)?;
@@ -49,6 +67,10 @@ pub(crate) fn put_placed(
 /// The index of a text that is one listed licence.
 pub(crate) fn index(alloc: Global, catalogue: &Catalogue, text: &str) -> Answer {
     let expression = Expression::parse(alloc, catalogue, text)?;
+    indices(alloc, &expression)
+}
+
+fn indices(alloc: Global, expression: &Expression<'_>) -> Answer {
     let mut shown = String::new(alloc);
     for requirement in expression.requirements() {
         match requirement.req.license.id() {
@@ -62,6 +84,11 @@ pub(crate) fn index(alloc: Global, catalogue: &Catalogue, text: &str) -> Answer 
 /// How many nodes and how many requirements a tree has.
 pub(crate) fn counts(alloc: Global, catalogue: &Catalogue, text: &str) -> Answer {
     let expression = Expression::parse(alloc, catalogue, text)?;
+    let (nodes, requirements) = counts_of(&expression);
+    Ok(format!(in alloc; "{nodes} nodes, {requirements} requirements")?)
+}
+
+fn counts_of(expression: &Expression<'_>) -> (u64, u64) {
     let mut nodes = 0u64;
     for _ in expression.iter() {
         nodes = nodes.saturating_add(1);
@@ -70,5 +97,5 @@ pub(crate) fn counts(alloc: Global, catalogue: &Catalogue, text: &str) -> Answer
     for _ in expression.requirements() {
         requirements = requirements.saturating_add(1);
     }
-    Ok(format!(in alloc; "{nodes} nodes, {requirements} requirements")?)
+    (nodes, requirements)
 }

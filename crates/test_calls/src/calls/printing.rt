@@ -2,27 +2,29 @@
 
 use crate::answer::{Answer, NoAnswer};
 use spdx::error::Reason;
-use spdx::{Catalogue, Expression, Failure, LicenseItem, LicenseReq};
+use spdx::{Catalogue, Expression, Failure, LicenseItem, LicenseReq, ParseError};
 use std::alloc::Global;
 
 /// What the printed fault of a text says below it, after as many blanks as stand before it, and its description.
 pub(crate) fn fault(alloc: Global, catalogue: &Catalogue, text: &str) -> Answer {
     match Expression::parse(alloc, catalogue, text) {
         Ok(_) => Err(NoAnswer::Row),
-        Err(Failure::Refused(fault)) => {
-            let printed = format!(in alloc; "{fault}")?;
-            let Some(behind) = printed.as_str().strip_prefix(text) else {
-                return Ok(printed);
-            };
-            let below = behind.strip_prefix('\n').unwrap_or("no line");
-            let described = fault.description();
-            if fault.reason.description() != described {
-                return Err(NoAnswer::Row);
-            }
-            Ok(format!(in alloc; "{below}|{described}")?)
-        }
+        Err(Failure::Refused(fault)) => printed(alloc, &fault, text),
         Err(Failure::Memory(_)) => Err(NoAnswer::Memory),
     }
+}
+
+fn printed(alloc: Global, fault: &ParseError<'_>, text: &str) -> Answer {
+    let described = fault.description();
+    if fault.reason.description() != described {
+        return Err(NoAnswer::Row);
+    }
+    let printed = format!(in alloc; "{fault}")?;
+    let Some(behind) = printed.as_str().strip_prefix(text) else {
+        return Ok(printed);
+    };
+    let below = behind.strip_prefix('\n').unwrap_or("no line");
+    Ok(format!(in alloc; "{below}|{described}")?)
 }
 
 fn reason_named(name: &str) -> Option<Reason> {
@@ -76,6 +78,10 @@ pub(crate) fn whole(alloc: Global, catalogue: &Catalogue, text: &str) -> Answer 
 /// What the printed text of each requirement is read as, strictly.
 pub(crate) fn read_back(alloc: Global, catalogue: &Catalogue, text: &str) -> Answer {
     let expression = Expression::parse(alloc, catalogue, text)?;
+    read_again(alloc, catalogue, &expression)
+}
+
+fn read_again<'c>(alloc: Global, catalogue: &'c Catalogue, expression: &Expression<'c>) -> Answer {
     let mut all = String::new(alloc);
     for requirement in expression.requirements() {
         put_again(alloc, catalogue, &requirement.req, &mut all)?;
