@@ -40,9 +40,18 @@ pub(crate) fn answer(
 fn changes(alloc: Global, lists: &str) -> Result<String, AllocError> {
     let (old, new) = lists.split_once(" | ").unwrap_or((lists, ""));
     let old = packages_of(alloc, old)?;
+    changes_from(alloc, &old, new)
+}
+
+fn changes_from(alloc: Global, old: &[Package<'_>], new: &str) -> Result<String, AllocError> {
     let new = packages_of(alloc, new)?;
+    let changes = changes_between(alloc, old, &new)?;
+    listed(alloc, &changes)
+}
+
+fn listed(alloc: Global, changes: &[Change<'_>]) -> Result<String, AllocError> {
     let mut shown = String::new(alloc);
-    for change in &changes_between(alloc, &old, &new)? {
+    for change in changes {
         if !shown.is_empty() {
             shown.push_str(", ")?;
         }
@@ -96,8 +105,13 @@ fn written(alloc: Global, format: Format, told: &str) -> Result<String, AllocErr
     }
     let mut text = Vec::new(alloc);
     put_changes(alloc, &mut text, format, &tellings)?;
+    on_one_line(alloc, &text)
+}
+
+fn on_one_line(alloc: Global, text: &[u8]) -> Result<String, AllocError> {
+    let text = String::from_utf8_lossy(alloc, text)?;
     let mut shown = String::new(alloc);
-    for piece in String::from_utf8_lossy(alloc, &text)?.as_str().chars() {
+    for piece in text.as_str().chars() {
         shown.push(if piece == '\n' { '~' } else { piece })?;
     }
     Ok(shown)

@@ -8,7 +8,7 @@
 
 mod answers;
 
-use crate::choices::answers::{answers, read_rows};
+use crate::choices::answers::{Rows, answers, read_rows};
 use spdx_catalogue::Catalogue;
 use spdx_licensee::Heirs;
 use spdx_policy::Policy;
@@ -41,8 +41,27 @@ fn try_section(
     let Ok(policy) = Policy::from_toml(alloc, catalogue, heirs, text.as_bytes()) else {
         return tally.count(shown, text, "a policy", "none");
     };
-    let rows = read_rows(alloc, catalogue, &policy, lines)?;
-    let given = answers(alloc, &rows)?;
+    try_lines(alloc, shown, tally, catalogue, (&policy, lines))
+}
+
+fn try_lines<'c>(
+    alloc: Global,
+    shown: &mut String,
+    tally: &mut Tally,
+    catalogue: &'c Catalogue,
+    (policy, lines): (&Policy<'c>, &str),
+) -> Result<(), AllocError> {
+    let rows = read_rows(alloc, catalogue, policy, lines)?;
+    count_all(alloc, shown, tally, &rows)
+}
+
+fn count_all(
+    alloc: Global,
+    shown: &mut String,
+    tally: &mut Tally,
+    rows: &Rows<'_>,
+) -> Result<(), AllocError> {
+    let given = answers(alloc, rows)?;
     for (place, answered) in given.iter().enumerate() {
         let asked = rows.asked.get(place).map_or("", |text| text.as_str());
         let wanted = rows.wanted.get(place).map_or("", |text| text.as_str());

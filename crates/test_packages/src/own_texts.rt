@@ -36,11 +36,24 @@ fn files_of<'t>(alloc: Global, text: &'t str) -> Result<Vec<File<'t>>, AllocErro
 fn owed(alloc: Global, asked: &str) -> Result<String, AllocError> {
     let (offered, rest) = asked.split_once(" | ").unwrap_or((asked, ""));
     let (chosen, files) = rest.split_once(" | ").unwrap_or((rest, ""));
+    let files = files_of(alloc, files)?;
+    owed_of(alloc, &files, offered, chosen)
+}
+
+fn owed_of(
+    alloc: Global,
+    files: &[File<'_>],
+    offered: &str,
+    chosen: &str,
+) -> Result<String, AllocError> {
     let offered = names_of(alloc, offered)?;
     let chosen = names_of(alloc, chosen)?;
-    let files = files_of(alloc, files)?;
+    paths_of(alloc, &owed_files(alloc, files, &offered, &chosen)?)
+}
+
+fn paths_of(alloc: Global, files: &[File<'_>]) -> Result<String, AllocError> {
     let mut shown = String::new(alloc);
-    for file in &owed_files(alloc, &files, &offered, &chosen)? {
+    for file in files {
         put_name(&mut shown, file.path)?;
     }
     Ok(shown)
@@ -65,6 +78,15 @@ fn texts_of(alloc: Global, asked: &str) -> Result<Vec<Vec<u8>>, AllocError> {
 
 fn shared(alloc: Global, asked: &str) -> Result<String, AllocError> {
     let texts = texts_of(alloc, asked)?;
+    let own = own_texts(alloc, asked, &texts)?;
+    shown_of(alloc, &shared_texts(alloc, &own)?)
+}
+
+fn own_texts<'t>(
+    alloc: Global,
+    asked: &'t str,
+    texts: &'t [Vec<u8>],
+) -> Result<Vec<OwnText<'t>>, AllocError> {
     let mut own = Vec::new(alloc);
     for (part, text) in asked.split('|').zip(texts.iter()) {
         let (file, _) = part.split_once(": ").unwrap_or((part, ""));
@@ -78,7 +100,7 @@ fn shared(alloc: Global, asked: &str) -> Result<String, AllocError> {
             bytes: text.as_slice(),
         })?;
     }
-    shown_of(alloc, &shared_texts(alloc, &own)?)
+    Ok(own)
 }
 
 fn shown_of(alloc: Global, found: &[SharedText<'_>]) -> Result<String, AllocError> {

@@ -51,8 +51,7 @@ impl Part {
     ) -> io::Result<bool> {
         let name = self.name();
         writeln!(shown, "== {name}")?;
-        let path = format!(in rt.alloc(); "{name}.rows")?;
-        let rows = fs::read_to_string(rt, path.as_str())?;
+        let rows = rows_of(rt, name)?;
         self.try_rows(rt, shown, catalogue, rows.as_str())
     }
 
@@ -109,4 +108,9 @@ impl Part {
             _ => changes::answer(alloc, catalogue, given),
         }
     }
+}
+
+fn rows_of(rt: &HostRuntime, name: &str) -> io::Result<String> {
+    let path = format!(in rt.alloc(); "{name}.rows")?;
+    fs::read_to_string(rt, path.as_str())
 }

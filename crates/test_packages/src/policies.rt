@@ -14,6 +14,7 @@ use crate::policies::answers::{answer, fault_text};
 use spdx_catalogue::Catalogue;
 use spdx_licensee::{Heirs, Restated};
 use spdx_policy::Policy;
+use std::alloc::{AllocError, Global};
 use std::fs;
 use std::io::{self, ErrorKind};
 use test_rows::Tally;
@@ -93,16 +94,23 @@ fn policy_of<'c>(
     catalogue: &'c Catalogue,
     text: &str,
 ) -> io::Result<Result<Policy<'c>, String>> {
-    let heirs = Heirs::of_rows(rt.alloc(), catalogue, &HEIRS)?;
-    let read = match text.trim().strip_prefix('@') {
+    match text.trim().strip_prefix('@') {
         Some(path) => {
             let bytes = fs::read(rt, path)?;
-            Policy::from_toml(rt.alloc(), catalogue, heirs, bytes.as_slice())
+            Ok(policy_in(rt.alloc(), catalogue, bytes.as_slice())?)
         }
-        None => Policy::from_toml(rt.alloc(), catalogue, heirs, text.as_bytes()),
-    };
-    match read {
+        None => Ok(policy_in(rt.alloc(), catalogue, text.as_bytes())?),
+    }
+}
+
+fn policy_in<'c>(
+    alloc: Global,
+    catalogue: &'c Catalogue,
+    bytes: &[u8],
+) -> Result<Result<Policy<'c>, String>, AllocError> {
+    let heirs = Heirs::of_rows(alloc, catalogue, &HEIRS)?;
+    match Policy::from_toml(alloc, catalogue, heirs, bytes) {
         Ok(policy) => Ok(Ok(policy)),
-        Err(error) => Ok(Err(fault_text(rt.alloc(), &error)?)),
+        Err(error) => Ok(Err(fault_text(alloc, &error)?)),
     }
 }

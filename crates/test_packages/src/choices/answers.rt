@@ -60,13 +60,31 @@ fn read<'c>(
 pub(crate) fn answers(alloc: Global, rows: &Rows<'_>) -> Result<Vec<String>, AllocError> {
     let offers = offers(alloc, rows)?;
     let together = together(alloc, &offers)?;
+    answers_of(alloc, &rows.judged, &offers, &together)
+}
+
+fn answers_of(
+    alloc: Global,
+    judged: &[Judged<'_>],
+    offers: &[Offer<'_, '_>],
+    together: &[Remedy],
+) -> Result<Vec<String>, AllocError> {
     let mut answers = Vec::new(alloc);
-    for (place, (offer, judged)) in offers.iter().zip(rows.judged.iter()).enumerate() {
-        let alone = told(alloc, offer, Some(&judged.choice))?;
-        let joined = told(alloc, offer, together.get(place))?;
-        answers.push(format!(in alloc; "{alone} ; {joined}")?)?;
+    for (place, (offer, judged)) in offers.iter().zip(judged.iter()).enumerate() {
+        answers.push(both_told(alloc, offer, &judged.choice, together.get(place))?)?;
     }
     Ok(answers)
+}
+
+fn both_told(
+    alloc: Global,
+    offer: &Offer<'_, '_>,
+    alone: &Remedy,
+    joined: Option<&Remedy>,
+) -> Result<String, AllocError> {
+    let alone = told(alloc, offer, Some(alone))?;
+    let joined = told(alloc, offer, joined)?;
+    format!(in alloc; "{alone} ; {joined}")
 }
 
 fn offers<'j, 'c>(alloc: Global, rows: &'j Rows<'c>) -> Result<Vec<Offer<'j, 'c>>, AllocError> {

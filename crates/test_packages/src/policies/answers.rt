@@ -110,10 +110,19 @@ pub(crate) fn answer<'c>(
     }
     let (name, rest) = asked.split_once(' ').unwrap_or((asked, ""));
     let (version, text) = rest.split_once(' ').unwrap_or((rest, ""));
-    let Some(req) = requirement(alloc, catalogue, text)? else {
-        return String::from_str(alloc, "no requirement");
-    };
-    let exceptions = policy.exceptions_for(alloc, name, version_of(version))?;
-    let decision = policy.decide(alloc, &exceptions, &req)?;
+    match requirement(alloc, catalogue, text)? {
+        Some(req) => decided_of(alloc, policy, (name, version_of(version)), &req),
+        None => String::from_str(alloc, "no requirement"),
+    }
+}
+
+fn decided_of<'c>(
+    alloc: Global,
+    policy: &Policy<'c>,
+    (name, version): (&str, Option<&str>),
+    req: &LicenseReq<'c>,
+) -> Result<String, AllocError> {
+    let exceptions = policy.exceptions_for(alloc, name, version)?;
+    let decision = policy.decide(alloc, &exceptions, req)?;
     decided(alloc, policy, decision)
 }
