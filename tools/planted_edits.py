@@ -2,10 +2,9 @@
 
 import os
 import re
-from pathlib import Path
 
-TOP = Path(__file__).resolve().parent.parent
-PARTS = ("src", "specs", "proofs")
+from prover import PARTS, TOP
+
 ITEM = re.compile(r"^( *)(?:pub(?:\([a-z ]+\))? )?(?:const |unsafe |extern \"C\" )*(mod|trait|impl|fn)\b(.*)$", re.M)
 
 

@@ -4,6 +4,8 @@ import subprocess
 from pathlib import Path
 
 TOP = Path(__file__).resolve().parent.parent
+# the folders of a crate that the prover reads
+PARTS = ("src", "specs", "proofs")
 
 
 def crates_of_list():

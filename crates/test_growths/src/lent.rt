@@ -1,7 +1,7 @@
 // What is lent to a call.
 //
-// A function here owns one value at most, and borrows the others: its proof grows with each value that is let go on each way
-// out of it.
+// Most functions of this crate own one value and borrow the others, since a proof grows with each value that is let go on each
+// way out of the function.
 
 use crate::end::{Answer, End};
 use spdx::{Catalogue, Expression, Failure, LicenseReq, Licensee};

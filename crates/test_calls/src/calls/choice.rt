@@ -64,7 +64,7 @@ enum Wanted {
     Questions,
 }
 
-// (Each function here owns one value: its proof grows with what is let go on each way out of it.)
+// (This and the next two own one value each: a proof grows with each value that is let go on each way out of the function.)
 fn for_two(alloc: Global, catalogue: &Catalogue, given: &str, wanted: Wanted) -> Answer {
     let (first, others) = fields(given)?;
     let (second, names) = fields(others)?;
