@@ -64,8 +64,8 @@ def licences(name, later, addition):
     if FLAGS[name] & GNU and not ending(name) and f"{name}-only" in FLAGS:
         name += "-only"
     if FLAGS[name] & DEPRECATED and name in INSTEAD:
-        heir, added = listed(INSTEAD[name])
-        return licences(heir, later, addition or added)
+        replacement, added = listed(INSTEAD[name])
+        return licences(replacement, later, addition or added)
     if ending(name) == "-or-later":
         name, later = name.removesuffix("-or-later") + "-only", True
     return tuple((n, addition) for n in (versions(name) if later else (name,)))

@@ -117,9 +117,9 @@ told_zero (Some t) lt = (t, refl, allowed t.is_refused lt)
     allowed true lt = absurd (omega (arith, lt))
     allowed false lt = refl
 
-the_policy : (s : Shelved) (heirs : List ℕ) (c : Rows) (path : List ℕ) (o : Option Rules) → IsPolicyIf s heirs c (Some path) o → (p : Rules) × (o ≡ Some p) × IsPolicyAt s heirs c path p
-the_policy s heirs c path None h = absurd h
-the_policy s heirs c path (Some p) h = (p, refl, h)
+the_policy : (s : Shelved) (replacements : List ℕ) (c : Rows) (path : List ℕ) (o : Option Rules) → IsPolicyIf s replacements c (Some path) o → (p : Rules) × (o ≡ Some p) × IsPolicyAt s replacements c path p
+the_policy s replacements c path None h = absurd h
+the_policy s replacements c path (Some p) h = (p, refl, h)
 
 pub the_files : (c : Rows) (p : Option Rules) (format : Format) (files : List Listed) (t : Told) → IsToldOfBoth c p format files (Some t)
     → (f : Listed) × (g : Listed) × (files ≡ f ∷ g ∷ []) × IsTold c p format f.packages.items g.packages.items t
@@ -128,11 +128,11 @@ the_files c p format (f ∷ []) t e = absurd (none-some t (sym e))
 the_files c p format (f ∷ g ∷ []) t is = (f, g, refl, is)
 the_files c p format (f ∷ g ∷ h ∷ more) t e = absurd (none-some t (sym e))
 
-pub new_ones_pass : (s : Shelved) (inside : InsideBytes) (heirs : List ℕ) (a : Request) (run : Run)
-    → IsRun s inside heirs a run → status_of run < 1 → (path : List ℕ) → option_copied a.policy ≡ Some path → NewOnesPass s inside heirs a path
-new_ones_pass s inside heirs a run is lt path named =
+pub new_ones_pass : (s : Shelved) (inside : InsideBytes) (replacements : List ℕ) (a : Request) (run : Run)
+    → IsRun s inside replacements a run → status_of run < 1 → (path : List ℕ) → option_copied a.policy ≡ Some path → NewOnesPass s inside replacements a path
+new_ones_pass s inside replacements a run is lt path named =
     let c = is.catalogue in
-    let policy = the_policy s heirs c path is.policy (subst (λ (o : Option (List ℕ)). IsPolicyIf s heirs c o is.policy) named is.policy_is) in
+    let policy = the_policy s replacements c path is.policy (subst (λ (o : Option (List ℕ)). IsPolicyIf s replacements c o is.policy) named is.policy_is) in
     let told = told_zero run.told lt in
     let both = the_files c is.policy a.format run.files.items told.0 (subst (λ (o : Option Told). IsToldOfBoth c is.policy a.format run.files.items o) told.1 is.runs.tells) in
     let is_told : IsTold c (Some policy.0) a.format both.0.packages.items both.1.packages.items told.0 =

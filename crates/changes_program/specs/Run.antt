@@ -103,30 +103,30 @@ pub record IsRunOver (s : Shelved) (c : Rows) (p : Option Rules) (a : Request)
 
 -- the policy at the path, where one is named
 abbrev pub IsPolicyIf : Shelved → List ℕ → Rows → Option (List ℕ) → Option Rules → Type 0
-IsPolicyIf s heirs c None p = p ≡ None
-IsPolicyIf s heirs c (Some path) None = ⊥
-IsPolicyIf s heirs c (Some path) (Some p) = IsPolicyAt s heirs c path p
+IsPolicyIf s replacements c None p = p ≡ None
+IsPolicyIf s replacements c (Some path) None = ⊥
+IsPolicyIf s replacements c (Some path) (Some p) = IsPolicyAt s replacements c path p
 
 abbrev pub IsNoPolicyIf : Shelved → List ℕ → Rows → Option (List ℕ) → PolicyTrouble → Type 0
-IsNoPolicyIf s heirs c None t = ⊥
-IsNoPolicyIf s heirs c (Some path) t = IsNoPolicyAt s heirs c path t
+IsNoPolicyIf s replacements c None t = ⊥
+IsNoPolicyIf s replacements c (Some path) t = IsNoPolicyAt s replacements c path t
 
 -- by the list that is named, or else is inside
-pub record IsRun (s : Shelved) (inside : InsideBytes) (heirs : List ℕ) (a : Request)
+pub record IsRun (s : Shelved) (inside : InsideBytes) (replacements : List ℕ) (a : Request)
     (run : Run) : Type 0 where
   pub catalogue : Rows
   pub policy : Option Rules
   pub list_is : IsNamedList s inside (option_copied a.list) catalogue
-  pub policy_is : IsPolicyIf s heirs catalogue (option_copied a.policy) policy
+  pub policy_is : IsPolicyIf s replacements catalogue (option_copied a.policy) policy
   pub runs : IsRunOver s catalogue policy a run
 
 -- why there is none; nothing is said of memory
 abbrev pub IsNoRun : Shelved → InsideBytes → List ℕ → Request → GateTrouble → Type 0
-IsNoRun s inside heirs a (trouble.List t) = IsNoNamedList s inside (option_copied a.list) t
-IsNoRun s inside heirs a (trouble.Policy t) =
+IsNoRun s inside replacements a (trouble.List t) = IsNoNamedList s inside (option_copied a.list) t
+IsNoRun s inside replacements a (trouble.Policy t) =
     (c : Rows) × IsNamedList s inside (option_copied a.list) c ×
-    IsNoPolicyIf s heirs c (option_copied a.policy) t
-IsNoRun s inside heirs a trouble.Memory = Unit {0}
+    IsNoPolicyIf s replacements c (option_copied a.policy) t
+IsNoRun s inside replacements a trouble.Memory = Unit {0}
 
 -- ---- its status
 
@@ -152,14 +152,14 @@ DoNewOnesPass c p older newer =
     (changes (map row_in older) (map row_in newer))
 
 -- each such package of the files at both paths, by the list and the policy that are read
-pub record NewOnesPass (s : Shelved) (inside : InsideBytes) (heirs : List ℕ) (a : Request)
+pub record NewOnesPass (s : Shelved) (inside : InsideBytes) (replacements : List ℕ) (a : Request)
     (path : List ℕ) : Type 0 where
   pub catalogue : Rows
   pub policy : Rules
   pub older : Listed
   pub newer : Listed
   pub list_is : IsNamedList s inside (option_copied a.list) catalogue
-  pub policy_is : IsPolicyAt s heirs catalogue path policy
+  pub policy_is : IsPolicyAt s replacements catalogue path policy
   pub older_is : IsListedAt s a.wanted a.old.now older
   pub newer_is : IsListedAt s a.wanted a.new.now newer
   pub pass : DoNewOnesPass catalogue policy older.packages.items newer.packages.items

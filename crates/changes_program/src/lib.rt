@@ -2,7 +2,7 @@
 //!
 //! ```rust
 //! // crates/package_commands/src/differences.rt
-//! let outcome = changes(alloc, shelf, inside, heirs, asked.run)?;
+//! let outcome = changes(alloc, shelf, inside, replacements, asked.run)?;
 //! ```
 //!
 //! It stands on `package_files`, `package_changes` and `gate_program`.

@@ -93,7 +93,7 @@ impl Run {
 }
 
 /// Reads the list, the policy and both files, and tells what changed between them; what stands in the place of the list's
-/// deprecated names is said by `heirs`.
+/// deprecated names is said by `replacements`.
 ///
 /// # Errors
 ///
@@ -102,20 +102,20 @@ pub fn changes<S: Shelf>(
     alloc: Global,
     shelf: &S,
     inside: Inside<'_>,
-    heirs: &[u8],
+    replacements: &[u8],
     request: Request<'_>,
 ) -> Result<Run, GateTrouble>
     ensures ok { IfOk result (IsRun (S.told shelf.now)
-        (inside_of inside.entry.list.now inside.entry.extras.now) heirs.now request.entry) }
+        (inside_of inside.entry.list.now inside.entry.extras.now) replacements.now request.entry) }
     ensures err { IfErr result (IsNoRun (S.told shelf.now)
-        (inside_of inside.entry.list.now inside.entry.extras.now) heirs.now request.entry) }
+        (inside_of inside.entry.list.now inside.entry.extras.now) replacements.now request.entry) }
     ensures passes { IfOk result (λ run. status_of run < 1 → (path : List ℕ) →
         option_copied request.entry.policy ≡ Some path →
         NewOnesPass (S.told shelf.now) (inside_of inside.entry.list.now inside.entry.extras.now)
-        heirs.now request.entry path) }
+        replacements.now request.entry path) }
 {
     let catalogue = named_list(alloc, shelf, inside, request.list)?;
-    let policy = policy_if(alloc, shelf, heirs, &catalogue, request.policy)?;
+    let policy = policy_if(alloc, shelf, replacements, &catalogue, request.policy)?;
     let run = run_over(alloc, shelf, &catalogue, &policy, request)?;
     Ok(run)
 }
@@ -124,19 +124,19 @@ pub fn changes<S: Shelf>(
 fn policy_if<'c, S: Shelf>(
     alloc: Global,
     shelf: &S,
-    heirs: &[u8],
+    replacements: &[u8],
     catalogue: &'c Catalogue,
     path: Option<&str>,
 ) -> Result<Option<Policy<'c>>, PolicyTrouble>
-    ensures ok { IfOk result (IsPolicyIf (S.told shelf.now) heirs.now catalogue.now
+    ensures ok { IfOk result (IsPolicyIf (S.told shelf.now) replacements.now catalogue.now
         (option_copied path.entry)) }
-    ensures err { IfErr result (spec.IsNoPolicyIf (S.told shelf.now) heirs.now catalogue.now
+    ensures err { IfErr result (spec.IsNoPolicyIf (S.told shelf.now) replacements.now catalogue.now
         (option_copied path.entry)) }
 {
     let Some(path) = path else {
         return Ok(None);
     };
-    let policy = policy_at(alloc, shelf, heirs, catalogue, path)?;
+    let policy = policy_at(alloc, shelf, replacements, catalogue, path)?;
     Ok(Some(policy))
 }
 

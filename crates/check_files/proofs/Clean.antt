@@ -17,7 +17,7 @@ use Rattle.source_trees.specs.declared.reading.Taken.{Taken}
 use Rattle.spdx_lexer.specs.declared.token.ParseMode.{ParseMode}
 use Rattle.spdx_check.specs.declared.check.Check.{Check}
 use Rattle.spdx_check.specs.declared.totals.Totals.{Totals}
-use Rattle.spdx_check.specs.Checking.{heirs_in}
+use Rattle.spdx_check.specs.Checking.{replacements_in}
 use Rattle.spdx_check.specs.Finding.{IsFinding, IsTheFinding, Wrong, is_accepted, is_no_text, is_refused}
 use Rattle.spdx_check.specs.Totals.{with_file}
 use Rattle.check_sources.specs.Findings.{ChecksWritten, Source, refused_count}
@@ -78,17 +78,17 @@ from_map {A} P f (x ∷ xs) h =
     All-cons (λ (y : A). P (f y)) x xs (All-head P (f x) (map f xs) h) (from_map P f xs (All-tail P (f x) (map f xs) h))
 
 module _ (check : Check) where
-  accepted_by : (m : ParseMode) (bytes : List ℕ) (found : Option Wrong) → IsFinding check.catalogue.now (heirs_in check) m bytes found → found ≡ None → IsAccepted check m bytes
+  accepted_by : (m : ParseMode) (bytes : List ℕ) (found : Option Wrong) → IsFinding check.catalogue.now (replacements_in check) m bytes found → found ≡ None → IsAccepted check m bytes
   accepted_by m bytes _ (is_accepted utf8 reads) e = (utf8, reads)
   accepted_by m bytes _ (is_refused fault s fix utf8 of_fault of_fix) e = absurd cc
   accepted_by m bytes _ (is_no_text no_text) e = absurd cc
 
   -- what has no finding is accepted
-  pub accepted : (m : ParseMode) (finding : List ℕ → Option Wrong) (bytes : List ℕ) → IsTheFinding check.catalogue.now (heirs_in check) m bytes (finding bytes)
+  pub accepted : (m : ParseMode) (finding : List ℕ → Option Wrong) (bytes : List ℕ) → IsTheFinding check.catalogue.now (replacements_in check) m bytes (finding bytes)
       → finding bytes ≡ None → IsAccepted check m bytes
   accepted m finding bytes h e = accepted_by m bytes (finding bytes) h.given e
 
-  each_accepted : (finding : List ℕ → Option Wrong) → ((bytes : List ℕ) → IsTheFinding check.catalogue.now (heirs_in check) check.mode bytes (finding bytes))
+  each_accepted : (finding : List ℕ → Option Wrong) → ((bytes : List ℕ) → IsTheFinding check.catalogue.now (replacements_in check) check.mode bytes (finding bytes))
       → (ws : List Written) → refused_count finding ws ≡ 0 → All (IsWrittenAccepted check) ws
   each_accepted finding findings [] e = All-nil (IsWrittenAccepted check)
   each_accepted finding findings (w ∷ ws) e =

@@ -10,7 +10,7 @@ use Rattle.shelves.specs.AtPath.{is_input, told_path}
 use Rattle.shelves.specs.Opened.{MayHave}
 use Rattle.shelves.specs.Shelf.{Shelved, to_open}
 use Rattle.spdx_check.specs.declared.check.Check.{Check}
-use Rattle.spdx_check.specs.Checking.{heirs_in, is_white, rule_by}
+use Rattle.spdx_check.specs.Checking.{is_white, replacements_in, rule_by}
 use Rattle.spdx_check.specs.Finding.{IsTheFinding, Wrong}
 use Rattle.check_files.specs.declared.trouble.CheckTrouble.{CheckTrouble}
 use Rattle.check_files.specs.declared.trouble.CheckTrouble.TheVariants as trouble
@@ -51,7 +51,8 @@ Gives s path bytes = (content_at s path).Holds bytes
 -- what is wrong with each expression
 abbrev pub AreFindings : Check → (List ℕ → Option Wrong) → Type 0
 AreFindings check finding = (expression : List ℕ) →
-    IsTheFinding check.catalogue.now (heirs_in check) check.mode expression (finding expression)
+    IsTheFinding check.catalogue.now (replacements_in check) check.mode expression
+    (finding expression)
 
 abbrev pub rule_of : Check → (List ℕ → Option Wrong) → Tally → List ℕ → Rule
 rule_of check finding old name = rule_by finding check.format (is_clean old) name

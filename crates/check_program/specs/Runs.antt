@@ -12,7 +12,7 @@ use Rattle.list_program.specs.Troubles.{AreNoExtras, IsNoNamedList}
 use Rattle.list_program.specs.declared.trouble.ListTrouble.{ListTrouble}
 use Rattle.spdx_list.specs.Files.{ExtraRows, extras_in}
 use Rattle.spdx_check.specs.declared.check.Check.{Check}
-use Rattle.spdx_check.specs.Checking.{heirs_in}
+use Rattle.spdx_check.specs.Checking.{replacements_in}
 use Rattle.check_sources.specs.declared.sums.Sums.{Sums}
 use Rattle.check_sources.specs.Sums.{summary_text}
 use Rattle.check_files.specs.declared.trouble.CheckFault.{CheckFault}
@@ -30,13 +30,13 @@ use Rattle.check_program.specs.Paths.{ArePathSteps, Ways, path_in}
 -- version
 pub record Inside : Type 0 where
   pub bytes : InsideBytes
-  pub heirs : List ℕ
+  pub replacements : List ℕ
   pub version : List ℕ
 
 abbrev pub inside_of : written.Inside → Inside
 inside_of i = record {
   bytes = list_inside i.list.list.now i.list.extras.now;
-  heirs = i.heirs.now;
+  replacements = i.replacements.now;
   version = i.version.now;
 }
 
@@ -47,8 +47,8 @@ ways_in a = record { wanted = a.wanted; texts = option_copied a.texts; untagged 
 pub record IsCheck (s : Shelved) (inside : Inside) (a : Request) (check : Check) : Type 0 where
   pub list_is : IsNamedList s inside.bytes (option_copied a.list) check.catalogue.now
   pub extras : ExtraRows
-  pub says : extras_in inside.heirs ≡ Ok extras
-  pub heirs_are : heirs_in check ≡ extras.instead
+  pub says : extras_in inside.replacements ≡ Ok extras
+  pub replacements_are : replacements_in check ≡ extras.instead
   pub mode_is : check.mode ≡ a.mode
   pub format_is : check.format ≡ a.format
 
@@ -81,7 +81,8 @@ IsRun s inside a text told status = (check : Check) × IsCheck s inside a check
 -- the list isn't had, or what to write in place of names isn't, and nothing is written or told
 pub record IsNoCheck (s : Shelved) (inside : Inside) (a : Request) (t : ListTrouble)
     (out out' : Told) (heard heard' : Account CheckTrouble) : Type 0 where
-  pub why : IsNoNamedList s inside.bytes (option_copied a.list) t ⊎ AreNoExtras inside.heirs t
+  pub why : IsNoNamedList s inside.bytes (option_copied a.list) t ⊎
+      AreNoExtras inside.replacements t
   pub writes_none : out' ≡ out
   pub tells_none : heard' ≡ heard
 

@@ -30,7 +30,7 @@ pub struct Inside<'i> {
     /// The list, and what this project says besides SPDX's files.
     pub list: ListInside<'i>,
     /// What to write in place of names: extras of which the other members may be left out.
-    pub heirs: &'i [u8],
+    pub replacements: &'i [u8],
     /// The version that logs tell.
     pub version: &'i str,
 }
@@ -139,10 +139,10 @@ fn check_all<S: OpenShelf, O: Sink, T: Telling>(
         (T.told teller.new)) }
 {
     let catalogue = named_list(alloc, shelf, inside.list, request.list)?;
-    let extras = extras_inside(alloc, inside.heirs)?;
+    let extras = extras_inside(alloc, inside.replacements)?;
     let check = Check {
         catalogue: &catalogue,
-        heirs: extras.instead.as_slice(),
+        replacements: extras.instead.as_slice(),
         mode: request.mode,
         format: request.format,
     };

@@ -51,7 +51,7 @@ pub(crate) fn walked<S: Shelf, O: Sink, T: Telling>(
             teller.ended();
             return Ok(());
         };
-        files = shown(alloc, files, &seen, teller)?;
+        files = show_one_more(alloc, files, &seen, teller)?;
         check_seen(
             alloc, shelf, check, below, seen, noted, sums, output, teller,
         )?;
@@ -61,7 +61,7 @@ pub(crate) fn walked<S: Shelf, O: Sink, T: Telling>(
 }
 
 // Shows that a file is come to, and answers how many were.
-fn shown<T: Telling>(
+fn show_one_more<T: Telling>(
     alloc: Global,
     files: u64,
     seen: &Seen,

@@ -4,7 +4,7 @@ use Rattle.line_engine.specs.declared.lines.Summary.{Summary}
 use Rattle.finding_forms.specs.declared.forms.Format.{Format}
 use Rattle.finding_forms.specs.Forms.{finding_text}
 use Rattle.spdx_check.specs.declared.check.Check.{Check}
-use Rattle.spdx_check.specs.Checking.{heirs_in}
+use Rattle.spdx_check.specs.Checking.{replacements_in}
 use Rattle.spdx_check.specs.Finding.{IsTheFinding, Wrong}
 use Rattle.check_sources.specs.Written.{Written, told_in}
 
@@ -46,7 +46,7 @@ pub record ChecksWritten (check : Check) (is_first : Bool) (source : Source) (ws
     (text : List ℕ) (summary : Summary) : Type 0 where
   pub finding : List ℕ → Option Wrong
   pub findings : (bytes : List ℕ) →
-      IsTheFinding check.catalogue.now (heirs_in check) check.mode bytes (finding bytes)
+      IsTheFinding check.catalogue.now (replacements_in check) check.mode bytes (finding bytes)
   pub written : text ≡ findings_text finding check.format is_first source ws
   pub lines : summary.lines ≡ length ws
   pub refused : summary.refused ≡ refused_count finding ws

@@ -1,7 +1,7 @@
 // The findings of a file.
 
 ghost use Rattle.std.specs.Prelude.{◌≡◌, ◌+◌, ◌++◌, ◌<◌, ◌^◌, ◌&&◌, not, IfOk, length, map};
-ghost use Rattle.spdx_check.specs.Checking.{heirs_in};
+ghost use Rattle.spdx_check.specs.Checking.{replacements_in};
 ghost use Rattle.spdx_check.specs.Found.{finding_of};
 ghost use Rattle.check_sources.specs.Findings.{ChecksWritten, findings_text, refused_count};
 ghost use Rattle.check_sources.specs.Stood.{source_of, stood};

@@ -15,9 +15,9 @@ pub mod counting;
 mod cursor;
 pub mod decoding;
 mod findings;
+mod line_excerpt;
 pub mod needs;
 pub mod owed;
-mod shown;
 pub mod sums;
 pub mod untagged;
 
@@ -28,8 +28,8 @@ pub use crate::findings::declared::{CheckedManifest, check_manifest, mode_in, re
 pub use crate::findings::tags::{check_tags, is_binary};
 pub use crate::findings::written::slice_in;
 pub use crate::findings::{Findings, Source};
+pub use crate::line_excerpt::LineExcerpt;
 pub use crate::needs::needed_by;
 pub use crate::owed::{Whole, owed_by, put_wholes, without_license};
-pub use crate::shown::Shown;
 pub use crate::sums::{Sums, summary_of};
 pub use crate::untagged::{is_text, needs_none};

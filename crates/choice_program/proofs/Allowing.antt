@@ -10,9 +10,9 @@ use Rattle.choice_program.specs.declared.choosing.ChoiceTrouble.TheVariants as t
 use Rattle.choice_program.specs.Allowed.{IsNoChoiceByPolicy}
 use Rattle.choice_program.specs.Chosen.{IsNoChoiceAt}
 
-pub of_policy : (s : Shelved) (heirs : List ℕ) (c : Rows) (path : List ℕ) (one : Bool) (ps : List Package) (p : Rules) (t : ChoiceTrouble) → IsPolicyAt s heirs c path p → IsNoChoiceByPolicy c p one ps t → IsNoChoiceAt s heirs c path one ps t
-of_policy s heirs c path one ps p (trouble.NoChoices us) at is = (p, at, is)
-of_policy s heirs c path one ps p (trouble.NoneTogether w) at is = (p, at, is)
-of_policy s heirs c path one ps p trouble.Memory at is = tt
-of_policy s heirs c path one ps p (trouble.Policy t) at is = absurd is
-of_policy s heirs c path one ps p (trouble.NoLicensee n r) at is = absurd is
+pub of_policy : (s : Shelved) (replacements : List ℕ) (c : Rows) (path : List ℕ) (one : Bool) (ps : List Package) (p : Rules) (t : ChoiceTrouble) → IsPolicyAt s replacements c path p → IsNoChoiceByPolicy c p one ps t → IsNoChoiceAt s replacements c path one ps t
+of_policy s replacements c path one ps p (trouble.NoChoices us) at is = (p, at, is)
+of_policy s replacements c path one ps p (trouble.NoneTogether w) at is = (p, at, is)
+of_policy s replacements c path one ps p trouble.Memory at is = tt
+of_policy s replacements c path one ps p (trouble.Policy t) at is = absurd is
+of_policy s replacements c path one ps p (trouble.NoLicensee n r) at is = absurd is

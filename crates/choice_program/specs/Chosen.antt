@@ -15,26 +15,27 @@ use Rattle.choice_program.specs.Allowed.{IsChosenByPolicy, IsNoChoiceByPolicy}
 
 -- by the policy of the file at the path
 abbrev pub IsChosenAt : Shelved → List ℕ → Rows → List ℕ → Bool → List Package → Chosen → Type 0
-IsChosenAt s heirs c path one packages chosen =
-    (p : Rules) × IsPolicyAt s heirs c path p × IsChosenByPolicy c p one packages chosen
+IsChosenAt s replacements c path one packages chosen =
+    (p : Rules) × IsPolicyAt s replacements c path p × IsChosenByPolicy c p one packages chosen
 
 -- there is no policy, or no choice by it; nothing is said of memory
 abbrev pub IsNoChoiceAt : Shelved → List ℕ → Rows → List ℕ → Bool → List Package →
     ChoiceTrouble → Type 0
-IsNoChoiceAt s heirs c path one packages (trouble.Policy t) = IsNoPolicyAt s heirs c path t
-IsNoChoiceAt s heirs c path one packages trouble.Memory = Unit {0}
-IsNoChoiceAt s heirs c path one packages t =
-    (p : Rules) × IsPolicyAt s heirs c path p × IsNoChoiceByPolicy c p one packages t
+IsNoChoiceAt s replacements c path one packages (trouble.Policy t) =
+    IsNoPolicyAt s replacements c path t
+IsNoChoiceAt s replacements c path one packages trouble.Memory = Unit {0}
+IsNoChoiceAt s replacements c path one packages t =
+    (p : Rules) × IsPolicyAt s replacements c path p × IsNoChoiceByPolicy c p one packages t
 
 abbrev pub IsChosen : Shelved → List ℕ → Rows → Accepted → Bool → List Package → Chosen → Type 0
-IsChosen s heirs c (accepted.List list m) one packages chosen =
+IsChosen s replacements c (accepted.List list m) one packages chosen =
     IsChosenAmong c list.now m one packages chosen
-IsChosen s heirs c (accepted.Policy path) one packages chosen =
-    IsChosenAt s heirs c path.now one packages chosen
+IsChosen s replacements c (accepted.Policy path) one packages chosen =
+    IsChosenAt s replacements c path.now one packages chosen
 
 abbrev pub IsNoChoice : Shelved → List ℕ → Rows → Accepted → Bool → List Package →
     ChoiceTrouble → Type 0
-IsNoChoice s heirs c (accepted.List list m) one packages t =
+IsNoChoice s replacements c (accepted.List list m) one packages t =
     IsNoChoiceAmong c list.now m one packages t
-IsNoChoice s heirs c (accepted.Policy path) one packages t =
-    IsNoChoiceAt s heirs c path.now one packages t
+IsNoChoice s replacements c (accepted.Policy path) one packages t =
+    IsNoChoiceAt s replacements c path.now one packages t

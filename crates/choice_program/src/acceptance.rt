@@ -24,7 +24,7 @@ pub enum Accepted<'a> {
 }
 
 /// What each package is used under, as [`choose_among`] has it of a list, or [`choose_allowed`] of the policy of the file at
-/// the path; `heirs` are extras that say what stands in the place of the list's deprecated names.
+/// the path; `replacements` are extras that say what stands in the place of the list's deprecated names.
 ///
 /// # Errors
 ///
@@ -32,23 +32,31 @@ pub enum Accepted<'a> {
 pub fn choose<S: Shelf>(
     alloc: Global,
     shelf: &S,
-    heirs: &[u8],
+    replacements: &[u8],
     catalogue: &Catalogue,
     accepted: Accepted<'_>,
     one_for_all: bool,
     packages: &[&Package],
 ) -> Result<Chosen, ChoiceTrouble>
-    ensures ok { IfOk result (IsChosen (S.told shelf.now) heirs.now catalogue.now accepted.entry
-        one_for_all (map lent packages.now)) }
-    ensures err { IfErr result (IsNoChoice (S.told shelf.now) heirs.now catalogue.now accepted.entry
-        one_for_all (map lent packages.now)) }
+    ensures ok { IfOk result (IsChosen (S.told shelf.now) replacements.now catalogue.now
+        accepted.entry one_for_all (map lent packages.now)) }
+    ensures err { IfErr result (IsNoChoice (S.told shelf.now) replacements.now catalogue.now
+        accepted.entry one_for_all (map lent packages.now)) }
 {
     match accepted {
         Accepted::List { list, mode } => {
             choose_among(alloc, catalogue, list, mode, one_for_all, packages)
         }
         Accepted::Policy(path) => {
-            choose_by(alloc, shelf, heirs, catalogue, path, one_for_all, packages)
+            choose_by(
+                alloc,
+                shelf,
+                replacements,
+                catalogue,
+                path,
+                one_for_all,
+                packages,
+            )
         }
     }
 }
@@ -58,18 +66,18 @@ pub fn choose<S: Shelf>(
 fn choose_by<S: Shelf>(
     alloc: Global,
     shelf: &S,
-    heirs: &[u8],
+    replacements: &[u8],
     catalogue: &Catalogue,
     path: &str,
     one_for_all: bool,
     packages: &[&Package],
 ) -> Result<Chosen, ChoiceTrouble>
-    ensures ok { IfOk result (spec.IsChosenAt (S.told shelf.now) heirs.now catalogue.now
+    ensures ok { IfOk result (spec.IsChosenAt (S.told shelf.now) replacements.now catalogue.now
         path.now one_for_all (map lent packages.now)) }
-    ensures err { IfErr result (spec.IsNoChoiceAt (S.told shelf.now) heirs.now catalogue.now
+    ensures err { IfErr result (spec.IsNoChoiceAt (S.told shelf.now) replacements.now catalogue.now
         path.now one_for_all (map lent packages.now)) }
 {
-    let policy = policy_at(alloc, shelf, heirs, catalogue, path)?;
+    let policy = policy_at(alloc, shelf, replacements, catalogue, path)?;
     let chosen = choose_allowed(alloc, catalogue, &policy, one_for_all, packages)?;
     Ok(chosen)
 }

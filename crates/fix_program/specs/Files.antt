@@ -100,17 +100,17 @@ IsDiff path old (Some new) d =
 
 -- these parts of the file at the path are mended, and it is to hold the new bytes; it stays where
 -- nothing is mended
-abbrev pub IsReplacement : Parts → List ℕ → Option (Vec ℕ) → Deed → Type 0
-IsReplacement p path (Some new) (deed.Replace r) =
+abbrev pub IsFileReplacement : Parts → List ℕ → Option (Vec ℕ) → Deed → Type 0
+IsFileReplacement p path (Some new) (deed.Replace r) =
     (string_bytes r.path ≡ path) × (r.parts ≡ p) × (r.bytes ≡ new)
-IsReplacement p path (Some new) d = ⊥
-IsReplacement p path None d = d ≡ deed.Nothing
+IsFileReplacement p path (Some new) d = ⊥
+IsFileReplacement p path None d = d ≡ deed.Nothing
 
 abbrev pub IsDeedBy :
     Bool → Bool → Parts → List ℕ → List ℕ → Option (Vec ℕ) → Deed → Type 0
 IsDeedBy false input p path old new d = IsDiff path old new d
 IsDeedBy true true p path old new d = Puts (bytes_after old new) d
-IsDeedBy true false p path old new d = IsReplacement p path new d
+IsDeedBy true false p path old new d = IsFileReplacement p path new d
 
 -- what is to take a file's place has this stamp; nothing takes the place of standard input
 abbrev pub IsStampedBy : Bool → Stamp → Deed → Type 0

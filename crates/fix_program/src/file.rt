@@ -16,7 +16,7 @@ ghost use Rattle.fix_program.specs.Files.{
   IsNotRegular,
   IsRead,
   IsRegular,
-  IsReplacement,
+  IsFileReplacement,
   IsStampedBy,
   IsUnread,
   IsUnreadAs,
@@ -40,12 +40,12 @@ pub enum Deed {
     Nothing,
     /// This is put out: the diff that mends the file, or standard input as it is mended.
     Put(Vec<u8>),
-    Replace(Replacement),
+    Replace(FileReplacement),
 }
 
 /// What a file is to hold, if it is still what it was when it was read.
 #[derive(Drop)]
-pub struct Replacement {
+pub struct FileReplacement {
     pub path: String,
     /// Which of its expressions are mended.
     pub parts: Parts,
@@ -225,7 +225,7 @@ fn deed_of(
 {
     let Stamped { bytes, stamp } = read;
     if !is_written {
-        shown(alloc, path, &bytes, new)
+        diffed(alloc, path, &bytes, new)
     } else if is_input(path) {
         Ok(Deed::Put(new.unwrap_or(bytes)))
     } else {
@@ -233,7 +233,7 @@ fn deed_of(
     }
 }
 
-fn shown(alloc: Global, path: &str, old: &[u8], new: Option<Vec<u8>>) -> Result<Deed, FixTrouble>
+fn diffed(alloc: Global, path: &str, old: &[u8], new: Option<Vec<u8>>) -> Result<Deed, FixTrouble>
     ensures ok { IfOk result (IsDiff path.now old.now new) }
     ensures stays { (input : Bool) (stamp : Stamp) → IfOk result (IsStampedBy input stamp) }
     ensures err { IfErr result (IsNoDiff path.now new) }
@@ -254,11 +254,11 @@ fn replaced(
     stamp: Stamp,
     new: Option<Vec<u8>>,
 ) -> Result<Deed, AllocError>
-    ensures ok { IfOk result (IsReplacement parts path.now new) }
+    ensures ok { IfOk result (IsFileReplacement parts path.now new) }
     ensures stamp { IfOk result (IsStampedBy false stamp) }
 {
     match new {
-        Some(bytes) => Ok(Deed::Replace(Replacement {
+        Some(bytes) => Ok(Deed::Replace(FileReplacement {
             path: String::from_str(alloc, path)?,
             parts,
             stamp,

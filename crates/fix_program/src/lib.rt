@@ -19,7 +19,7 @@ pub mod tree;
 pub mod trouble;
 
 pub use crate::ends::FileEnd;
-pub use crate::file::{Deed, Fixed, Manner, Replacement, file_fixed};
+pub use crate::file::{Deed, FileReplacement, Fixed, Manner, file_fixed};
 pub use crate::run::{FixFault, PathEnd, Request, Run, fix};
 pub use crate::tree::Progress;
 pub use crate::trouble::FixTrouble;

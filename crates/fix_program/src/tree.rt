@@ -86,7 +86,7 @@ fn walked<S: Shelf, P: Progress>(
             progress.ended();
             return Ok(ends);
         };
-        files = shown(alloc, files, &seen, progress)?;
+        files = show_one_more(alloc, files, &seen, progress)?;
         add_ends(alloc, shelf, manner, taken, seen, &mut ends)?;
     }
     // so many have no room in memory
@@ -94,7 +94,7 @@ fn walked<S: Shelf, P: Progress>(
 }
 
 // Shows that a file was come to, and answers how many were.
-fn shown<P: Progress>(
+fn show_one_more<P: Progress>(
     alloc: Global,
     files: u64,
     seen: &Seen,

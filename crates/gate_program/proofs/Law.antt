@@ -166,9 +166,9 @@ end_allowed s c p a files e (told older some is (text, is_told, end_is)) alone l
     let none : older ≡ None = subst (λ (o : Option (List ℕ)). IsOlderBy s a.wanted.source o older) alone is in
     told_allowed c p a files older text none is_told (passed_end text (option_copied a.look.explain) files (subst (λ (x : End). end_status x < 1) end_is lt))
 
-pub all_are_allowed : (s : Shelved) (inside : InsideBytes) (heirs : List ℕ) (a : Request) (run : Run)
-    → IsRun s inside heirs a run → status_of run < 1 → option_copied a.baseline ≡ None → AreAllAllowed s inside heirs a
-all_are_allowed s inside heirs a run is lt alone = record {
+pub all_are_allowed : (s : Shelved) (inside : InsideBytes) (replacements : List ℕ) (a : Request) (run : Run)
+    → IsRun s inside replacements a run → status_of run < 1 → option_copied a.baseline ≡ None → AreAllAllowed s inside replacements a
+all_are_allowed s inside replacements a run is lt alone = record {
   catalogue = is.catalogue;
   policy = is.policy;
   files = run.files.items;

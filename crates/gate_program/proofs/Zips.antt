@@ -6,10 +6,10 @@ use Rattle.std.proofs.lemmas.List.{take_more}
 use Rattle.std.proofs.lemmas.List.Elements.{All-head, All-tail}
 use Rattle.spdx_requirement.specs.Rows.{Rows}
 use Rattle.spdx_policy.specs.Rules.{Rules}
-use Rattle.gate_told.specs.declared.details.Detail.{Detail}
+use Rattle.gate_told.specs.declared.breakdowns.Breakdown.{Breakdown}
 use Rattle.gate_told.specs.Texts.{telling_in}
-use Rattle.gate_program.specs.declared.tellings.ShownOf.{ShownOf}
-use Rattle.gate_program.specs.Tellings.{IsDetailOf, IsShownIn, judgement_in}
+use Rattle.gate_program.specs.declared.tellings.TextsOf.{TextsOf}
+use Rattle.gate_program.specs.Tellings.{IsBreakdownOf, IsShownIn, judgement_in}
 use Rattle.gate_program.specs.Told.{IsTellingOf}
 
 zip_push : {A B : Type 0} (R : A → B → Type 0) (xs : List A) (ys : List B) (x : A) (y : B) → AllZip R xs ys → R x y → AllZip R (xs ++ x ∷ []) (ys ++ y ∷ [])
@@ -25,8 +25,8 @@ one_more {A} {B} R xs i d x ys more y h lt is r e =
     let next : take (i + 1) xs ≡ take i xs ++ x ∷ [] = take_more xs i d lt ∙ ap (λ (z : A). take i xs ++ z ∷ []) (sym is) in
     subst (λ (z : List B). AllZip R (take (i + 1) xs) z) (sym e) (subst (λ (z : List A). AllZip R z (ys ++ y ∷ [])) (sym next) (zip_push R (take i xs) ys x y h r))
 
--- details of judgements with their own texts tell of them
-pub told_of_each : (c : Rows) (p : Rules) (all : List ShownOf) (details : List Detail) → All (IsShownIn c p) all → AllZip IsDetailOf all details → AllZip (IsTellingOf c p) (map judgement_in all) (map telling_in details)
+-- breakdowns of judgements with their own texts tell of them
+pub told_of_each : (c : Rows) (p : Rules) (all : List TextsOf) (breakdowns : List Breakdown) → All (IsShownIn c p) all → AllZip IsBreakdownOf all breakdowns → AllZip (IsTellingOf c p) (map judgement_in all) (map telling_in breakdowns)
 told_of_each c p [] [] shown is = is
 told_of_each c p [] (d ∷ ds) shown is = absurd is
 told_of_each c p (s ∷ ss) [] shown is = absurd is

@@ -118,21 +118,21 @@ pub record IsRunOver (s : Shelved) (c : Rows) (p : Rules) (a : Request) (run : R
   pub ends : IsEnd s c p a run.files.items run.end
 
 -- by the list that is named, or else is inside, and the policy at its path
-pub record IsRun (s : Shelved) (inside : InsideBytes) (heirs : List ℕ) (a : Request)
+pub record IsRun (s : Shelved) (inside : InsideBytes) (replacements : List ℕ) (a : Request)
     (run : Run) : Type 0 where
   pub catalogue : Rows
   pub policy : Rules
   pub list_is : IsNamedList s inside (option_copied a.list) catalogue
-  pub policy_is : IsPolicyAt s heirs catalogue a.policy.now policy
+  pub policy_is : IsPolicyAt s replacements catalogue a.policy.now policy
   pub runs : IsRunOver s catalogue policy a run
 
 -- why there is none; nothing is said of memory
 abbrev pub IsNoRun : Shelved → InsideBytes → List ℕ → Request → GateTrouble → Type 0
-IsNoRun s inside heirs a (trouble.List t) = IsNoNamedList s inside (option_copied a.list) t
-IsNoRun s inside heirs a (trouble.Policy t) =
+IsNoRun s inside replacements a (trouble.List t) = IsNoNamedList s inside (option_copied a.list) t
+IsNoRun s inside replacements a (trouble.Policy t) =
     (c : Rows) × IsNamedList s inside (option_copied a.list) c ×
-    IsNoPolicyAt s heirs c a.policy.now t
-IsNoRun s inside heirs a trouble.Memory = Unit {0}
+    IsNoPolicyAt s replacements c a.policy.now t
+IsNoRun s inside replacements a trouble.Memory = Unit {0}
 
 -- ---- its status
 
@@ -162,12 +162,12 @@ AreAllowed c p files =
     All (IsAllowed c p) xs
 
 -- every package of the file at each path passes, by the list and the policy that are read
-pub record AreAllAllowed (s : Shelved) (inside : InsideBytes) (heirs : List ℕ) (a : Request) :
-    Type 0 where
+pub record AreAllAllowed (s : Shelved) (inside : InsideBytes) (replacements : List ℕ)
+    (a : Request) : Type 0 where
   pub catalogue : Rows
   pub policy : Rules
   pub files : List Listed
   pub list_is : IsNamedList s inside (option_copied a.list) catalogue
-  pub policy_is : IsPolicyAt s heirs catalogue a.policy.now policy
+  pub policy_is : IsPolicyAt s replacements catalogue a.policy.now policy
   pub reads : AllZip (IsListedAt s a.wanted) (map path_in a.paths.now) files
   pub pass : AreAllowed catalogue policy files

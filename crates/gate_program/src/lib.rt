@@ -5,7 +5,7 @@
 //!
 //! ```rust
 //! // crates/package_commands/src/gated.rt
-//! let outcome = gate_program::gate(alloc, shelf, inside, heirs, asked.run)?;
+//! let outcome = gate_program::gate(alloc, shelf, inside, replacements, asked.run)?;
 //! ```
 //!
 //! It stands on `list_program`, `package_files`, `gate_told` and `spdx_gate`.

@@ -1,22 +1,22 @@
 // The policy that packages are judged by, over a shelf.
 
 ghost use Rattle.std.specs.Prelude.{◌≡◌, Ok, IfErr, IfOk, map};
-ghost use Rattle.spdx_licensee.specs.Shown.{restated};
-ghost use Rattle.spdx_list.specs.Shown.{instead_of, shown_extras};
+ghost use Rattle.spdx_licensee.specs.Shown.{replaced_name};
+ghost use Rattle.spdx_list.specs.Shown.{shown_extras, shown_replacement};
 ghost use Rattle.spdx_list.specs.Files.{extras_in};
 ghost use Rattle.gate_program.specs.Policy.{
-  AreHeirsIn,
-  AreNoHeirs,
+  AreNoReplacements,
+  AreReplacementsIn,
   IsNoPolicyAt,
   IsPolicyAt,
   IsUnread,
-  restated_as,
+  replaced_name_of,
 };
 
 use shelves::Shelf;
 use spdx_catalogue::Catalogue;
-use spdx_licensee::{Heirs, Restated};
-use spdx_list::{Extras, Instead, ListFault};
+use spdx_licensee::{ReplacedName, Replacements};
+use spdx_list::{Extras, ListFault, Replacement};
 use spdx_policy::{Policy, PolicyFault};
 use spdx_requirement::failure::Failure;
 use std::alloc::{AllocError, Global};
@@ -30,7 +30,7 @@ pub enum PolicyTrouble {
     /// The file at the path holds no policy.
     NoPolicy(String, PolicyFault),
     /// What stands in the place of deprecated names isn't readable.
-    NoHeirs(ListFault),
+    NoReplacements(ListFault),
     Memory,
 }
 
@@ -45,25 +45,27 @@ impl From<AllocError> for PolicyTrouble {
     }
 }
 
-/// The policy of the file at the path, over the list; `heirs` are extras that say what stands in the place of its deprecated
+/// The policy of the file at the path, over the list; `replacements` are extras that say what replaces its deprecated
 /// names.
 ///
 /// # Errors
 ///
-/// The file can't be read, or holds no policy; the heirs are no extras; or memory was refused.
+/// The file can't be read, or holds no policy; the replacements are no extras; or memory was refused.
 pub fn policy_at<'c, S: Shelf>(
     alloc: Global,
     shelf: &S,
-    heirs: &[u8],
+    replacements: &[u8],
     catalogue: &'c Catalogue,
     path: &str,
 ) -> Result<Policy<'c>, PolicyTrouble>
-    ensures ok { IfOk result (IsPolicyAt (S.told shelf.now) heirs.now catalogue.now path.now) }
-    ensures err { IfErr result (IsNoPolicyAt (S.told shelf.now) heirs.now catalogue.now path.now) }
+    ensures ok { IfOk result (IsPolicyAt (S.told shelf.now) replacements.now catalogue.now
+        path.now) }
+    ensures err { IfErr result (IsNoPolicyAt (S.told shelf.now) replacements.now catalogue.now
+        path.now) }
 {
     let bytes = bytes_of(alloc, shelf, path)?;
-    let heirs = heirs_in(alloc, heirs, catalogue)?;
-    match Policy::from_toml(alloc, catalogue, heirs, &bytes) {
+    let replacements = replacements_in(alloc, replacements, catalogue)?;
+    match Policy::from_toml(alloc, catalogue, replacements, &bytes) {
         Ok(policy) => Ok(policy),
         Err(Failure::Refused(fault)) => {
             Err(PolicyTrouble::NoPolicy(String::from_str(alloc, path)?, fault))
@@ -83,38 +85,41 @@ fn bytes_of<S: Shelf>(alloc: Global, shelf: &S, path: &str) -> Result<Vec<u8>, P
 }
 
 // What stands in the place of the list's deprecated names.
-fn heirs_in<'c>(
+fn replacements_in<'c>(
     alloc: Global,
     bytes: &[u8],
     catalogue: &'c Catalogue,
-) -> Result<Heirs<'c>, PolicyTrouble>
-    ensures ok { IfOk result (AreHeirsIn bytes.now catalogue.now) }
-    ensures err { IfErr result (AreNoHeirs bytes.now) }
+) -> Result<Replacements<'c>, PolicyTrouble>
+    ensures ok { IfOk result (AreReplacementsIn bytes.now catalogue.now) }
+    ensures err { IfErr result (AreNoReplacements bytes.now) }
 {
     let extras = extras_in(alloc, bytes)?;
-    let rows = restated_in(alloc, &extras.instead)?;
-    let heirs = Heirs::of_rows(alloc, catalogue, &rows)?;
-    Ok(heirs)
+    let rows = replaced_names_in(alloc, &extras.instead)?;
+    let replacements = Replacements::of_rows(alloc, catalogue, &rows)?;
+    Ok(replacements)
 }
 
 fn extras_in(alloc: Global, bytes: &[u8]) -> Result<Extras, PolicyTrouble>
     ensures ok { IfOk result (λ x. extras_in bytes.now ≡ Ok (shown_extras x)) }
-    ensures err { IfErr result (AreNoHeirs bytes.now) }
+    ensures err { IfErr result (AreNoReplacements bytes.now) }
 {
     match Extras::from_json(alloc, bytes) {
         Ok(extras) => Ok(extras),
-        Err(Failure::Refused(fault)) => Err(PolicyTrouble::NoHeirs(fault)),
+        Err(Failure::Refused(fault)) => Err(PolicyTrouble::NoReplacements(fault)),
         Err(Failure::Memory(_)) => Err(PolicyTrouble::Memory),
     }
 }
 
-fn restated_in<'x>(alloc: Global, rows: &'x [Instead]) -> Result<Vec<Restated<'x>>, AllocError>
-    ensures { IfOk result (λ all. map restated all.items
-        ≡ map restated_as (map instead_of rows.now)) }
+fn replaced_names_in<'x>(
+    alloc: Global,
+    rows: &'x [Replacement],
+) -> Result<Vec<ReplacedName<'x>>, AllocError>
+    ensures { IfOk result (λ all. map replaced_name all.items
+        ≡ map replaced_name_of (map shown_replacement rows.now)) }
 {
     let mut all = Vec::new(alloc);
     for row in rows {
-        all.push(Restated {
+        all.push(ReplacedName {
             name: row.name.as_str(),
             write: row.write.as_str(),
         })?;

@@ -123,7 +123,7 @@ impl Run {
 }
 
 /// Reads the list, the policy and the files, and judges all packages; what stands in the place of the list's deprecated names
-/// is said by `heirs`.
+/// is said by `replacements`.
 ///
 /// # Errors
 ///
@@ -132,20 +132,20 @@ pub fn gate<S: Shelf>(
     alloc: Global,
     shelf: &S,
     inside: Inside<'_>,
-    heirs: &[u8],
+    replacements: &[u8],
     request: Request<'_>,
 ) -> Result<Run, GateTrouble>
     ensures ok { IfOk result (IsRun (S.told shelf.now)
-        (inside_of inside.entry.list.now inside.entry.extras.now) heirs.now request.entry) }
+        (inside_of inside.entry.list.now inside.entry.extras.now) replacements.now request.entry) }
     ensures err { IfErr result (IsNoRun (S.told shelf.now)
-        (inside_of inside.entry.list.now inside.entry.extras.now) heirs.now request.entry) }
+        (inside_of inside.entry.list.now inside.entry.extras.now) replacements.now request.entry) }
     ensures passes { IfOk result (λ run. status_of run < 1 →
         option_copied request.entry.baseline ≡ None →
         AreAllAllowed (S.told shelf.now) (inside_of inside.entry.list.now inside.entry.extras.now)
-        heirs.now request.entry) }
+        replacements.now request.entry) }
 {
     let catalogue = named_list(alloc, shelf, inside, request.list)?;
-    let policy = policy_at(alloc, shelf, heirs, &catalogue, request.policy)?;
+    let policy = policy_at(alloc, shelf, replacements, &catalogue, request.policy)?;
     let run = run_over(alloc, shelf, &catalogue, &policy, request)?;
     Ok(run)
 }

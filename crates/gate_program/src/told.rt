@@ -7,7 +7,7 @@ ghost use Rattle.gate_program.specs.Texts.{IsToldText, behind_verdicts, told_tex
 
 use crate::gated::Gated;
 use crate::named::named_in;
-use crate::tellings::{details_of, shown_of};
+use crate::tellings::{breakdowns_of, texts_of_each};
 use finding_forms::Style;
 use gate_forms::{Report as Told, put_known};
 use gate_told::{
@@ -58,8 +58,8 @@ pub fn gate_text(
     ensures { IfOk result (λ text.
         IsToldText catalogue.now policy.now path.now look.entry gated.now text) }
 {
-    let shown = shown_of(alloc, catalogue, policy, &gated.report.judgements)?;
-    let details = details_of(alloc, &shown)?;
+    let shown = texts_of_each(alloc, catalogue, policy, &gated.report.judgements)?;
+    let breakdowns = breakdowns_of(alloc, &shown)?;
     let packages = named_in(alloc, &gated.files)?;
     let told = told_packages(
         alloc,
@@ -67,7 +67,7 @@ pub fn gate_text(
         path,
         &packages,
         &gated.report.rows,
-        &details,
+        &breakdowns,
         gated.known(),
     )?;
     let mut bytes = Vec::new(alloc);

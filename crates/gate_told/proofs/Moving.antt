@@ -99,11 +99,11 @@ telling_judged p reason text d xs missing nodes help e n m h =
     ∙ ap (λ (ys : List Leaf). told_as text (shown_parts (tree_in d.nodes.items) (told_leaves p d) 0) ys help None) ms
     ∙ ap (λ (a : Advice). told_as text (shown_parts (tree_in d.nodes.items) (told_leaves p d) 0) (leaves_at (told_leaves p d) d.missing.items) a None) h
 
-pub detail_is : (p : Rules) (reason text expression : List ℕ) (o : Outcome) (d : Judged) (ns : List ExprNode) (xs ys zs : List Leaf) (numbers : List ℕ) (missing : List Leaf) (nodes : List Node) (help : Advice)
+pub breakdown_is : (p : Rules) (reason text expression : List ℕ) (o : Outcome) (d : Judged) (ns : List ExprNode) (xs ys zs : List Leaf) (numbers : List ℕ) (missing : List Leaf) (nodes : List Node) (help : Advice)
     → o ≡ outcome.Judged d → IsPostfix (map node_of d.nodes.items) → ns ≡ d.nodes.items → ys ≡ xs → zs ≡ xs → numbers ≡ d.missing.items → expression ≡ text → map moved xs ≡ leaves_in p o
     → ((t : Tree) → AreOf t ns ys → nodes ≡ shown_parts t ys 0) → missing ≡ leaves_at zs numbers → help ≡ told_advice d.advice
     → told_as expression (map moved_node nodes) (map moved missing) help None ≡ telling p text reason o
-detail_is p reason text expression o d ns xs ys zs numbers missing nodes help is post hn hy hz hk ht hx exact hm hh =
+breakdown_is p reason text expression o d ns xs ys zs numbers missing nodes help is post hn hy hz hk ht hx exact hm hh =
     let told : map moved xs ≡ told_leaves p d = hx ∙ ap (leaves_in p) is in
     let are : AreOf (tree_in d.nodes.items) ns ys =
     subst (λ (zs : List ExprNode). AreOf (tree_in d.nodes.items) zs ys) (sym hn)

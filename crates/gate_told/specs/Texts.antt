@@ -12,11 +12,11 @@ use Rattle.spdx_gate.specs.declared.judgement.Outcome.{Outcome}
 use Rattle.spdx_gate.specs.declared.judgement.Outcome.TheVariants as outcome
 use Rattle.spdx_gate.specs.Reports.{IsRight}
 use Rattle.spdx_gate.specs.Verdicts.{passes}
-use Rattle.gate_told.specs.declared.details.Detail.{Detail}
-use Rattle.gate_told.specs.declared.details.Help.{Help}
-use Rattle.gate_told.specs.declared.details.Help.TheVariants as help
-use Rattle.gate_told.specs.declared.shown.Requirement.{Requirement}
-use Rattle.gate_told.specs.declared.shown.Shown.{Shown}
+use Rattle.gate_told.specs.declared.breakdowns.Breakdown.{Breakdown}
+use Rattle.gate_told.specs.declared.breakdowns.Help.{Help}
+use Rattle.gate_told.specs.declared.breakdowns.Help.TheVariants as help
+use Rattle.gate_told.specs.declared.judged_texts.Requirement.{Requirement}
+use Rattle.gate_told.specs.declared.judged_texts.JudgedTexts.{JudgedTexts}
 use Rattle.gate_told.specs.Borrowed.{borrowed}
 use Rattle.gate_told.specs.Moved.{moved, moved_node, moved_text}
 use Rattle.gate_told.specs.Shown.{is_first_accepted}
@@ -44,7 +44,7 @@ IsReasonOf c p text (outcome.Judged j) bytes = bytes ≡ []
 IsReasonOf c p text (outcome.Unreadable f) bytes = IsReason c p.lax text f bytes
 
 -- the texts are those of the judgement
-pub record IsShown (c : Rows) (p : Rules) (j : Judgement) (s : Shown) : Type 0 where
+pub record IsShown (c : Rows) (p : Rules) (j : Judgement) (s : JudgedTexts) : Type 0 where
   pub leaves_are : map owned_leaf s.requirements.items ≡ leaves_in p j.outcome
   pub reason_is : IsReasonOf c p (string_bytes j.text) j.outcome (string_bytes s.reason)
 
@@ -58,15 +58,15 @@ advice_of (help.NotSought n) = advice.NotSought n
 abbrev pub fault_in : Bor (List ℕ) × ℕ × ℕ → List ℕ × ℕ × ℕ
 fault_in f = (f.0.now, f.1, f.2)
 
--- what a detail tells
-abbrev pub telling_in : Detail → Telling
+-- what a breakdown tells
+abbrev pub telling_in : Breakdown → Telling
 telling_in d =
     told_as d.expression.now (map moved_node d.nodes.items) (map moved d.missing.items)
     (advice_of d.help) (option_map fault_in d.fault)
 
 -- where the judgement is right, and the texts are those of it, the first part is accepted exactly
 -- if the expression passes
-abbrev pub Agrees : Judgement → Shown → Detail → Type 0
+abbrev pub Agrees : Judgement → JudgedTexts → Breakdown → Type 0
 Agrees j s d =
     (c : Rows) (p : Rules) (judged : Judged) → IsRight c p j → IsShown c p j s →
     j.outcome ≡ outcome.Judged judged

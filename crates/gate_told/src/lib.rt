@@ -12,23 +12,23 @@
 //! It stands on `spdx_gate` and `gate_forms`.
 #![tactic(auto)]
 
-mod details;
+mod breakdowns;
 mod entries;
 mod forms;
+mod judged_texts;
 mod needs;
 mod packages;
-mod shown;
 mod totals;
 mod tree;
 mod unread;
 mod unused;
 
-pub use crate::details::{Detail, told_verdict};
+pub use crate::breakdowns::{Breakdown, told_verdict};
 pub use crate::entries::entry_text;
 pub use crate::forms::{Format, are_gathered, put_explanations, put_verdicts, scope_of};
+pub use crate::judged_texts::JudgedTexts;
 pub use crate::needs::put_needs;
 pub use crate::packages::{NamedPackage, Scope, told_packages};
-pub use crate::shown::Shown;
 pub use crate::totals::told_totals;
 pub use crate::tree::parts;
 pub use crate::unused::put_all_unused;

@@ -19,7 +19,7 @@ ghost use Rattle.gate_told.specs.Scopes as scopes;
 ghost use Rattle.gate_told.specs.Scopes.{AreToldIn, told_in};
 ghost use Rattle.gate_told.specs.Texts.{telling_in};
 
-use crate::details::{Detail, told_verdict};
+use crate::breakdowns::{Breakdown, told_verdict};
 use gate_forms::{Baseline, Node, Report, Why};
 use spdx_gate::{Row, Verdict};
 use std::alloc::{AllocError, Global};
@@ -43,7 +43,7 @@ pub enum Scope {
 }
 
 /// What is told of the packages of a run, in their order, by a policy of this path: of the n-th package its file, its
-/// name and its version, the verdict of the n-th row, and what the detail tells that has the number of the row's
+/// name and its version, the verdict of the n-th row, and what the breakdown tells that has the number of the row's
 /// judgement. Where there is a baseline, the n-th of `known` says whether the refusal of the n-th package is known. A
 /// package without a row is not told. Of as many packages as rows each is told, in its own file, and as refused exactly
 /// if its row is; in the scope of refused ones, these alone are told, and take memory.
@@ -57,11 +57,11 @@ pub fn told_packages<'r>(
     policy: &'r str,
     packages: &[NamedPackage<'r>],
     rows: &[Row],
-    details: &'r [Detail<'r>],
+    breakdowns: &'r [Breakdown<'r>],
     known: Option<&[bool]>,
 ) -> Result<Vec<Report<'r>>, AllocError>
     ensures { IfOk result (λ told.
-        AreToldIn scope policy.now (map telling_in details.now) rows.now known.entry packages.now
+        AreToldIn scope policy.now (map telling_in breakdowns.now) rows.now known.entry packages.now
         told.items) }
 {
     let mut told = Vec::new(alloc);
@@ -73,7 +73,7 @@ pub fn told_packages<'r>(
             policy,
             named,
             rows.get(number),
-            details,
+            breakdowns,
             baseline,
         )?;
     }
@@ -87,18 +87,18 @@ fn add_told<'r>(
     policy: &'r str,
     named: &NamedPackage<'r>,
     row: Option<&Row>,
-    details: &'r [Detail<'r>],
+    breakdowns: &'r [Breakdown<'r>],
     baseline: Baseline,
 ) -> Result<(), AllocError>
     ensures { OnOk result ((all : List forms.Report) × (map moved_report all
-        ≡ row_told policy.now (map telling_in details.now) named.now baseline
+        ≡ row_told policy.now (map telling_in breakdowns.now) named.now baseline
         (option_copied row.entry)) × (told.new.items ≡ told.old.items ++ told_in scope all)) }
 {
     match row {
         Some(row) => add_in(
             told,
             scope,
-            report_of(policy, named, row, details, baseline),
+            report_of(policy, named, row, breakdowns, baseline),
         ),
         None => Ok(()),
     }
@@ -132,13 +132,13 @@ fn report_of<'r>(
     policy: &'r str,
     named: &NamedPackage<'r>,
     row: &Row,
-    details: &'r [Detail<'r>],
+    breakdowns: &'r [Breakdown<'r>],
     baseline: Baseline,
 ) -> Report<'r>
     ensures { moved_report result ≡
-        report_of policy.now (map telling_in details.now) named.now row.now baseline }
+        report_of policy.now (map telling_in breakdowns.now) named.now row.now baseline }
 {
-    let text = TextTold::of(detail_of(row, details), row.verdict);
+    let text = TextTold::of(breakdown_of(row, breakdowns), row.verdict);
     Report {
         policy,
         file: named.file,
@@ -152,12 +152,12 @@ fn report_of<'r>(
     }
 }
 
-fn detail_of<'r>(row: &Row, details: &'r [Detail<'r>]) -> Option<&'r Detail<'r>>
+fn breakdown_of<'r>(row: &Row, breakdowns: &'r [Breakdown<'r>]) -> Option<&'r Breakdown<'r>>
     ensures { option_map telling_in (option_copied result) ≡
-        row_telling (map telling_in details.now) row.now }
+        row_telling (map telling_in breakdowns.now) row.now }
 {
     match row.judgement {
-        Some(number) => details.get(number),
+        Some(number) => breakdowns.get(number),
         None => None,
     }
 }
@@ -171,19 +171,19 @@ struct TextTold<'r> {
 }
 
 impl<'r> TextTold<'r> {
-    fn of(detail: Option<&'r Detail<'r>>, verdict: Verdict) -> TextTold<'r>
+    fn of(breakdown: Option<&'r Breakdown<'r>>, verdict: Verdict) -> TextTold<'r>
         ensures expression { result.expression.now ≡
-            text_told (option_map telling_in (option_copied detail.entry)) }
+            text_told (option_map telling_in (option_copied breakdown.entry)) }
         ensures nodes { map moved_node result.nodes.now ≡
-            nodes_told (option_map telling_in (option_copied detail.entry)) }
+            nodes_told (option_map telling_in (option_copied breakdown.entry)) }
         ensures why { moved_why result.why ≡
-            why_told (option_map telling_in (option_copied detail.entry)) verdict }
+            why_told (option_map telling_in (option_copied breakdown.entry)) verdict }
     {
-        match detail {
-            Some(detail) => TextTold {
-                expression: detail.expression,
-                nodes: detail.nodes.as_slice(),
-                why: detail.why(verdict),
+        match breakdown {
+            Some(breakdown) => TextTold {
+                expression: breakdown.expression,
+                nodes: breakdown.nodes.as_slice(),
+                why: breakdown.why(verdict),
             },
             None => TextTold {
                 expression: "",

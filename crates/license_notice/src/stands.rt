@@ -28,13 +28,16 @@ pub(crate) fn stands<'t>(
     ensures adds_none { IfOk result (λ v. (r : Row) →
         Contains (map row_of v.items) r → Contains (chosen_rows packages.now) r) }
 {
-    let mut stands = chosen(alloc, packages)?;
+    let mut stands = every_stand(alloc, packages)?;
     stands.sort_unstable();
     stands.dedup();
     Ok(stands)
 }
 
-fn chosen<'t>(alloc: Global, packages: &[Package<'_, 't>]) -> Result<Vec<Stand<'t>>, AllocError>
+fn every_stand<'t>(
+    alloc: Global,
+    packages: &[Package<'_, 't>],
+) -> Result<Vec<Stand<'t>>, AllocError>
     ensures { IfOk result (λ v. map row_of v.items ≡ chosen_rows packages.now) }
 {
     let mut stands = Vec::new(alloc);

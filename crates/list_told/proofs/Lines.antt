@@ -43,9 +43,9 @@ pub three : (begun first second all a b c : List ℕ) → begun ≡ [] → first
 three begun first second all a b c e0 e1 e2 e3 =
     e3 ∙ ap (λ (z : List ℕ). z ++ c) (e2 ∙ ap (λ (z : List ℕ). z ++ b) (e1 ∙ ap (λ (z : List ℕ). z ++ a) e0)) ∙ append_assoc a b c
 
-pub each_row : (s : Shelved) (inside : InsideBytes) (heirs : List ℕ) (a : Lists) (text : List ℕ)
-    → IsDiff s inside heirs a text → TellsEachRow s inside a text
-each_row s inside heirs a text is =
+pub each_row : (s : Shelved) (inside : InsideBytes) (replacements : List ℕ) (a : Lists) (text : List ℕ)
+    → IsDiff s inside replacements a text → TellsEachRow s inside a text
+each_row s inside replacements a text is =
     let old = is.old in
     let new = is.new in
     let diff = is.diff_is.2 in
@@ -73,9 +73,9 @@ each_row s inside heirs a text is =
       text_is = diff.text_is;
     }
 
-pub no_heirs : (s : Shelved) (inside : InsideBytes) (heirs : List ℕ) (a : Lists) (old new : Rows) (t : ListTrouble)
-    → IsNamedList s inside (option_copied a.old) old → IsListAt s inside.extras a.new.now new → AreNoExtras heirs t → IsNoDiff s inside heirs a t
-no_heirs s inside heirs a old new t first second why = inr (inr (old, new, record { old_is = first; new_is = second }, why))
+pub no_replacements : (s : Shelved) (inside : InsideBytes) (replacements : List ℕ) (a : Lists) (old new : Rows) (t : ListTrouble)
+    → IsNamedList s inside (option_copied a.old) old → IsListAt s inside.extras a.new.now new → AreNoExtras replacements t → IsNoDiff s inside replacements a t
+no_replacements s inside replacements a old new t first second why = inr (inr (old, new, record { old_is = first; new_is = second }, why))
 
 -- ---- of lists with the same rows nothing is told
 

@@ -121,7 +121,7 @@ each_listed c names us are = (to, from)
         all_dropped (is_unlisted c) names (All-weaker (IsListed c) (λ name. is_unlisted c name ≡ false) (found_if c) names all) in
         ap status_by (no_image unlisted_row us (are ∙ ap (map (unlisted_by c)) none))
 
-pub tells_listed : (c : Rows) (day : Option (List ℕ)) (heirs : List ℕ) (names : List (List ℕ)) (shown : Shown)
-    → IsShownBy c day heirs names shown → (status_of shown ≡ 0) ↔ All (IsListed c) names
-tells_listed c day heirs [] shown is = ((λ e. All-nil (IsListed c)), (λ all. ap status_by is.unlisted_are))
-tells_listed c day heirs (name ∷ names) shown (x, says, are) = each_listed c (name ∷ names) shown.unlisted.items are.unlisted_are
+pub tells_listed : (c : Rows) (day : Option (List ℕ)) (replacements : List ℕ) (names : List (List ℕ)) (shown : Shown)
+    → IsShownBy c day replacements names shown → (status_of shown ≡ 0) ↔ All (IsListed c) names
+tells_listed c day replacements [] shown is = ((λ e. All-nil (IsListed c)), (λ all. ap status_by is.unlisted_are))
+tells_listed c day replacements (name ∷ names) shown (x, says, are) = each_listed c (name ∷ names) shown.unlisted.items are.unlisted_are

@@ -5,7 +5,7 @@ use Rattle.spdx_requirement.specs.Flags.{is_copyleft, is_deprecated, is_fsf_free
 use Rattle.spdx_list.specs.Files.{ExtraRows}
 use Rattle.list_told.specs.declared.changes.Flag.{Flag}
 use Rattle.list_told.specs.declared.changes.Flag.TheVariants as flag
-use Rattle.list_told.specs.Heirs.{IsHeirIf}
+use Rattle.list_told.specs.Replacements.{IsReplacementIf}
 use Rattle.list_told.specs.Texts.{line}
 
 -- ---- what came and went
@@ -24,20 +24,21 @@ removed_line name = line (codes "removed: " ∷ name ∷ [])
 
 -- ---- what changed of a row
 
-abbrev pub heir_parts : Option (List ℕ) → List (List ℕ)
-heir_parts None = []
-heir_parts (Some heir) = codes ": write " ∷ heir ∷ []
+abbrev pub replacement_parts : Option (List ℕ) → List (List ℕ)
+replacement_parts None = []
+replacement_parts (Some replacement) = codes ": write " ∷ replacement ∷ []
 
 abbrev pub deprecated_line : List ℕ → Option (List ℕ) → List ℕ
-deprecated_line name heir = line (codes "deprecated: " ∷ name ∷ heir_parts heir)
+deprecated_line name replacement =
+    line (codes "deprecated: " ∷ name ∷ replacement_parts replacement)
 
 -- whether the name was deprecated, and whether it is
 unfoldable pub deprecation_line : Bool → Bool → List ℕ → Option (List ℕ) → List ℕ
-deprecation_line false false name heir = []
-deprecation_line false true name heir = deprecated_line name heir
-deprecation_line true false name heir =
+deprecation_line false false name replacement = []
+deprecation_line false true name replacement = deprecated_line name replacement
+deprecation_line true false name replacement =
     line (codes "changed: " ∷ name ∷ codes ": no longer deprecated" ∷ [])
-deprecation_line true true name heir = []
+deprecation_line true true name replacement = []
 
 abbrev pub flag_word : Flag → List ℕ
 flag_word flag.OsiApproved = codes "OSI approved"
@@ -71,8 +72,8 @@ full_name_line old new =
     ∷ [])
 
 unfoldable pub license_lines : LicenseRow → LicenseRow → Option (List ℕ) → List ℕ
-license_lines old new heir =
-    deprecation_line (is_deprecated old.flags) (is_deprecated new.flags) new.name heir ++
+license_lines old new replacement =
+    deprecation_line (is_deprecated old.flags) (is_deprecated new.flags) new.name replacement ++
     (flag_line flag.OsiApproved old new ++
     (flag_line flag.FsfLibre old new ++
     (flag_line flag.Copyleft old new ++
@@ -85,15 +86,18 @@ is_newly was is = not was && is
 
 pub record IsLicenseChange (c : Rows) (x : ExtraRows) (rows : LicenseRow × LicenseRow)
     (text : List ℕ) : Type 0 where
-  pub heir : Option (List ℕ)
-  pub heir_is :
-      IsHeirIf (is_newly (is_deprecated rows.0.flags) (is_deprecated rows.1.flags)) c x rows.1.name heir
-  pub text_is : text ≡ license_lines rows.0 rows.1 heir
+  pub replacement : Option (List ℕ)
+  pub replacement_is :
+      IsReplacementIf (is_newly (is_deprecated rows.0.flags) (is_deprecated rows.1.flags)) c x
+      rows.1.name replacement
+  pub text_is : text ≡ license_lines rows.0 rows.1 replacement
 
 pub record IsExceptionChange (c : Rows) (x : ExtraRows) (rows : ExceptionRow × ExceptionRow)
     (text : List ℕ) : Type 0 where
-  pub heir : Option (List ℕ)
-  pub heir_is :
-      IsHeirIf (is_newly (is_deprecated rows.0.flags) (is_deprecated rows.1.flags)) c x rows.1.name heir
+  pub replacement : Option (List ℕ)
+  pub replacement_is :
+      IsReplacementIf (is_newly (is_deprecated rows.0.flags) (is_deprecated rows.1.flags)) c x
+      rows.1.name replacement
   pub text_is :
-      text ≡ deprecation_line (is_deprecated rows.0.flags) (is_deprecated rows.1.flags) rows.1.name heir
+      text ≡ deprecation_line (is_deprecated rows.0.flags) (is_deprecated rows.1.flags)
+      rows.1.name replacement

@@ -60,25 +60,25 @@ pub record AreLists (s : Shelved) (inside : InsideBytes) (a : Lists) (old new : 
   pub old_is : IsNamedList s inside (option_copied a.old) old
   pub new_is : IsListAt s inside.extras a.new.now new
 
--- with what the heirs say
+-- with what the replacements say
 abbrev pub IsDiffBy : List ℕ → Rows → Rows → List ℕ → Type 0
-IsDiffBy heirs old new text =
-    (x : ExtraRows) × (extras_in heirs ≡ Ok x) × IsDiffOf old new x text
+IsDiffBy replacements old new text =
+    (x : ExtraRows) × (extras_in replacements ≡ Ok x) × IsDiffOf old new x text
 
-pub record IsDiff (s : Shelved) (inside : InsideBytes) (heirs : List ℕ) (a : Lists)
+pub record IsDiff (s : Shelved) (inside : InsideBytes) (replacements : List ℕ) (a : Lists)
     (text : List ℕ) : Type 0 where
   pub old : Rows
   pub new : Rows
   pub lists : AreLists s inside a old new
-  pub diff_is : IsDiffBy heirs old new text
+  pub diff_is : IsDiffBy replacements old new text
 
--- why nothing is told: a list isn't had, the older one first, or the heirs aren't readable
+-- why nothing is told: a list isn't had, the older one first, or the replacements aren't readable
 abbrev pub IsNoDiff : Shelved → InsideBytes → List ℕ → Lists → ListTrouble → Type 0
-IsNoDiff s inside heirs a t =
+IsNoDiff s inside replacements a t =
     IsNoNamedList s inside (option_copied a.old) t
     ⊎ (((old : Rows) × IsNamedList s inside (option_copied a.old) old
     × IsNoListAt s inside.extras a.new.now t)
-    ⊎ ((old : Rows) × (new : Rows) × AreLists s inside a old new × AreNoExtras heirs t))
+    ⊎ ((old : Rows) × (new : Rows) × AreLists s inside a old new × AreNoExtras replacements t))
 
 -- ---- laws
 

@@ -1,4 +1,4 @@
-pub mod Heirs
+pub mod Replacements
 pub mod Flags
 pub mod Texts
 pub mod Told

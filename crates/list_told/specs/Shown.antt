@@ -30,9 +30,9 @@ pub record AreAllShown (c : Rows) (day : Option (List ℕ)) (shown : Shown) : Ty
 
 abbrev pub IsShownBy :
     Rows → Option (List ℕ) → List ℕ → List (List ℕ) → Shown → Type 0
-IsShownBy c day heirs [] shown = AreAllShown c day shown
-IsShownBy c day heirs (name ∷ names) shown =
-    (x : ExtraRows) × (extras_in heirs ≡ Ok x) × AreShown c x (name ∷ names) shown
+IsShownBy c day replacements [] shown = AreAllShown c day shown
+IsShownBy c day replacements (name ∷ names) shown =
+    (x : ExtraRows) × (extras_in replacements ≡ Ok x) × AreShown c x (name ∷ names) shown
 
 -- the day of the list is told without names alone
 abbrev pub IsDayFor :
@@ -41,25 +41,26 @@ IsDayFor s inside list [] day = IsNamedDate s inside list day
 IsDayFor s inside list (name ∷ names) day = day ≡ None
 
 -- by the list that is named, or else is inside
-pub record IsShown (s : Shelved) (inside : InsideBytes) (heirs : List ℕ) (a : Asked)
+pub record IsShown (s : Shelved) (inside : InsideBytes) (replacements : List ℕ) (a : Asked)
     (shown : Shown) : Type 0 where
   pub catalogue : Rows
   pub day : Option (List ℕ)
   pub list_is : IsNamedList s inside (option_copied a.list) catalogue
   pub day_is : IsDayFor s inside (option_copied a.list) (nows a.names.now) day
-  pub shown_is : IsShownBy catalogue day heirs (nows a.names.now) shown
+  pub shown_is : IsShownBy catalogue day replacements (nows a.names.now) shown
 
--- why nothing is told by a list: the heirs, for which nobody asks without names, aren't readable
-abbrev pub AreNoHeirs : List ℕ → List (List ℕ) → ListTrouble → Type 0
-AreNoHeirs heirs [] t = t ≡ trouble.Memory
-AreNoHeirs heirs (name ∷ names) t = AreNoExtras heirs t
+-- why nothing is told by a list: the replacements, for which nobody asks without names, aren't
+-- readable
+abbrev pub AreNoReplacements : List ℕ → List (List ℕ) → ListTrouble → Type 0
+AreNoReplacements replacements [] t = t ≡ trouble.Memory
+AreNoReplacements replacements (name ∷ names) t = AreNoExtras replacements t
 
 -- why nothing is told
 abbrev pub IsNotShown : Shelved → InsideBytes → List ℕ → Asked → ListTrouble → Type 0
-IsNotShown s inside heirs a t =
+IsNotShown s inside replacements a t =
     IsNoNamedList s inside (option_copied a.list) t
     ⊎ ((c : Rows) × IsNamedList s inside (option_copied a.list) c
-    × AreNoHeirs heirs (nows a.names.now) t)
+    × AreNoReplacements replacements (nows a.names.now) t)
 
 abbrev pub status_by : List Unlisted → ℕ
 status_by [] = 0

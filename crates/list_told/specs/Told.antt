@@ -5,7 +5,7 @@ use Rattle.spdx_requirement.specs.Flags.{is_deprecated}
 use Rattle.spdx_catalogue.specs.LookUps.{listed_caseless, listed_exception_caseless}
 use Rattle.spdx_list.specs.Files.{ExtraRows}
 use Rattle.list_told.specs.Flags.{exception_flags, flags_line, license_flags}
-use Rattle.list_told.specs.Heirs.{IsHeirIf}
+use Rattle.list_told.specs.Replacements.{IsReplacementIf}
 
 -- ---- without names
 
@@ -26,14 +26,14 @@ names_text c day =
 
 -- ---- of a name
 
-abbrev pub heir_line : Option (List ℕ) → List ℕ
-heir_line None = []
-heir_line (Some heir) = codes "  write: " ++ (heir ++ codes "\n")
+abbrev pub replacement_line : Option (List ℕ) → List ℕ
+replacement_line None = []
+replacement_line (Some replacement) = codes "  write: " ++ (replacement ++ codes "\n")
 
 unfoldable pub license_text : LicenseRow → Option (List ℕ) → List ℕ
-license_text r heir =
+license_text r replacement =
     r.name ++ (codes "\n  name: " ++ (r.full_name ++ (codes "\n" ++
-    (flags_line (license_flags r) ++ heir_line heir))))
+    (flags_line (license_flags r) ++ replacement_line replacement))))
 
 unfoldable pub exception_line : List ℕ
 exception_line = codes "\n  an exception, written behind WITH\n"
@@ -43,9 +43,9 @@ exception_text r = r.name ++ (exception_line ++ flags_line (exception_flags r))
 
 -- where the licence is deprecated, what to write in place of its name
 pub record IsLicenseText (c : Rows) (x : ExtraRows) (r : LicenseRow) (text : List ℕ) : Type 0 where
-  pub heir : Option (List ℕ)
-  pub heir_is : IsHeirIf (is_deprecated r.flags) c x r.name heir
-  pub text_is : text ≡ license_text r heir
+  pub replacement : Option (List ℕ)
+  pub replacement_is : IsReplacementIf (is_deprecated r.flags) c x r.name replacement
+  pub text_is : text ≡ license_text r replacement
 
 -- the row of the licence, else of the exception; nothing where the list has neither
 abbrev pub IsTextBy : Rows → ExtraRows → Option LicenseRow → Option ExceptionRow → List ℕ → Type 0

@@ -10,8 +10,8 @@ ghost use Rattle.list_told.specs.Changes as spec;
 ghost use Rattle.list_told.specs.Changes.{IsExceptionChange, IsLicenseChange};
 ghost use Rattle.list_told.specs.Texts.{AreTexts};
 
-use crate::heirs::heir_if;
 use crate::parts::put_line;
+use crate::replacements::replacement_if;
 use spdx_catalogue::Catalogue;
 use spdx_list::{Extras, Listed, RowChange};
 use spdx_requirement::id::{ExceptionId, LicenseId};
@@ -103,8 +103,8 @@ fn license_change(
 {
     let (old, new) = (LicenseId::new(change.old), LicenseId::new(change.new));
     let is_newly = is_newly(old.is_deprecated(), new.is_deprecated());
-    let heir = heir_if(alloc, is_newly, catalogue, extras, change.new.name.as_str())?;
-    let text = license_lines(alloc, old, new, &heir)?;
+    let replacement = replacement_if(alloc, is_newly, catalogue, extras, change.new.name.as_str())?;
+    let text = license_lines(alloc, old, new, &replacement)?;
     Ok(text)
 }
 
@@ -113,15 +113,15 @@ fn license_lines(
     alloc: Global,
     old: LicenseId<'_>,
     new: LicenseId<'_>,
-    heir: &Option<String>,
+    replacement: &Option<String>,
 ) -> Result<Vec<u8>, AllocError>
     ensures { IfOk result (λ text. text.items ≡ spec.license_lines (id_row old.entry)
-        (id_row new.entry) (option_map string_bytes heir.now)) }
+        (id_row new.entry) (option_map string_bytes replacement.now)) }
 {
     let name = new.license().name.as_str();
     let (was, is) = (old.is_deprecated(), new.is_deprecated());
     let mut text = Vec::new(alloc);
-    put_deprecation(&mut text, was, is, name, heir)?;
+    put_deprecation(&mut text, was, is, name, replacement)?;
     put_flag(&mut text, old, new, Flag::OsiApproved)?;
     put_flag(&mut text, old, new, Flag::FsfLibre)?;
     put_flag(&mut text, old, new, Flag::Copyleft)?;
@@ -161,14 +161,14 @@ fn exception_change(
     let (old, new) = (ExceptionId::new(change.old), ExceptionId::new(change.new));
     let name = change.new.name.as_str();
     let is_newly = is_newly(old.is_deprecated(), new.is_deprecated());
-    let heir = heir_if(alloc, is_newly, catalogue, extras, name)?;
+    let replacement = replacement_if(alloc, is_newly, catalogue, extras, name)?;
     let mut text = Vec::new(alloc);
     put_deprecation(
         &mut text,
         old.is_deprecated(),
         new.is_deprecated(),
         name,
-        &heir,
+        &replacement,
     )?;
     Ok(text)
 }
@@ -186,24 +186,31 @@ fn put_deprecation(
     was: bool,
     is: bool,
     name: &str,
-    heir: &Option<String>,
+    replacement: &Option<String>,
 ) -> Result<(), AllocError>
     ensures { OnOk result (text.new.items ≡ text.old.items
-        ++ spec.deprecation_line was is name.now (option_map string_bytes heir.now)) }
+        ++ spec.deprecation_line was is name.now (option_map string_bytes replacement.now)) }
 {
     match (was, is) {
-        (false, true) => put_deprecated(text, name, heir),
+        (false, true) => put_deprecated(text, name, replacement),
         (true, false) => put_line(text, &["changed: ", name, ": no longer deprecated"]),
         (false, false) | (true, true) => Ok(()),
     }
 }
 
-fn put_deprecated(text: &mut Vec<u8>, name: &str, heir: &Option<String>) -> Result<(), AllocError>
+fn put_deprecated(
+    text: &mut Vec<u8>,
+    name: &str,
+    replacement: &Option<String>,
+) -> Result<(), AllocError>
     ensures { OnOk result (text.new.items ≡ text.old.items
-        ++ spec.deprecated_line name.now (option_map string_bytes heir.now)) }
+        ++ spec.deprecated_line name.now (option_map string_bytes replacement.now)) }
 {
-    match heir {
-        Some(heir) => put_line(text, &["deprecated: ", name, ": write ", heir.as_str()]),
+    match replacement {
+        Some(replacement) => put_line(
+            text,
+            &["deprecated: ", name, ": write ", replacement.as_str()],
+        ),
         None => put_line(text, &["deprecated: ", name]),
     }
 }

@@ -36,23 +36,23 @@ pub struct Lists<'a> {
 }
 
 /// Tells by what the newer list differs from the older one: both versions, and a line for each difference. What to write in
-/// place of names that are deprecated now is said by `heirs`, where they can't be mended.
+/// place of names that are deprecated now is said by `replacements`, where they can't be mended.
 ///
 /// # Errors
 ///
-/// A list isn't had, the older one first; the heirs are no extras; or memory was refused.
+/// A list isn't had, the older one first; the replacements are no extras; or memory was refused.
 pub fn diff<S: Shelf>(
     alloc: Global,
     shelf: &S,
     inside: Inside<'_>,
-    heirs: &[u8],
+    replacements: &[u8],
     lists: Lists<'_>,
 ) -> Result<Vec<u8>, ListTrouble>
     ensures ok { IfOk result (λ text. IsDiff (S.told shelf.now)
-        (inside_of inside.entry.list.now inside.entry.extras.now) heirs.now lists.entry
+        (inside_of inside.entry.list.now inside.entry.extras.now) replacements.now lists.entry
         text.items) }
     ensures err { IfErr result (IsNoDiff (S.told shelf.now)
-        (inside_of inside.entry.list.now inside.entry.extras.now) heirs.now lists.entry) }
+        (inside_of inside.entry.list.now inside.entry.extras.now) replacements.now lists.entry) }
     ensures each { IfOk result (λ text. TellsEachRow (S.told shelf.now)
         (inside_of inside.entry.list.now inside.entry.extras.now) lists.entry text.items) }
     ensures same { IfOk result (λ text. TellsSame (S.told shelf.now)
@@ -61,19 +61,19 @@ pub fn diff<S: Shelf>(
     let old = named_list(alloc, shelf, inside, lists.old)?;
     let new = list_at(alloc, shelf, inside.extras, lists.new)?;
     old.is_well_formed();
-    diff_by(alloc, &old, &new, heirs)
+    diff_by(alloc, &old, &new, replacements)
 }
 
 fn diff_by(
     alloc: Global,
     old: &Catalogue,
     new: &Catalogue,
-    heirs: &[u8],
+    replacements: &[u8],
 ) -> Result<Vec<u8>, ListTrouble>
-    ensures ok { IfOk result (λ text. IsDiffBy heirs.now old.now new.now text.items) }
-    ensures err { IfErr result (AreNoExtras heirs.now) }
+    ensures ok { IfOk result (λ text. IsDiffBy replacements.now old.now new.now text.items) }
+    ensures err { IfErr result (AreNoExtras replacements.now) }
 {
-    let extras = extras_inside(alloc, heirs)?;
+    let extras = extras_inside(alloc, replacements)?;
     let text = diff_of(alloc, old, new, &extras)?;
     Ok(text)
 }

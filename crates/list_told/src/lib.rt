@@ -3,7 +3,7 @@
 //!
 //! ```rust
 //! // crates/spdx_commands/src/lists.rt
-//! let shown = list_told::show(alloc, shelf, inside, heirs, asked)?;
+//! let shown = list_told::show(alloc, shelf, inside, replacements, asked)?;
 //! ```
 //!
 //! It stands on `list_program`, `spdx_list`, `spdx_canonical` and `spdx_hints`.
@@ -12,14 +12,14 @@
 mod changes;
 pub mod differing;
 mod flags;
-pub mod heirs;
 mod names;
 mod parts;
+pub mod replacements;
 mod rows;
 pub mod shown;
 pub mod unlisted;
 
 pub use crate::differing::{Lists, diff};
-pub use crate::heirs::heir;
+pub use crate::replacements::replacement;
 pub use crate::shown::{Asked, Shown, show};
 pub use crate::unlisted::Unlisted;

@@ -9,7 +9,7 @@ ghost use Rattle.list_told.specs.Told as spec;
 ghost use Rattle.list_told.specs.Told.{IsLicenseText, IsTextOf};
 
 use crate::flags::{exception_flags, license_flags, put_flags};
-use crate::heirs::heir_if;
+use crate::replacements::replacement_if;
 use spdx_catalogue::Catalogue;
 use spdx_list::Extras;
 use spdx_requirement::id::{ExceptionId, LicenseId};
@@ -62,8 +62,8 @@ fn license_text(
         IsLicenseText catalogue.now (shown_extras extras.now) (id_row id.entry) text.items) }
 {
     let name = id.license().name.as_str();
-    let heir = heir_if(alloc, id.is_deprecated(), catalogue, extras, name)?;
-    let text = license_lines(alloc, id, &heir)?;
+    let replacement = replacement_if(alloc, id.is_deprecated(), catalogue, extras, name)?;
+    let text = license_lines(alloc, id, &replacement)?;
     Ok(text)
 }
 
@@ -71,10 +71,10 @@ fn license_text(
 fn license_lines(
     alloc: Global,
     id: LicenseId<'_>,
-    heir: &Option<String>,
+    replacement: &Option<String>,
 ) -> Result<Vec<u8>, AllocError>
     ensures { IfOk result (λ text. text.items
-        ≡ spec.license_text (id_row id.entry) (option_map string_bytes heir.now)) }
+        ≡ spec.license_text (id_row id.entry) (option_map string_bytes replacement.now)) }
 {
     let mut text = Vec::new(alloc);
     text.extend_from_slice(id.license().name.as_bytes())?;
@@ -83,7 +83,7 @@ fn license_lines(
     text.extend_from_slice(b"\n")?;
     let words = license_flags(alloc, id)?;
     put_flags(&mut text, &words)?;
-    put_heir(&mut text, heir)?;
+    put_replacement(&mut text, replacement)?;
     Ok(text)
 }
 
@@ -96,15 +96,15 @@ fn exception_line() -> &'static str
 }
 
 // What to write in place of a deprecated name, where that is known.
-fn put_heir(text: &mut Vec<u8>, heir: &Option<String>) -> Result<(), AllocError>
+fn put_replacement(text: &mut Vec<u8>, replacement: &Option<String>) -> Result<(), AllocError>
     ensures { OnOk result (text.new.items ≡ text.old.items
-        ++ spec.heir_line (option_map string_bytes heir.now)) }
+        ++ spec.replacement_line (option_map string_bytes replacement.now)) }
 {
-    let Some(heir) = heir else {
+    let Some(replacement) = replacement else {
         return Ok(());
     };
     text.extend_from_slice(b"  write: ")?;
-    text.extend_from_slice(heir.as_bytes())?;
+    text.extend_from_slice(replacement.as_bytes())?;
     text.extend_from_slice(b"\n")
 }
 

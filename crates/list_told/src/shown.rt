@@ -8,7 +8,7 @@ ghost use Rattle.list_program.specs.Named.{inside_of};
 ghost use Rattle.list_program.specs.Troubles.{IsNoNamedList};
 ghost use Rattle.list_told.specs.Shown.{
   AreAllShown,
-  AreNoHeirs,
+  AreNoReplacements,
   AreShown,
   IsDayFor,
   IsNotShown,
@@ -55,28 +55,29 @@ impl Shown {
 }
 
 /// Tells what the list that is named says of the names, in whatever case its own are written; without names, its version
-/// with its day, where the list has it, and all of its names. What to write in place of deprecated names is said by `heirs`, where they can't be mended.
+/// with its day, where the list has it, and all of its names. What replaces deprecated names is said by `replacements`, where
+/// they can't be mended.
 ///
 /// # Errors
 ///
-/// The list isn't had; there are names, and the heirs are no extras; or memory was refused.
+/// The list isn't had; there are names, and the replacements are no extras; or memory was refused.
 pub fn show<S: Shelf>(
     alloc: Global,
     shelf: &S,
     inside: Inside<'_>,
-    heirs: &[u8],
+    replacements: &[u8],
     asked: Asked<'_>,
 ) -> Result<Shown, ListTrouble>
     ensures ok { IfOk result (IsShown (S.told shelf.now)
-        (inside_of inside.entry.list.now inside.entry.extras.now) heirs.now asked.entry) }
+        (inside_of inside.entry.list.now inside.entry.extras.now) replacements.now asked.entry) }
     ensures err { IfErr result (IsNotShown (S.told shelf.now)
-        (inside_of inside.entry.list.now inside.entry.extras.now) heirs.now asked.entry) }
+        (inside_of inside.entry.list.now inside.entry.extras.now) replacements.now asked.entry) }
     ensures listed { IfOk result (TellsListed (S.told shelf.now)
         (inside_of inside.entry.list.now inside.entry.extras.now) asked.entry) }
 {
     let catalogue = named_list(alloc, shelf, inside, asked.list)?;
     let day = day_for(alloc, shelf, inside, asked)?;
-    let shown = shown_by(alloc, &catalogue, &day, heirs, asked.names)?;
+    let shown = shown_by(alloc, &catalogue, &day, replacements, asked.names)?;
     Ok(shown)
 }
 
@@ -106,12 +107,12 @@ fn shown_by(
     alloc: Global,
     catalogue: &Catalogue,
     day: &Option<String>,
-    heirs: &[u8],
+    replacements: &[u8],
     names: &[&str],
 ) -> Result<Shown, ListTrouble>
     ensures ok { IfOk result (IsShownBy catalogue.now (option_map string_bytes day.now)
-        heirs.now (nows names.now)) }
-    ensures err { IfErr result (AreNoHeirs heirs.now (nows names.now)) }
+        replacements.now (nows names.now)) }
+    ensures err { IfErr result (AreNoReplacements replacements.now (nows names.now)) }
 {
     match names {
         [] => {
@@ -119,7 +120,7 @@ fn shown_by(
             Ok(shown)
         }
         [_, ..] => {
-            let extras = extras_inside(alloc, heirs)?;
+            let extras = extras_inside(alloc, replacements)?;
             let shown = each_shown(alloc, catalogue, &extras, names)?;
             Ok(shown)
         }

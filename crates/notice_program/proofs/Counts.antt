@@ -77,9 +77,9 @@ policy_long c p one packages choices h =
       offered_are = ap (λ (xs : List (List Named)). length xs) names.offered_are ∙ length-map h.own (λ (x : Pick). map named (leaves (tree_of x))) ∙ own;
     }
 
-chosen_long : (s : Shelved) (heirs : List ℕ) (c : Rows) (a : Accepted) (one : Bool) (packages : List listed_as.Package) (choices : Chosen) → IsChosen s heirs c a one packages choices → AreLong packages choices
-chosen_long s heirs c (accepted.List list m) one packages choices h = among_long c list.now m one packages choices h
-chosen_long s heirs c (accepted.Policy path) one packages choices h = policy_long c h.0 one packages choices h.2
+chosen_long : (s : Shelved) (replacements : List ℕ) (c : Rows) (a : Accepted) (one : Bool) (packages : List listed_as.Package) (choices : Chosen) → IsChosen s replacements c a one packages choices → AreLong packages choices
+chosen_long s replacements c (accepted.List list m) one packages choices h = among_long c list.now m one packages choices h
+chosen_long s replacements c (accepted.Policy path) one packages choices h = policy_long c h.0 one packages choices h.2
 
 -- ---- packages with their choices
 
@@ -92,14 +92,14 @@ used_long packages choices h =
     let ys = shown_all choices.offered.items in
     length-map (zip xs ys) used ∙ both_long (length (zip xs ys)) (length xs) (length ys) (length packages) (length-zip xs ys) h.choices_are h.offered_are
 
-pub each_taken : (s : Shelved) (heirs : List ℕ) (c : Rows) (a : Accepted) (one : Bool) (files : List Listed) (choices : Chosen) → IsChosen s heirs c a one (packages_in files) choices
+pub each_taken : (s : Shelved) (replacements : List ℕ) (c : Rows) (a : Accepted) (one : Bool) (files : List Listed) (choices : Chosen) → IsChosen s replacements c a one (packages_in files) choices
     → length (taken_in files choices) ≡ length (packages_in files)
-each_taken s heirs c a one files choices h =
+each_taken s replacements c a one files choices h =
     let entries = entries_in files in
     let uses = used_in choices in
     length-map (zip entries uses) taken
     ∙ both_long (length (zip entries uses)) (length entries) (length uses) (length (packages_in files)) (length-zip entries uses) (sym (length-map entries package_of))
-    (used_long (packages_in files) choices (chosen_long s heirs c a one (packages_in files) choices h))
+    (used_long (packages_in files) choices (chosen_long s replacements c a one (packages_in files) choices h))
 
 -- ---- packages on the page
 

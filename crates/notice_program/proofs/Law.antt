@@ -129,7 +129,7 @@ chosen_whole s a taken (page.placed there ends) lt = placed_whole s a taken ends
 chosen_whole s a taken (page.no_folder gone) lt = absurd (omega (arith, lt))
 
 abbrev IsFilesWhole : Shelved → List ℕ → Rows → Request → List Listed → End → Type 0
-IsFilesWhole s heirs c a files e = (choices : Chosen) × IsChosen s heirs c a.accepted a.one_for_all (packages_in files) choices × IsToldWhole a (taken_in files choices) e
+IsFilesWhole s replacements c a files e = (choices : Chosen) × IsChosen s replacements c a.accepted a.one_for_all (packages_in files) choices × IsToldWhole a (taken_in files choices) e
 
 not_low : (t : ChoiceTrouble) → choice_status t < 1 → ⊥
 not_low (choice.NoChoices us) lt = absurd (omega (arith, lt))
@@ -138,17 +138,17 @@ not_low (choice.NoLicensee n r) lt = absurd (omega (arith, lt))
 not_low (choice.Policy t) lt = absurd (omega (arith, lt))
 not_low choice.Memory lt = absurd (omega (arith, lt))
 
-files_whole : (s : Shelved) (heirs : List ℕ) (c : Rows) (a : Request) (files : List Listed) {e : End} → IsFilesEnd s heirs c a files e → end_status e < 1 → IsFilesWhole s heirs c a files e
-files_whole s heirs c a files (run.chosen choices are ends) lt = (choices, are, chosen_whole s a (taken_in files choices) ends lt)
-files_whole s heirs c a files (run.no_choice t is kept) lt = absurd (not_low t lt)
+files_whole : (s : Shelved) (replacements : List ℕ) (c : Rows) (a : Request) (files : List Listed) {e : End} → IsFilesEnd s replacements c a files e → end_status e < 1 → IsFilesWhole s replacements c a files e
+files_whole s replacements c a files (run.chosen choices are ends) lt = (choices, are, chosen_whole s a (taken_in files choices) ends lt)
+files_whole s replacements c a files (run.no_choice t is kept) lt = absurd (not_low t lt)
 
-end_whole : (s : Shelved) (heirs : List ℕ) (c : Rows) (a : Request) (files : List Listed) (left : List FileFault) {e : End} → IsEnd s heirs c a files left e → end_status e < 1 → (left ≡ []) × IsFilesWhole s heirs c a files e
-end_whole s heirs c a files left (run.left some) lt = absurd (omega (arith, lt))
-end_whole s heirs c a files left (run.read none ends) lt = (none, files_whole s heirs c a files ends lt)
+end_whole : (s : Shelved) (replacements : List ℕ) (c : Rows) (a : Request) (files : List Listed) (left : List FileFault) {e : End} → IsEnd s replacements c a files left e → end_status e < 1 → (left ≡ []) × IsFilesWhole s replacements c a files e
+end_whole s replacements c a files left (run.left some) lt = absurd (omega (arith, lt))
+end_whole s replacements c a files left (run.read none ends) lt = (none, files_whole s replacements c a files ends lt)
 
-pub all_noticed : (s : Shelved) (inside : InsideBytes) (heirs : List ℕ) (a : Request) (r : Run) → IsRun s inside heirs a r → status_of r < 1 → AreAllNoticed s inside heirs a r
-all_noticed s inside heirs a r is lt =
-    let ends = end_whole s heirs is.catalogue a r.files.items r.left_out.items is.runs.ends lt in
+pub all_noticed : (s : Shelved) (inside : InsideBytes) (replacements : List ℕ) (a : Request) (r : Run) → IsRun s inside replacements a r → status_of r < 1 → AreAllNoticed s inside replacements a r
+all_noticed s inside replacements a r is lt =
+    let ends = end_whole s replacements is.catalogue a r.files.items r.left_out.items is.runs.ends lt in
     record {
       catalogue = is.catalogue;
       choices = ends.1.0;
@@ -156,7 +156,7 @@ all_noticed s inside heirs a r is lt =
       list_is = is.list_is;
       reads = whole s a.wanted (map path_in a.paths.now) r.files.items r.left_out.items is.runs.reads ends.0;
       chosen = ends.1.1;
-      each_taken = each_taken s heirs is.catalogue a.accepted a.one_for_all r.files.items ends.1.0 ends.1.1;
+      each_taken = each_taken s replacements is.catalogue a.accepted a.one_for_all r.files.items ends.1.0 ends.1.1;
       ends = ends.1.2.1;
       whole = ends.1.2.2;
     }
@@ -167,6 +167,6 @@ not_true : (b : Bool) → (b ≡ true → ⊥) → b ≡ false
 not_true true h = absurd (h refl)
 not_true false h = refl
 
-pub none_written : (s : Shelved) (inside : InsideBytes) (heirs : List ℕ) (a : Request) (r : Run) → IsRun s inside heirs a r → HasNoChoice s inside heirs a r → is_written r ≡ false
-none_written s inside heirs a r is none =
-    not_true (is_written r) (λ there. let all = all_noticed s inside heirs a r is (zero_if (is_written r) (status_of r) there (written_exactly r)) in none all.catalogue all.choices all.list_is all.chosen)
+pub none_written : (s : Shelved) (inside : InsideBytes) (replacements : List ℕ) (a : Request) (r : Run) → IsRun s inside replacements a r → HasNoChoice s inside replacements a r → is_written r ≡ false
+none_written s inside replacements a r is none =
+    not_true (is_written r) (λ there. let all = all_noticed s inside replacements a r is (zero_if (is_written r) (status_of r) there (written_exactly r)) in none all.catalogue all.choices all.list_is all.chosen)

@@ -58,14 +58,15 @@ pub record IsWhole (a : Request) (taken : List Taken) (n : ToldPage) : Type 0 wh
   pub none_missing : has_own a.folders.own ≡ true → a.is_strict ≡ true → missing ≡ []
 
 -- each file is read, each package has a choice that is accepted, and the page has what they want
-pub record AreAllNoticed (s : Shelved) (inside : InsideBytes) (heirs : List ℕ) (a : Request)
+pub record AreAllNoticed (s : Shelved) (inside : InsideBytes) (replacements : List ℕ) (a : Request)
     (run : Run) : Type 0 where
   pub catalogue : Rows
   pub choices : Chosen
   pub notice : ToldPage
   pub list_is : IsNamedList s inside (option_copied a.list) catalogue
   pub reads : AllZip (IsListedAt s a.wanted) (map path_in a.paths.now) run.files.items
-  pub chosen : IsChosen s heirs catalogue a.accepted a.one_for_all (packages_in run.files.items)
+  pub chosen : IsChosen s replacements catalogue a.accepted a.one_for_all
+      (packages_in run.files.items)
       choices
   pub each_taken :
       length (taken_in run.files.items choices) ≡ length (packages_in run.files.items)
@@ -78,6 +79,6 @@ IsWrittenExactly run = is_written run ≡ (status_of run == 0)
 
 -- by no list that is named do the packages of the run's files have choices that are accepted
 abbrev pub HasNoChoice : Shelved → InsideBytes → List ℕ → Request → Run → Type 0
-HasNoChoice s inside heirs a run = (c : Rows) → (choices : Chosen) →
+HasNoChoice s inside replacements a run = (c : Rows) → (choices : Chosen) →
     IsNamedList s inside (option_copied a.list) c →
-    IsChosen s heirs c a.accepted a.one_for_all (packages_in run.files.items) choices → ⊥
+    IsChosen s replacements c a.accepted a.one_for_all (packages_in run.files.items) choices → ⊥

@@ -36,7 +36,7 @@ refuses_memory k = false
 abbrev pub is_of_policy_memory : PolicyTrouble → Bool
 is_of_policy_memory (policy.Unreadable n e) = refuses_memory (error_kind e)
 is_of_policy_memory (policy.NoPolicy n f) = false
-is_of_policy_memory (policy.NoHeirs f) = false
+is_of_policy_memory (policy.NoReplacements f) = false
 is_of_policy_memory policy.Memory = true
 
 -- memory was refused, by the system or within
@@ -51,36 +51,36 @@ IsUnchosen t e = (e ≡ end.NoChoice t) × (is_of_memory t ≡ false)
 -- ---- how a run ends
 
 -- each package of the files has a choice, or it is told why there is none
-pub data IsFilesEnd (s : Shelved) (heirs : List ℕ) (c : Rows) (a : Request) (files : List Listed) :
-    End → Type 0 where
+pub data IsFilesEnd (s : Shelved) (replacements : List ℕ) (c : Rows) (a : Request)
+    (files : List Listed) : End → Type 0 where
   chosen : {e : End} (choices : Chosen) →
-      IsChosen s heirs c a.accepted a.one_for_all (packages_in files) choices →
-      IsChosenEnd s a (taken_in files choices) e → IsFilesEnd s heirs c a files e
+      IsChosen s replacements c a.accepted a.one_for_all (packages_in files) choices →
+      IsChosenEnd s a (taken_in files choices) e → IsFilesEnd s replacements c a files e
   no_choice : (t : ChoiceTrouble) →
-      IsNoChoice s heirs c a.accepted a.one_for_all (packages_in files) t →
-      is_of_memory t ≡ false → IsFilesEnd s heirs c a files (end.NoChoice t)
+      IsNoChoice s replacements c a.accepted a.one_for_all (packages_in files) t →
+      is_of_memory t ≡ false → IsFilesEnd s replacements c a files (end.NoChoice t)
 
 -- nothing is chosen where a file is left out
-pub data IsEnd (s : Shelved) (heirs : List ℕ) (c : Rows) (a : Request) (files : List Listed)
+pub data IsEnd (s : Shelved) (replacements : List ℕ) (c : Rows) (a : Request) (files : List Listed)
     (left_out : List FileFault) : End → Type 0 where
-  left : left_out ≢ [] → IsEnd s heirs c a files left_out end.LeftOut
-  read : {e : End} → left_out ≡ [] → IsFilesEnd s heirs c a files e →
-      IsEnd s heirs c a files left_out e
+  left : left_out ≢ [] → IsEnd s replacements c a files left_out end.LeftOut
+  read : {e : End} → left_out ≡ [] → IsFilesEnd s replacements c a files e →
+      IsEnd s replacements c a files left_out e
 
 -- ---- a run
 
 -- over this list: each file lists its packages or is left out
-pub record IsRunOver (s : Shelved) (heirs : List ℕ) (c : Rows) (a : Request) (run : Run) :
+pub record IsRunOver (s : Shelved) (replacements : List ℕ) (c : Rows) (a : Request) (run : Run) :
     Type 0 where
   pub reads : AreListed s a.wanted (map path_in a.paths.now) run.files.items run.left_out.items
-  pub ends : IsEnd s heirs c a run.files.items run.left_out.items run.end
+  pub ends : IsEnd s replacements c a run.files.items run.left_out.items run.end
 
 -- by the list that is named, or else is inside
-pub record IsRun (s : Shelved) (inside : InsideBytes) (heirs : List ℕ) (a : Request)
+pub record IsRun (s : Shelved) (inside : InsideBytes) (replacements : List ℕ) (a : Request)
     (run : Run) : Type 0 where
   pub catalogue : Rows
   pub list_is : IsNamedList s inside (option_copied a.list) catalogue
-  pub runs : IsRunOver s heirs catalogue a run
+  pub runs : IsRunOver s replacements catalogue a run
 
 -- why there is none; nothing is said of memory
 abbrev pub IsNoRun : Shelved → InsideBytes → Request → NoticeTrouble → Type 0

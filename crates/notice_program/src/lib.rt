@@ -5,7 +5,7 @@
 //!
 //! ```rust
 //! // crates/package_commands/src/pages.rt
-//! let outcome = notice_program::notice(alloc, shelf, inside, heirs, request)?;
+//! let outcome = notice_program::notice(alloc, shelf, inside, replacements, request)?;
 //! ```
 //!
 //! It stands on `package_files`, `choice_program`, `owed_texts` and `notice_told`.

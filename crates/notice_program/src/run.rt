@@ -81,7 +81,7 @@ impl Run {
 }
 
 /// Reads the list and the files, chooses what each package is used under, and reads the texts; what stands in the place of the
-/// list's deprecated names is said by `heirs`. Nothing is written: the page is in what is answered, if it is to be.
+/// list's deprecated names is said by `replacements`. Nothing is written: the page is in what is answered, if it is to be.
 ///
 /// # Errors
 ///
@@ -90,22 +90,23 @@ pub fn notice<S: Shelf>(
     alloc: Global,
     shelf: &S,
     inside: Inside<'_>,
-    heirs: &[u8],
+    replacements: &[u8],
     request: Request<'_>,
 ) -> Result<Run, NoticeTrouble>
     ensures ok { IfOk result (IsRun (S.told shelf.now)
-        (inside_of inside.entry.list.now inside.entry.extras.now) heirs.now request.entry) }
+        (inside_of inside.entry.list.now inside.entry.extras.now) replacements.now request.entry) }
     ensures err { IfErr result (IsNoRun (S.told shelf.now)
         (inside_of inside.entry.list.now inside.entry.extras.now) request.entry) }
     ensures passes { IfOk result (λ run. status_of run < 1 → AreAllNoticed (S.told shelf.now)
-        (inside_of inside.entry.list.now inside.entry.extras.now) heirs.now request.entry run) }
+        (inside_of inside.entry.list.now inside.entry.extras.now) replacements.now
+        request.entry run) }
     ensures written { IfOk result IsWrittenExactly }
     ensures unchosen { IfOk result (λ run. HasNoChoice (S.told shelf.now)
-        (inside_of inside.entry.list.now inside.entry.extras.now) heirs.now request.entry run →
-        is_written run ≡ false) }
+        (inside_of inside.entry.list.now inside.entry.extras.now) replacements.now
+        request.entry run → is_written run ≡ false) }
 {
     let catalogue = named_list(alloc, shelf, inside, request.list)?;
-    let run = run_over(alloc, shelf, heirs, &catalogue, request)?;
+    let run = run_over(alloc, shelf, replacements, &catalogue, request)?;
     Ok(run)
 }
 
@@ -113,15 +114,24 @@ pub fn notice<S: Shelf>(
 fn run_over<S: Shelf>(
     alloc: Global,
     shelf: &S,
-    heirs: &[u8],
+    replacements: &[u8],
     catalogue: &Catalogue,
     request: Request<'_>,
 ) -> Result<Run, AllocError>
-    ensures { IfOk result (IsRunOver (S.told shelf.now) heirs.now catalogue.now request.entry) }
+    ensures { IfOk result (IsRunOver (S.told shelf.now) replacements.now catalogue.now
+        request.entry) }
 {
     let all = all_listed_at(alloc, shelf, request.wanted, request.paths)?;
     let AllListed { files, left_out } = all;
-    let end = end_over(alloc, shelf, heirs, catalogue, request, &files, &left_out)?;
+    let end = end_over(
+        alloc,
+        shelf,
+        replacements,
+        catalogue,
+        request,
+        &files,
+        &left_out,
+    )?;
     Ok(Run {
         files,
         left_out,
@@ -133,17 +143,17 @@ fn run_over<S: Shelf>(
 fn end_over<S: Shelf>(
     alloc: Global,
     shelf: &S,
-    heirs: &[u8],
+    replacements: &[u8],
     catalogue: &Catalogue,
     request: Request<'_>,
     files: &[Listed],
     left_out: &[FileFault],
 ) -> Result<End, AllocError>
-    ensures { IfOk result (IsEnd (S.told shelf.now) heirs.now catalogue.now request.entry
+    ensures { IfOk result (IsEnd (S.told shelf.now) replacements.now catalogue.now request.entry
         files.now left_out.now) }
 {
     match left_out {
-        [] => files_end(alloc, shelf, heirs, catalogue, request, files),
+        [] => files_end(alloc, shelf, replacements, catalogue, request, files),
         [_, ..] => Ok(End::LeftOut),
     }
 }
@@ -151,20 +161,20 @@ fn end_over<S: Shelf>(
 fn files_end<S: Shelf>(
     alloc: Global,
     shelf: &S,
-    heirs: &[u8],
+    replacements: &[u8],
     catalogue: &Catalogue,
     request: Request<'_>,
     files: &[Listed],
 ) -> Result<End, AllocError>
-    ensures { IfOk result (IsFilesEnd (S.told shelf.now) heirs.now catalogue.now request.entry
-        files.now) }
+    ensures { IfOk result (IsFilesEnd (S.told shelf.now) replacements.now catalogue.now
+        request.entry files.now) }
 {
     let entries = all_entries(alloc, files)?;
     let packages = packages_of(alloc, &entries)?;
     match choose(
         alloc,
         shelf,
-        heirs,
+        replacements,
         catalogue,
         request.accepted,
         request.one_for_all,
@@ -194,7 +204,7 @@ fn is_of_memory(trouble: &ChoiceTrouble) -> bool
             matches!(error.kind(), ErrorKind::OutOfMemory)
         }
         ChoiceTrouble::Policy(PolicyTrouble::Memory) | ChoiceTrouble::Memory => true,
-        ChoiceTrouble::Policy(PolicyTrouble::NoPolicy(..) | PolicyTrouble::NoHeirs(_))
+        ChoiceTrouble::Policy(PolicyTrouble::NoPolicy(..) | PolicyTrouble::NoReplacements(_))
         | ChoiceTrouble::NoLicensee(..)
         | ChoiceTrouble::NoChoices(_)
         | ChoiceTrouble::NoneTogether(_) => false,

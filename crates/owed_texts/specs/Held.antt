@@ -9,7 +9,7 @@ use Rattle.package_items.specs.Each.{AreHad}
 use Rattle.owed_texts.specs.declared.trouble.Obstacle.{Obstacle}
 use Rattle.owed_texts.specs.declared.trouble.Obstacle.TheVariants as obstacle
 use Rattle.owed_texts.specs.declared.trouble.TextTrouble.{TextTrouble}
-use Rattle.owed_texts.specs.Plain.{shown}
+use Rattle.owed_texts.specs.Plain.{plain_if}
 use Rattle.owed_texts.specs.Trouble.{IsOf, is_not_found}
 use Rattle.owed_texts.specs.Within.{IsReadWithin, IsUnreadWithin}
 use Rattle.notice_told.specs.declared.lacks.Lack.{Lack}
@@ -61,7 +61,7 @@ is_missing why = false
 -- the bytes are those of a text: there are some
 abbrev pub IsTextOf : Bool → List ℕ → List ℕ → Text → Type 0
 IsTextOf plain name [] t = ⊥
-IsTextOf plain name (b ∷ bytes) t = t ≡ record { name = name; bytes = shown plain (b ∷ bytes) }
+IsTextOf plain name (b ∷ bytes) t = t ≡ record { name = name; bytes = plain_if plain (b ∷ bytes) }
 
 -- the file in the folder holds the text; or nothing is there, and it may be missing
 abbrev pub IsText : Shelved → TextFolder → List ℕ → Option Text → Type 0

@@ -19,7 +19,7 @@ use Rattle.package_items.specs.Each.{AreHad}
 use Rattle.owed_texts.specs.Home.{IsHome, IsNoHome, place_in}
 use Rattle.owed_texts.specs.LicenseFiles.{AreDeclared, form_read, place_of}
 use Rattle.owed_texts.specs.Names.{AreNames, AreNoNames}
-use Rattle.owed_texts.specs.Plain.{shown}
+use Rattle.owed_texts.specs.Plain.{plain_if}
 use Rattle.owed_texts.specs.Trouble.{IsOf}
 use Rattle.owed_texts.specs.Within.{IsReadWithin, IsUnreadWithin}
 
@@ -97,7 +97,7 @@ HasNoBytes s name h path t = HasNoBytesAt s name h path (place_in (string_bytes 
 abbrev pub read_in : Bool → Seen → List ℕ → Option Read
 read_in plain f [] = None
 read_in plain f (b ∷ bytes) =
-    Some (record { path = f.path; is_declared = f.is_declared; bytes = shown plain (b ∷ bytes) })
+    Some (record { path = f.path; is_declared = f.is_declared; bytes = plain_if plain (b ∷ bytes) })
 
 abbrev pub IsFile : Shelved → Bool → Home → Seen → Option Read → Type 0
 IsFile s plain h f read =

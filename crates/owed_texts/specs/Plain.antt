@@ -25,6 +25,6 @@ spaced (b ∷ bytes) = piece_of b (slice_get bytes 0) ++ spaced bytes
 abbrev pub plain : List ℕ → List ℕ
 plain bytes = text_for Lines (utf8_lossy (spaced (utf8_lossy bytes)))
 
-abbrev pub shown : Bool → List ℕ → List ℕ
-shown false bytes = bytes
-shown true bytes = plain bytes
+abbrev pub plain_if : Bool → List ℕ → List ℕ
+plain_if false bytes = bytes
+plain_if true bytes = plain bytes

@@ -18,7 +18,7 @@ ghost use Rattle.owed_texts.specs.Held.{
   name_in,
 };
 
-use crate::plain::shown;
+use crate::plain::plain_if;
 use crate::trouble::{Obstacle, TextTrouble, is_not_found, trouble_at};
 use crate::within::bytes_within;
 use notice_told::Lack;
@@ -221,7 +221,7 @@ fn text_of(
     }
     Ok(HeldText {
         name: String::from_str(alloc, name)?,
-        bytes: shown(alloc, plain, bytes)?,
+        bytes: plain_if(alloc, plain, bytes)?,
     })
 }
 

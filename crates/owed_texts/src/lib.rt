@@ -24,6 +24,6 @@ pub use crate::all::{AllOwn, all_own_files};
 pub use crate::held::{HeldText, HeldTexts, TextFolder, texts_in};
 pub use crate::home::{Folders, OwnTexts};
 pub use crate::own::{OwnFiles, Placed, ReadFile, Reading, own_files};
-pub use crate::plain::shown;
+pub use crate::plain::plain_if;
 pub use crate::trouble::{Obstacle, TextTrouble, is_not_found, trouble_at, unreadable};
 pub use crate::within::{bytes_within, check_inside};

@@ -21,7 +21,7 @@ ghost use Rattle.owed_texts.specs.Own.{
 use crate::home::{Folders, Home, home_of};
 use crate::license_files::{declared_in, place_of};
 use crate::names::names_in;
-use crate::plain::shown;
+use crate::plain::plain_if;
 use crate::trouble::{Obstacle, TextTrouble, trouble_at};
 use crate::within::bytes_within;
 use license_notice::Requirement;
@@ -294,7 +294,7 @@ fn read<S: Shelf>(
     Ok(Some(ReadFile {
         path: String::from_str(alloc, file.path)?,
         is_declared: file.is_declared,
-        bytes: shown(alloc, plain, bytes)?,
+        bytes: plain_if(alloc, plain, bytes)?,
     }))
 }
 

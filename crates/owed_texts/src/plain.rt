@@ -3,7 +3,7 @@
 ghost use Rattle.std.specs.Prelude.{◌≡◌, ◌++◌, IfOk, OnOk, Option};
 ghost use Rattle.std.specs.Option.{option_copied};
 ghost use Rattle.owed_texts.specs.Plain as spec;
-ghost use Rattle.owed_texts.specs.Plain.{piece_of, shown, spaced};
+ghost use Rattle.owed_texts.specs.Plain.{piece_of, plain_if, spaced};
 
 use foreign_text::{Sink, text_for};
 use std::alloc::{AllocError, Global};
@@ -14,8 +14,8 @@ use std::alloc::{AllocError, Global};
 /// # Errors
 ///
 /// Memory was refused.
-pub fn shown(alloc: Global, is_plain: bool, bytes: Vec<u8>) -> Result<Vec<u8>, AllocError>
-    ensures { IfOk result (λ text. text.items ≡ shown is_plain bytes.items) }
+pub fn plain_if(alloc: Global, is_plain: bool, bytes: Vec<u8>) -> Result<Vec<u8>, AllocError>
+    ensures { IfOk result (λ text. text.items ≡ plain_if is_plain bytes.items) }
 {
     if is_plain {
         plain(alloc, &bytes)

@@ -40,8 +40,8 @@ told_below : (o : Option Told) → status_by o < 2 → (t : Told) × (o ≡ Some
 told_below None lt = absurd (omega (arith, lt))
 told_below (Some t) lt = (t, refl)
 
-pub both_read : (s : Shelved) (inside : InsideBytes) (heirs : List ℕ) (a : Request) (run : Run) → IsRun s inside heirs a run → status_of run < 2 → AreBothRead s a
-both_read s inside heirs a run is lt =
+pub both_read : (s : Shelved) (inside : InsideBytes) (replacements : List ℕ) (a : Request) (run : Run) → IsRun s inside replacements a run → status_of run < 2 → AreBothRead s a
+both_read s inside replacements a run is lt =
     let told = told_below run.told lt in
     let both = the_files is.catalogue is.policy a.format run.files.items told.0 (subst (λ (o : Option Told). IsToldOfBoth is.catalogue is.policy a.format run.files.items o) told.1 is.runs.tells) in
     let each = both_listed s a.wanted a.old.now a.new.now both.0 both.1 run.left_out.items

@@ -24,28 +24,28 @@ use Rattle.spdx_troubles.specs.declared.trouble.Trouble.{Trouble}
 pub said_as : (s : Said) (Is : List ℕ → List Trouble → Type 0) → Is (text_of s) (told_of s) → (text : List ℕ) (told : List Trouble) → IsSaid s text told → Is text told
 said_as s Is h text told is = subst (λ (x : List ℕ). Is x told) (sym is.0) (subst (Is (text_of s)) (sym is.1) h)
 
-module _ (s : Shelved) (inside : InsideBytes) (heirs : List ℕ) (a : Asked) (run : gate_run.Run) (said : Said) (status : ℕ) where
-  pub says_gate : gate.IsRun s inside heirs a.run run → IsGateTold a run (text_of said) (told_of said) → status ≡ gate.status_of run → SaysGate s inside heirs a (text_of said) (told_of said)
+module _ (s : Shelved) (inside : InsideBytes) (replacements : List ℕ) (a : Asked) (run : gate_run.Run) (said : Said) (status : ℕ) where
+  pub says_gate : gate.IsRun s inside replacements a.run run → IsGateTold a run (text_of said) (told_of said) → status ≡ gate.status_of run → SaysGate s inside replacements a (text_of said) (told_of said)
   says_gate is told ends = (status, record { run = run; is_run = is; told_are = told; status_is = ends })
 
-  pub gate_as : gate.IsRun s inside heirs a.run run → IsGateTold a run (text_of said) (told_of said) → status ≡ gate.status_of run → (text : List ℕ) (told : List Trouble) → IsSaid said text told
-      → IsGate s inside heirs a text told status
-  gate_as is told ends = said_as said (λ text told. IsGate s inside heirs a text told status) (record { run = run; is_run = is; told_are = told; status_is = ends })
+  pub gate_as : gate.IsRun s inside replacements a.run run → IsGateTold a run (text_of said) (told_of said) → status ≡ gate.status_of run → (text : List ℕ) (told : List Trouble) → IsSaid said text told
+      → IsGate s inside replacements a text told status
+  gate_as is told ends = said_as said (λ text told. IsGate s inside replacements a text told status) (record { run = run; is_run = is; told_are = told; status_is = ends })
 
-module _ (s : Shelved) (inside : InsideBytes) (heirs : List ℕ) (a : AskedDiff) (run : changes_run.Run) (said : Said) (c : Changed) where
-  pub says_diff : changes.IsRun s inside heirs a.run run → IsDiffTold a.tells_totals run (text_of said) (told_of said) c.totals → c.status ≡ changes.status_of run
-      → SaysDiff s inside heirs a (text_of said) (told_of said)
+module _ (s : Shelved) (inside : InsideBytes) (replacements : List ℕ) (a : AskedDiff) (run : changes_run.Run) (said : Said) (c : Changed) where
+  pub says_diff : changes.IsRun s inside replacements a.run run → IsDiffTold a.tells_totals run (text_of said) (told_of said) c.totals → c.status ≡ changes.status_of run
+      → SaysDiff s inside replacements a (text_of said) (told_of said)
   says_diff is told ends = (c, record { run = run; is_run = is; told_are = told; status_is = ends })
 
-  pub diff_as : changes.IsRun s inside heirs a.run run → IsDiffTold a.tells_totals run (text_of said) (told_of said) c.totals → c.status ≡ changes.status_of run
-      → (text : List ℕ) (told : List Trouble) → IsSaid said text told → IsDiff s inside heirs a text told c
-  diff_as is told ends = said_as said (λ text told. IsDiff s inside heirs a text told c) (record { run = run; is_run = is; told_are = told; status_is = ends })
+  pub diff_as : changes.IsRun s inside replacements a.run run → IsDiffTold a.tells_totals run (text_of said) (told_of said) c.totals → c.status ≡ changes.status_of run
+      → (text : List ℕ) (told : List Trouble) → IsSaid said text told → IsDiff s inside replacements a text told c
+  diff_as is told ends = said_as said (λ text told. IsDiff s inside replacements a text told c) (record { run = run; is_run = is; told_are = told; status_is = ends })
 
-module _ (s : Shelved) (inside : InsideBytes) (heirs : List ℕ) (a : Request) (run : notice_run.Run) (said : Said) (n : Noticed) where
-  pub says_notice : notice.IsRun s inside heirs a run → IsNoticeTold a run (text_of said) (told_of said) n.totals → n.status ≡ notice.status_of run
-      → SaysNotice s inside heirs a (text_of said) (told_of said)
+module _ (s : Shelved) (inside : InsideBytes) (replacements : List ℕ) (a : Request) (run : notice_run.Run) (said : Said) (n : Noticed) where
+  pub says_notice : notice.IsRun s inside replacements a run → IsNoticeTold a run (text_of said) (told_of said) n.totals → n.status ≡ notice.status_of run
+      → SaysNotice s inside replacements a (text_of said) (told_of said)
   says_notice is told ends = (n, record { run = run; is_run = is; told_are = told; status_is = ends })
 
-  pub notice_as : notice.IsRun s inside heirs a run → IsNoticeTold a run (text_of said) (told_of said) n.totals → n.status ≡ notice.status_of run
-      → (text : List ℕ) (told : List Trouble) → IsSaid said text told → IsNotice s inside heirs a text told n
-  notice_as is told ends = said_as said (λ text told. IsNotice s inside heirs a text told n) (record { run = run; is_run = is; told_are = told; status_is = ends })
+  pub notice_as : notice.IsRun s inside replacements a run → IsNoticeTold a run (text_of said) (told_of said) n.totals → n.status ≡ notice.status_of run
+      → (text : List ℕ) (told : List Trouble) → IsSaid said text told → IsNotice s inside replacements a text told n
+  notice_as is told ends = said_as said (λ text told. IsNotice s inside replacements a text told n) (record { run = run; is_run = is; told_are = told; status_is = ends })

@@ -93,9 +93,9 @@ notice_told a r mid last s totals first reads ends =
 
 -- ---- with status 0
 
-none_left_out : (s : Shelved) (heirs : List ℕ) (c : Rows) (a : Request) (files : List Listed) (left : List FileFault) {e : End} → IsEnd s heirs c a files left e → end_status e < 1 → left ≡ []
-none_left_out s heirs c a files left (run.left some) lt = absurd (omega (arith, lt))
-none_left_out s heirs c a files left (run.read none ends) lt = none
+none_left_out : (s : Shelved) (replacements : List ℕ) (c : Rows) (a : Request) (files : List Listed) (left : List FileFault) {e : End} → IsEnd s replacements c a files left e → end_status e < 1 → left ≡ []
+none_left_out s replacements c a files left (run.left some) lt = absurd (omega (arith, lt))
+none_left_out s replacements c a files left (run.read none ends) lt = none
 
 told_alone : (faults : List FileFault) (read ended notes : List Trouble) → faults ≡ [] → ended ≡ notes → map file_trouble faults ++ (read ++ ended) ≡ read ++ notes
 told_alone faults read ended notes none same = ap (λ (fs : List FileFault). map file_trouble fs ++ (read ++ ended)) none ∙ ap (λ (es : List Trouble). read ++ es) same
@@ -110,11 +110,11 @@ zero_written b n is lt = grind (arith, is, lt)
 some_unwritten : (b : Bool) (n : ℕ) → b ≡ (n == 0) → 0 < n → b ≡ false
 some_unwritten b n is lt = grind (arith, is, lt)
 
-pub page_written : (s : Shelved) (inside : InsideBytes) (heirs : List ℕ) (a : Request) (r : Run) (text : List ℕ) (read ended : List Trouble) (totals : Option (String Global)) → IsRun s inside heirs a r
-    → AreBothTold a.wanted.source r.files.items read → IsNoticeEnd r.end totals text ended → status_of r < 1 → AreAllNoticed s inside heirs a r → IsWrittenExactly r
-    → IsPage s inside heirs a text (map file_trouble r.left_out.items ++ (read ++ ended))
-page_written s inside heirs a r text read ended totals is reads ends lt all written =
-    let none = none_left_out s heirs is.catalogue a r.files.items r.left_out.items is.runs.ends lt in
+pub page_written : (s : Shelved) (inside : InsideBytes) (replacements : List ℕ) (a : Request) (r : Run) (text : List ℕ) (read ended : List Trouble) (totals : Option (String Global)) → IsRun s inside replacements a r
+    → AreBothTold a.wanted.source r.files.items read → IsNoticeEnd r.end totals text ended → status_of r < 1 → AreAllNoticed s inside replacements a r → IsWrittenExactly r
+    → IsPage s inside replacements a text (map file_trouble r.left_out.items ++ (read ++ ended))
+page_written s inside replacements a r text read ended totals is reads ends lt all written =
+    let none = none_left_out s replacements is.catalogue a r.files.items r.left_out.items is.runs.ends lt in
     let notes = subst (λ (e : End). IsEndTold e ended) all.ends ends.told_are in
     let there = page_there (page_of r.end) (zero_written (is_some (page_of r.end)) (status_of r) written lt) in
     record {

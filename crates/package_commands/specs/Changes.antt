@@ -74,16 +74,17 @@ pub record IsDiffTold (wanted : Bool) (run : Run) (text : List ℕ) (told : List
   pub totals_are : line_of totals ≡ totals_if wanted run.told
 
 -- what comes of a run is written and told
-pub record IsDiff (s : Shelved) (inside : InsideBytes) (heirs : List ℕ) (a : AskedDiff)
+pub record IsDiff (s : Shelved) (inside : InsideBytes) (replacements : List ℕ) (a : AskedDiff)
     (text : List ℕ) (told : List Trouble) (c : Changed) : Type 0 where
   pub run : Run
-  pub is_run : IsRun s inside heirs a.run run
+  pub is_run : IsRun s inside replacements a.run run
   pub told_are : IsDiffTold a.tells_totals run text told c.totals
   pub status_is : c.status ≡ status_of run
 
 -- so it is with such an end
 abbrev pub SaysDiff : Shelved → InsideBytes → List ℕ → AskedDiff → List ℕ → List Trouble → Type 0
-SaysDiff s inside heirs a text told = (c : Changed) × IsDiff s inside heirs a text told c
+SaysDiff s inside replacements a text told =
+    (c : Changed) × IsDiff s inside replacements a text told c
 
 -- both files list packages
 pub record AreBothRead (s : Shelved) (a : Request) : Type 0 where

@@ -62,16 +62,17 @@ pub record IsGateTold (a : Asked) (run : Run) (text : List ℕ) (told : List Tro
   pub told_are : told ≡ map file_trouble run.left_out.items ++ (read ++ ended)
 
 -- what comes of a run is written and told
-pub record IsGate (s : Shelved) (inside : InsideBytes) (heirs : List ℕ) (a : Asked)
+pub record IsGate (s : Shelved) (inside : InsideBytes) (replacements : List ℕ) (a : Asked)
     (text : List ℕ) (told : List Trouble) (status : ℕ) : Type 0 where
   pub run : Run
-  pub is_run : IsRun s inside heirs a.run run
+  pub is_run : IsRun s inside replacements a.run run
   pub told_are : IsGateTold a run text told
   pub status_is : status ≡ status_of run
 
 -- so it is with such a status
 abbrev pub SaysGate : Shelved → InsideBytes → List ℕ → Asked → List ℕ → List Trouble → Type 0
-SaysGate s inside heirs a text told = (status : ℕ) × IsGate s inside heirs a text told status
+SaysGate s inside replacements a text told =
+    (status : ℕ) × IsGate s inside replacements a text told status
 
 -- ---- the parts of it, which only private clauses cite
 

@@ -64,24 +64,25 @@ pub record IsNoticeTold (a : Request) (run : Run) (text : List ℕ) (told : List
   pub told_are : told ≡ map file_trouble run.left_out.items ++ (read ++ ended)
 
 -- what comes of a run is written and told
-pub record IsNotice (s : Shelved) (inside : InsideBytes) (heirs : List ℕ) (a : Request)
+pub record IsNotice (s : Shelved) (inside : InsideBytes) (replacements : List ℕ) (a : Request)
     (text : List ℕ) (told : List Trouble) (n : Noticed) : Type 0 where
   pub run : Run
-  pub is_run : IsRun s inside heirs a run
+  pub is_run : IsRun s inside replacements a run
   pub told_are : IsNoticeTold a run text told n.totals
   pub status_is : n.status ≡ status_of run
 
 -- so it is with such an end
 abbrev pub SaysNotice : Shelved → InsideBytes → List ℕ → Request → List ℕ → List Trouble → Type 0
-SaysNotice s inside heirs a text told = (n : Noticed) × IsNotice s inside heirs a text told n
+SaysNotice s inside replacements a text told =
+    (n : Noticed) × IsNotice s inside replacements a text told n
 
 -- the page that is written has all that is wanted, and nothing is told besides but how files were
 -- read and what is missing on it
-pub record IsPage (s : Shelved) (inside : InsideBytes) (heirs : List ℕ) (a : Request)
+pub record IsPage (s : Shelved) (inside : InsideBytes) (replacements : List ℕ) (a : Request)
     (text : List ℕ) (told : List Trouble) : Type 0 where
   pub run : Run
   pub read : List Trouble
-  pub noticed : AreAllNoticed s inside heirs a run
+  pub noticed : AreAllNoticed s inside replacements a run
   pub page_is : page_of run.end ≡ Some text
   pub read_are : AreBothTold a.wanted.source run.files.items read
   pub told_are : told ≡ read ++ map missing_trouble noticed.notice.missing.items

@@ -50,28 +50,28 @@ pub fn diff<S: Shelf, O: Sink, T: Listener>(
     alloc: Global,
     shelf: &S,
     inside: Inside<'_>,
-    heirs: &[u8],
+    replacements: &[u8],
     asked: AskedDiff<'_>,
     output: &mut O,
     listener: &mut T,
 ) -> Result<Changed, Trouble>
     ensures ok { IfOk result (λ changed. Does (O.told output.old) (O.told output.new)
         (T.heard listener.old) (T.heard listener.new) (λ text told. IsDiff (S.told shelf.now)
-        (inside_of inside.entry.list.now inside.entry.extras.now) heirs.now asked.entry text told
-        changed)) }
+        (inside_of inside.entry.list.now inside.entry.extras.now) replacements.now
+        asked.entry text told changed)) }
     ensures err { IfErr result (IsStopped gate_trouble (IsNoRun (S.told shelf.now)
-        (inside_of inside.entry.list.now inside.entry.extras.now) heirs.now asked.entry.run)
+        (inside_of inside.entry.list.now inside.entry.extras.now) replacements.now asked.entry.run)
         (SaysDiff (S.told shelf.now) (inside_of inside.entry.list.now inside.entry.extras.now)
-        heirs.now asked.entry) (O.told output.old) (O.told output.new) (T.heard listener.old)
+        replacements.now asked.entry) (O.told output.old) (O.told output.new) (T.heard listener.old)
         (T.heard listener.new)) }
     ensures read { IfOk result (λ changed. changed.status < 2 →
         AreBothRead (S.told shelf.now) asked.entry.run) }
     ensures passes { IfOk result (λ changed. changed.status < 1 → (path : List ℕ) →
         option_copied asked.entry.run.policy ≡ Some path → NewOnesPass (S.told shelf.now)
-        (inside_of inside.entry.list.now inside.entry.extras.now) heirs.now asked.entry.run
+        (inside_of inside.entry.list.now inside.entry.extras.now) replacements.now asked.entry.run
         path) }
 {
-    let outcome = changes(alloc, shelf, inside, heirs, asked.run)?;
+    let outcome = changes(alloc, shelf, inside, replacements, asked.run)?;
     let status = outcome.status();
     let both = changes_said(alloc, asked.tells_totals, outcome)?;
     let (said, totals) = both;

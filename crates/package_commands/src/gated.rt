@@ -43,26 +43,26 @@ pub fn gate<S: Shelf, O: Sink, T: Listener>(
     alloc: Global,
     shelf: &S,
     inside: Inside<'_>,
-    heirs: &[u8],
+    replacements: &[u8],
     asked: Asked<'_>,
     output: &mut O,
     listener: &mut T,
 ) -> Result<u8, Trouble>
     ensures ok { IfOk result (λ status. Does (O.told output.old) (O.told output.new)
         (T.heard listener.old) (T.heard listener.new) (λ text told. IsGate (S.told shelf.now)
-        (inside_of inside.entry.list.now inside.entry.extras.now) heirs.now asked.entry text told
-        status)) }
+        (inside_of inside.entry.list.now inside.entry.extras.now) replacements.now
+        asked.entry text told status)) }
     ensures err { IfErr result (IsStopped gate_trouble (IsNoRun (S.told shelf.now)
-        (inside_of inside.entry.list.now inside.entry.extras.now) heirs.now asked.entry.run)
+        (inside_of inside.entry.list.now inside.entry.extras.now) replacements.now asked.entry.run)
         (SaysGate (S.told shelf.now) (inside_of inside.entry.list.now inside.entry.extras.now)
-        heirs.now asked.entry) (O.told output.old) (O.told output.new) (T.heard listener.old)
+        replacements.now asked.entry) (O.told output.old) (O.told output.new) (T.heard listener.old)
         (T.heard listener.new)) }
     ensures passes { IfOk result (λ status. status < 1 →
         option_copied asked.entry.run.baseline ≡ None →
         AreAllAllowed (S.told shelf.now) (inside_of inside.entry.list.now inside.entry.extras.now)
-        heirs.now asked.entry.run) }
+        replacements.now asked.entry.run) }
 {
-    let outcome = gate_program::gate(alloc, shelf, inside, heirs, asked.run)?;
+    let outcome = gate_program::gate(alloc, shelf, inside, replacements, asked.run)?;
     let status = outcome.status();
     let said = gate_said(alloc, asked, outcome)?;
     say(alloc, said, output, listener)?;

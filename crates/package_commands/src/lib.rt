@@ -2,7 +2,7 @@
 //!
 //! ```rust
 //! // crates/spdx_program/src/commands/gate.rt
-//! alone(package_commands::gate(alloc, shelf, list, heirs, asked, output, teller))
+//! alone(package_commands::gate(alloc, shelf, list, replacements, asked, output, teller))
 //! ```
 //!
 //! Here are `gate`, `diff` and `notice`. It stands on `gate_program`, `changes_program`, `notice_program`,

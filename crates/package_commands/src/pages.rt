@@ -46,28 +46,28 @@ pub fn notice<S: Shelf, O: Sink, T: Listener>(
     alloc: Global,
     shelf: &S,
     inside: Inside<'_>,
-    heirs: &[u8],
+    replacements: &[u8],
     request: Request<'_>,
     output: &mut O,
     listener: &mut T,
 ) -> Result<Noticed, Trouble>
     ensures ok { IfOk result (λ noticed. Does (O.told output.old) (O.told output.new)
         (T.heard listener.old) (T.heard listener.new) (λ text told. IsNotice (S.told shelf.now)
-        (inside_of inside.entry.list.now inside.entry.extras.now) heirs.now request.entry text
-        told noticed)) }
+        (inside_of inside.entry.list.now inside.entry.extras.now) replacements.now
+        request.entry text told noticed)) }
     ensures err { IfErr result (IsStopped notice_trouble (IsNoRun (S.told shelf.now)
         (inside_of inside.entry.list.now inside.entry.extras.now) request.entry)
         (SaysNotice (S.told shelf.now) (inside_of inside.entry.list.now inside.entry.extras.now)
-        heirs.now request.entry) (O.told output.old) (O.told output.new) (T.heard listener.old)
-        (T.heard listener.new)) }
+        replacements.now request.entry) (O.told output.old) (O.told output.new)
+        (T.heard listener.old) (T.heard listener.new)) }
     ensures passes { IfOk result (λ noticed. noticed.status < 1 → Does (O.told output.old)
         (O.told output.new) (T.heard listener.old) (T.heard listener.new)
         (IsPage (S.told shelf.now) (inside_of inside.entry.list.now inside.entry.extras.now)
-        heirs.now request.entry)) }
+        replacements.now request.entry)) }
     ensures held { IfOk result (λ noticed. 0 < noticed.status → Writes (O.told output.old)
         (O.told output.new) (λ text. text ≡ [])) }
 {
-    let outcome = notice_program::notice(alloc, shelf, inside, heirs, request)?;
+    let outcome = notice_program::notice(alloc, shelf, inside, replacements, request)?;
     let status = outcome.status();
     let both = notice_said(alloc, request, outcome)?;
     let (said, totals) = both;

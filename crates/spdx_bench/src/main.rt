@@ -58,8 +58,14 @@ fn nanoseconds(time: Duration) -> u64 {
         .saturating_add(u64::from(time.subsec_nanos()))
 }
 
-// Tells what so many calls gave, and how long they took.
-fn tell(rt: &HostRuntime, name: &str, start: Duration, total: u64, calls: u64) -> io::Result<()> {
+// Prints what so many calls gave, and how long they took.
+fn print_measure(
+    rt: &HostRuntime,
+    name: &str,
+    start: Duration,
+    total: u64,
+    calls: u64,
+) -> io::Result<()> {
     let spent = nanoseconds(rt.process_cpu_time()?).saturating_sub(nanoseconds(start));
     println!(rt; "{name}: {total} of {calls}")?;
     eprintln!(rt; "{name}: {spent}")?;
@@ -82,7 +88,7 @@ fn measure_readings(
     for (name, call) in calls {
         let start = rt.process_cpu_time()?;
         let total = total_of_readings(rt.alloc(), catalogue, call, lines, times);
-        tell(
+        print_measure(
             rt,
             name,
             start,
@@ -108,7 +114,7 @@ fn measure_answers<'c>(
     for (name, call) in calls {
         let start = rt.process_cpu_time()?;
         let total = total_of_answers(rt.alloc(), expressions, call, times);
-        tell(
+        print_measure(
             rt,
             name,
             start,

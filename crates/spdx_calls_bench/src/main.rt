@@ -23,8 +23,14 @@ fn nanoseconds(time: Duration) -> u64 {
         .saturating_add(u64::from(time.subsec_nanos()))
 }
 
-// Tells what so many calls gave, and how long one took.
-fn tell(rt: &HostRuntime, name: &str, start: Duration, ok: u64, calls: u64) -> io::Result<()> {
+// Prints what so many calls gave, and how long one took.
+fn print_measure(
+    rt: &HostRuntime,
+    name: &str,
+    start: Duration,
+    ok: u64,
+    calls: u64,
+) -> io::Result<()> {
     let spent = nanoseconds(rt.process_cpu_time()?).saturating_sub(nanoseconds(start));
     println!(rt; "{name}: {ok} of {calls}")?;
     eprintln!(rt; "Rattle, {name}: {}", spent / calls.max(1))?;
@@ -50,7 +56,7 @@ fn measure(
     for (name, call) in calls {
         let start = rt.process_cpu_time()?;
         let ok = total(rt.alloc(), call, lines, times);
-        tell(
+        print_measure(
             rt,
             name,
             start,
@@ -69,7 +75,7 @@ fn measure_lines(rt: &HostRuntime, list: &[u8], text: &[u8]) -> io::Result<()> {
     }
     let start = rt.process_cpu_time()?;
     let (accepted, all) = answered_lines(rt.alloc(), list, &many);
-    tell(rt, "lines", start, accepted, all)
+    print_measure(rt, "lines", start, accepted, all)
 }
 
 // The arguments: a list, a file of lines, and how many times to read them.

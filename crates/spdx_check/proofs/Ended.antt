@@ -8,7 +8,7 @@ use Rattle.line_engine.specs.Runs.{Runs}
 use Rattle.spdx_check.specs.declared.check.Check.{Check}
 use Rattle.spdx_check.specs.declared.lines.Checked.{Checked}
 use Rattle.spdx_check.specs.declared.lines.LinesFault.{LinesFault}
-use Rattle.spdx_check.specs.Checking.{ChecksLines, CountsBroken, heirs_in, is_white, summary_in}
+use Rattle.spdx_check.specs.Checking.{ChecksLines, CountsBroken, is_white, replacements_in, summary_in}
 use Rattle.spdx_check.specs.Found.{finding_of, rule_of}
 use Rattle.spdx_check.proofs.Blanks.{leaves_out_white}
 use Rattle.spdx_check.proofs.Findings.{the_finding}
@@ -18,10 +18,10 @@ pub checks : (check : Check) (is_first : Bool) (file : List ℕ) (d : Devices) (
     → IfOk result (λ (c : Checked). HasRunBehind (rule_of check is_first file) (λ lines. c.blanks ≡ capped (count_by is_white lines)) d c.summary)
     → IfErr result (CountsBroken (rule_of check is_first file) d) → ChecksLines check is_first file d result
 checks check is_first file d result runs counts broken =
-    let finding = finding_of check.catalogue.now (heirs_in check) check.mode in
+    let finding = finding_of check.catalogue.now (replacements_in check) check.mode in
     record {
       finding = finding;
-      findings = the_finding check.catalogue.now (heirs_in check) check.mode;
+      findings = the_finding check.catalogue.now (replacements_in check) check.mode;
       runs = runs;
       blank = leaves_out_white finding check.format is_first file;
       counts = counts;

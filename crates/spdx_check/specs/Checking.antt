@@ -11,8 +11,8 @@ use Rattle.line_engine.specs.Output.{capped, summary_of}
 use Rattle.line_engine.specs.Progress.{HasRunBehind, HasWrittenBehind}
 use Rattle.line_engine.specs.Rule.{Rule}
 use Rattle.line_engine.specs.Runs.{Runs}
-use Rattle.spdx_list.specs.Files.{InsteadRow}
-use Rattle.spdx_list.specs.Shown.{instead_of}
+use Rattle.spdx_list.specs.Files.{ReplacementRow}
+use Rattle.spdx_list.specs.Shown.{shown_replacement}
 use Rattle.finding_forms.specs.declared.findings.Place.{Place}
 use Rattle.finding_forms.specs.declared.findings.Sight.{Sight}
 use Rattle.finding_forms.specs.declared.forms.Format.{Format}
@@ -25,8 +25,8 @@ use Rattle.spdx_check.specs.declared.lines.LinesFault.TheVariants as fault
 use Rattle.spdx_check.specs.Finding.{Wrong, IsTheFinding}
 
 -- what is said to be written in place of names
-abbrev pub heirs_in : Check → List InsteadRow
-heirs_in check = map instead_of check.heirs.now
+abbrev pub replacements_in : Check → List ReplacementRow
+replacements_in check = map shown_replacement check.replacements.now
 
 -- ---- one expression
 
@@ -168,7 +168,7 @@ pub record ChecksLines (check : Check) (is_first : Bool) (file : List ℕ) (d : 
     (result : Result Checked LinesFault) : Type 0 where
   pub finding : List ℕ → Option Wrong
   pub findings : (bytes : List ℕ) →
-      IsTheFinding check.catalogue.now (heirs_in check) check.mode bytes (finding bytes)
+      IsTheFinding check.catalogue.now (replacements_in check) check.mode bytes (finding bytes)
   pub runs : Runs (rule_by finding check.format is_first file) d (summary_in result)
   pub blank : LeavesOutWhite finding (rule_by finding check.format is_first file)
   pub counts : IfOk result

@@ -11,7 +11,7 @@ use Rattle.spdx_hints.specs.declared.rule.Rule.{Rule}
 use Rattle.spdx_hints.specs.Rules.{rule_word}
 use Rattle.spdx_hints.specs.Hints.{hints_of, rule_of}
 use Rattle.spdx_hints.specs.Phrase.{phrase_of}
-use Rattle.spdx_list.specs.Files.{InsteadRow}
+use Rattle.spdx_list.specs.Files.{ReplacementRow}
 use Rattle.finding_forms.specs.Finding.{Aid, nothing, write, names, note}
 
 -- what is wrong: the text that is shown, where the fault stands in it, why it is one, and what
@@ -36,14 +36,16 @@ abbrev pub name_at : List ℕ → Span → List ℕ
 name_at text s = let end = min s.to (length text) in slice_range text (min s.from end) end
 
 -- what the first row of that name says to write in its place
-abbrev pub heir_in : List InsteadRow → List ℕ → Option (List ℕ)
-heir_in heirs name =
-    option_map (λ (r : InsteadRow). r.write) (find (λ (r : InsteadRow). bytes_eq r.name name) heirs)
+abbrev pub replacement_in : List ReplacementRow → List ℕ → Option (List ℕ)
+replacement_in replacements name =
+    option_map (λ (r : ReplacementRow). r.write)
+    (find (λ (r : ReplacementRow). bytes_eq r.name name) replacements)
 
--- a deprecated name may have an heir; no other fault has
-abbrev pub heir_of : List InsteadRow → List ℕ → Fault → Span → Option (List ℕ)
-heir_of heirs text DeprecatedLicenseId s = heir_in heirs (name_at text s)
-heir_of heirs text fault s = None
+-- a deprecated name may have a replacement; no other fault has
+abbrev pub replacement_of : List ReplacementRow → List ℕ → Fault → Span → Option (List ℕ)
+replacement_of replacements text DeprecatedLicenseId s =
+    replacement_in replacements (name_at text s)
+replacement_of replacements text fault s = None
 
 -- the list hasn't the name at the fault
 abbrev pub is_unlisted : Fault → Bool
@@ -74,24 +76,25 @@ abbrev pub hint_by : Rows → List ℕ → Fault → Span → Aid
 hint_by c text fault s =
     if wants_name fault then hints_for c fault (phrase_of text s.from) else without_names c fault
 
--- the heir, where there is one, which isn't a hint but replaces the name; else hints
+-- the replacement, where there is one, which isn't a hint but replaces the name; else hints
 abbrev pub name_by : Rows → List ℕ → Fault → Span → Option (List ℕ) → Aid
-name_by c text fault s (Some heir) = names (heir ∷ []) (codes "replaced-by")
+name_by c text fault s (Some replacement) = names (replacement ∷ []) (codes "replaced-by")
 name_by c text fault s None = hint_by c text fault s
 
 -- the fix, where there is one; else names
-abbrev pub aid_by : Rows → List InsteadRow → List ℕ → Fault → Span → Option (List ℕ) → Aid
-aid_by c heirs text fault s (Some fix) = write fix
-aid_by c heirs text fault s None = name_by c text fault s (heir_of heirs text fault s)
+abbrev pub aid_by : Rows → List ReplacementRow → List ℕ → Fault → Span → Option (List ℕ) → Aid
+aid_by c replacements text fault s (Some fix) = write fix
+aid_by c replacements text fault s None =
+    name_by c text fault s (replacement_of replacements text fault s)
 
 -- a text with a fault, which may have a fix
-abbrev pub wrong_in : Rows → List InsteadRow → List ℕ → Fault → Span → Option (List ℕ) → Wrong
-wrong_in c heirs text fault s fix =
+abbrev pub wrong_in : Rows → List ReplacementRow → List ℕ → Fault → Span → Option (List ℕ) → Wrong
+wrong_in c replacements text fault s fix =
     record {
       shown = text;
       place = s;
       reason = fault_text fault;
-      aid = aid_by c heirs text fault s fix;
+      aid = aid_by c replacements text fault s fix;
     }
 
 -- of bytes that are no text U+FFFD is shown for each invalid sequence, and the first one, of three
@@ -108,16 +111,16 @@ no_text bytes =
 
 -- nothing is wrong with a text that a reader in the mode accepts; else its fault is, or that the
 -- bytes are no text
-pub data IsFinding (c : Rows) (heirs : List InsteadRow) (m : ParseMode) (bytes : List ℕ) : Option
-    Wrong → Type 0 where
-  is_accepted : IsUtf8 bytes → Reads c m bytes → IsFinding c heirs m bytes None
+pub data IsFinding (c : Rows) (replacements : List ReplacementRow) (m : ParseMode)
+    (bytes : List ℕ) : Option Wrong → Type 0 where
+  is_accepted : IsUtf8 bytes → Reads c m bytes → IsFinding c replacements m bytes None
   is_refused : (fault : Fault) (s : Span) (fix : Option (List ℕ)) → IsUtf8 bytes →
       IsFaultOf c m bytes fault s → IsFixOf c bytes fix →
-      IsFinding c heirs m bytes (Some (wrong_in c heirs bytes fault s fix))
-  is_no_text : ¬ (IsUtf8 bytes) → IsFinding c heirs m bytes (Some (no_text bytes))
+      IsFinding c replacements m bytes (Some (wrong_in c replacements bytes fault s fix))
+  is_no_text : ¬ (IsUtf8 bytes) → IsFinding c replacements m bytes (Some (no_text bytes))
 
 -- this is the finding, and there is no other
-pub record IsTheFinding (c : Rows) (heirs : List InsteadRow) (m : ParseMode) (bytes : List ℕ)
-    (found : Option Wrong) : Type 0 where
-  pub given : IsFinding c heirs m bytes found
-  pub only : (other : Option Wrong) → IsFinding c heirs m bytes other → other ≡ found
+pub record IsTheFinding (c : Rows) (replacements : List ReplacementRow) (m : ParseMode)
+    (bytes : List ℕ) (found : Option Wrong) : Type 0 where
+  pub given : IsFinding c replacements m bytes found
+  pub only : (other : Option Wrong) → IsFinding c replacements m bytes other → other ≡ found

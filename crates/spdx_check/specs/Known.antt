@@ -7,7 +7,7 @@ use Rattle.spdx_check.specs.declared.check.Check.{Check}
 use Rattle.spdx_check.specs.declared.known.Known.{Known}
 use Rattle.spdx_check.specs.declared.known.Known.TheVariants.{Accepted, Framed, Refused}
 use Rattle.spdx_check.specs.declared.remembered.Slot.{Slot}
-use Rattle.spdx_check.specs.Checking.{Spot, found_text, heirs_in, told_at}
+use Rattle.spdx_check.specs.Checking.{Spot, found_text, replacements_in, told_at}
 use Rattle.spdx_check.specs.Finding.{Wrong}
 use Rattle.spdx_check.specs.Found.{finding_of}
 use Rattle.spdx_check.specs.Refusals.{wrong_of}
@@ -38,7 +38,8 @@ pub record Tells (format : Format) (file : List ℕ) (found : Option Wrong) (kno
 -- what is known tells what is found of the expression
 abbrev pub IsKnownOf : Check → List ℕ → List ℕ → Known → Type 0
 IsKnownOf check file expression known =
-    Tells check.format file (finding_of check.catalogue.now (heirs_in check) check.mode expression)
+    Tells check.format file
+    (finding_of check.catalogue.now (replacements_in check) check.mode expression)
     known
 
 -- a slot that is used holds what is known of its expression

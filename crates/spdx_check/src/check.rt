@@ -10,7 +10,7 @@ use crate::refusals::Refusal;
 use finding_forms::{Finding, Format, Place, put_finding};
 use spdx_catalogue::Catalogue;
 use spdx_lexer::token::ParseMode;
-use spdx_list::Instead;
+use spdx_list::Replacement;
 use std::alloc::{AllocError, Global};
 
 /// How expressions are checked.
@@ -18,7 +18,7 @@ use std::alloc::{AllocError, Global};
 pub struct Check<'c> {
     pub catalogue: &'c Catalogue,
     /// What to write in place of deprecated names, where there is no fix. Of rows of one name the first counts.
-    pub heirs: &'c [Instead],
+    pub replacements: &'c [Replacement],
     /// How they are read.
     pub mode: ParseMode,
     /// How findings are written.

@@ -3,7 +3,7 @@
 ghost use Rattle.std.specs.Prelude.{◌≡◌, ◌++◌, IfErr, IfOk, OnOk, is_some, length};
 ghost use Rattle.line_engine.specs.Device.{devices};
 ghost use Rattle.line_engine.specs.Output.{capped};
-ghost use Rattle.spdx_check.specs.Checking.{ChecksLines, FailsIfBroken, blank_count, expression_of, found_text, have_finding, heirs_in, is_blank, refused_count};
+ghost use Rattle.spdx_check.specs.Checking.{ChecksLines, FailsIfBroken, blank_count, expression_of, found_text, have_finding, is_blank, refused_count, replacements_in};
 ghost use Rattle.spdx_check.specs.Found.{finding_of, rule_of};
 ghost use Rattle.spdx_check.specs.Known.{AreHeld, spot_in};
 
@@ -84,10 +84,11 @@ fn put_line<'c>(
     ensures text { AreHeld check.now file.now remembered.old.slots.items →
         OnOk result (text.new.items ≡ text.old.items ++
         found_text check.now.format is_first (spot_in file.now line)
-        (finding_of check.now.catalogue.now (heirs_in check.now) check.now.mode expression.now)) }
+        (finding_of check.now.catalogue.now (replacements_in check.now) check.now.mode
+        expression.now)) }
     ensures refuses { AreHeld check.now file.now remembered.old.slots.items →
         IfOk result (λ is_refused. is_refused ≡
-        is_some (finding_of check.now.catalogue.now (heirs_in check.now) check.now.mode
+        is_some (finding_of check.now.catalogue.now (replacements_in check.now) check.now.mode
         expression.now)) }
     ensures known { AreHeld check.now file.now remembered.old.slots.items →
         AreHeld check.now file.now remembered.new.slots.items }
@@ -113,9 +114,9 @@ impl Verdicts for File<'_, '_> {
     ghost HasAnswered = { λ file lines. (file.lines ≡ capped (length lines))
         × (file.blanks ≡ capped (blank_count lines))
         × (file.refused ≡ capped (refused_count (finding_of file.check.now.catalogue.now
-        (heirs_in file.check.now) file.check.now.mode) lines))
+        (replacements_in file.check.now) file.check.now.mode) lines))
         × (file.has_finding ≡
-        have_finding (finding_of file.check.now.catalogue.now (heirs_in file.check.now)
+        have_finding (finding_of file.check.now.catalogue.now (replacements_in file.check.now)
         file.check.now.mode) lines) };
 
     ghost HasClosed = { λ file lines. file.blanks ≡ capped (blank_count lines) };

@@ -9,10 +9,10 @@ ghost use Rattle.spdx_parser.specs.Meaning.{IsRefused};
 ghost use Rattle.spdx_canonical.specs.Fix.{IsFixOf, Reads};
 ghost use Rattle.finding_forms.specs.Finding.{aid_of, told};
 ghost use Rattle.spdx_hints.specs.Borrowed.{nows};
-ghost use Rattle.spdx_list.specs.Shown.{instead_of};
-ghost use Rattle.spdx_list.specs.declared.extras.Instead.{Instead};
-ghost use Rattle.spdx_check.specs.Checking.{heirs_in, seen_by, spot_of, told_by};
-ghost use Rattle.spdx_check.specs.Finding.{IsTheFinding, aid_by, heir_in, heir_of, hint_by, hinted, is_unlisted, name_at, unlisted_words, wants_name, without_names, wrong_in, no_text};
+ghost use Rattle.spdx_list.specs.Shown.{shown_replacement};
+ghost use Rattle.spdx_list.specs.declared.extras.Replacement.{Replacement};
+ghost use Rattle.spdx_check.specs.Checking.{replacements_in, seen_by, spot_of, told_by};
+ghost use Rattle.spdx_check.specs.Finding.{IsTheFinding, aid_by, replacement_in, replacement_of, hint_by, hinted, is_unlisted, name_at, unlisted_words, wants_name, without_names, wrong_in, no_text};
 ghost use Rattle.spdx_check.specs.Found.{finding_of, fix_of};
 ghost use Rattle.spdx_check.specs.Refusals.{aid_in, wrong_of};
 
@@ -23,7 +23,7 @@ use spdx_catalogue::{Catalogue, Failure};
 use spdx_hints::{Meant, hints, phrase};
 use spdx_lexer::error::{ParseError, Reason};
 use spdx_lexer::token::ParseMode;
-use spdx_list::Instead;
+use spdx_list::Replacement;
 use spdx_parser::parse_nodes;
 use std::alloc::{AllocError, Global};
 
@@ -98,15 +98,15 @@ impl Refusal<'_> {
 }
 
 /// What is wrong with the bytes of an expression, if anything is: as the parser tells it, and as help the fix, where the
-/// expression has one; else, of a deprecated name, what the heirs say to write in its place; else the names of licences that
+/// expression has one; else, of a deprecated name, what replaces it by the rows; else the names of licences that
 /// the phrase at the fault may mean, where a name is wanted there: the fault is an unknown term or licence, a byte that
-/// begins no token, or a deprecated name. An heir is told as the one name that may be meant, since it mends the name alone
+/// begins no token, or a deprecated name. A replacement is told as the one name that may be meant, since it mends the name alone
 /// and no reader has tried it. Where none is close to an unknown term, licence or exception, a note says which list hasn't
 /// it, and by which option another is taken. Bytes that are no UTF-8 are refused too: U+FFFD is shown for each invalid
 /// sequence, the first of which is the fault.
 ///
 /// Linear in the expression's tokens, besides their look-up. One that strict reading refuses is read up to three times more,
-/// one that another mode refuses four times, and for names each heir, or each row of the catalogue, is looked at.
+/// one that another mode refuses four times, and for names each replacement, or each row of the catalogue, is looked at.
 ///
 /// # Errors
 ///
@@ -118,9 +118,9 @@ pub fn refusal_of<'c>(
     bytes: &[u8],
 ) -> Result<Option<Refusal<'c>>, AllocError>
     ensures found { IfOk result (λ found. option_map wrong_of found ≡
-        finding_of check.now.catalogue.now (heirs_in check.now) check.now.mode bytes.now) }
+        finding_of check.now.catalogue.now (replacements_in check.now) check.now.mode bytes.now) }
     ensures is { IfOk result (λ found. IsTheFinding check.now.catalogue.now
-        (heirs_in check.now) check.now.mode bytes.now (option_map wrong_of found)) }
+        (replacements_in check.now) check.now.mode bytes.now (option_map wrong_of found)) }
 {
     refusal_in(alloc, check, bytes)
 }
@@ -132,7 +132,7 @@ pub(crate) fn refusal_in<'c>(
     bytes: &[u8],
 ) -> Result<Option<Refusal<'c>>, AllocError>
     ensures { IfOk result (λ found. option_map wrong_of found ≡
-        finding_of check.now.catalogue.now (heirs_in check.now) check.now.mode bytes.now) }
+        finding_of check.now.catalogue.now (replacements_in check.now) check.now.mode bytes.now) }
 {
     let written = match str::from_utf8(bytes) {
         Ok(written) => written,
@@ -183,7 +183,7 @@ fn refused<'c>(
 ) -> Result<Refusal<'c>, AllocError>
     requires { Reads check.now.catalogue.now check.now.mode error.now.original.now → ⊥ }
     ensures { IfOk result (λ refusal. wrong_of refusal ≡
-        wrong_in check.now.catalogue.now (heirs_in check.now) error.now.original.now
+        wrong_in check.now.catalogue.now (replacements_in check.now) error.now.original.now
         (fault_of error.now.reason) (span_of error.now.span)
         (fix_of check.now.catalogue.now error.now.original.now)) }
 {
@@ -205,7 +205,7 @@ fn remedy_of<'c>(
 ) -> Result<Remedy<'c>, AllocError>
     requires { Reads check.now.catalogue.now check.now.mode error.now.original.now → ⊥ }
     ensures { IfOk result (λ remedy. aid_in remedy ≡
-        aid_by check.now.catalogue.now (heirs_in check.now) error.now.original.now
+        aid_by check.now.catalogue.now (replacements_in check.now) error.now.original.now
         (fault_of error.now.reason) (span_of error.now.span)
         (fix_of check.now.catalogue.now error.now.original.now)) }
 {
@@ -228,21 +228,21 @@ fn fix_in(alloc: Global, check: &Check<'_>, text: &str) -> Result<Option<String>
     }
 }
 
-// What helps where there is no fix: the heir of a deprecated name, else hints.
+// What helps where there is no fix: the replacement of a deprecated name, else hints.
 fn names_for<'c>(
     alloc: Global,
     check: &Check<'c>,
     error: &ParseError<'_>,
 ) -> Result<Remedy<'c>, AllocError>
     ensures { IfOk result (λ remedy. aid_in remedy ≡
-        aid_by check.now.catalogue.now (heirs_in check.now) error.now.original.now
+        aid_by check.now.catalogue.now (replacements_in check.now) error.now.original.now
         (fault_of error.now.reason) (span_of error.now.span) None) }
 {
-    let Some(heir) = heir_of(check.heirs, error) else {
+    let Some(replacement) = replacement_of(check.replacements, error) else {
         return hints_for(alloc, check.catalogue, error);
     };
     let mut names = Vec::new(alloc);
-    names.push(heir)?;
+    names.push(replacement)?;
     Ok(Remedy::Names {
         names,
         rule: "replaced-by",
@@ -250,12 +250,12 @@ fn names_for<'c>(
 }
 
 // What is to be written in place of the deprecated name at the fault.
-fn heir_of<'c>(heirs: &'c [Instead], error: &ParseError<'_>) -> Option<&'c str>
-    ensures { option_copied result ≡ heir_of (map instead_of heirs.now) error.now.original.now
-        (fault_of error.now.reason) (span_of error.now.span) }
+fn replacement_of<'c>(replacements: &'c [Replacement], error: &ParseError<'_>) -> Option<&'c str>
+    ensures { option_copied result ≡ replacement_of (map shown_replacement replacements.now)
+        error.now.original.now (fault_of error.now.reason) (span_of error.now.span) }
 {
     match error.reason {
-        Reason::DeprecatedLicenseId => heir_in(heirs, name_at(error)),
+        Reason::DeprecatedLicenseId => replacement_in(replacements, name_at(error)),
         _ => None,
     }
 }
@@ -268,18 +268,19 @@ fn name_at<'t>(error: &ParseError<'t>) -> &'t [u8]
     &text[error.span.start.min(end)..end]
 }
 
-fn heir_in<'c>(heirs: &'c [Instead], name: &[u8]) -> Option<&'c str>
-    ensures { option_copied result ≡ heir_in (map instead_of heirs.now) name.now }
+fn replacement_in<'c>(replacements: &'c [Replacement], name: &[u8]) -> Option<&'c str>
+    ensures { option_copied result ≡ replacement_in (map shown_replacement replacements.now)
+        name.now }
 {
-    let row = row_named(heirs, name)?;
+    let row = row_named(replacements, name)?;
     Some(row.write.as_str())
 }
 
-fn row_named<'c>(heirs: &'c [Instead], name: &[u8]) -> Option<&'c Instead>
+fn row_named<'c>(replacements: &'c [Replacement], name: &[u8]) -> Option<&'c Replacement>
     ensures { option_copied result
-        ≡ find (λ (r : Instead). bytes_eq (string_bytes r.name) name.now) heirs.now }
+        ≡ find (λ (r : Replacement). bytes_eq (string_bytes r.name) name.now) replacements.now }
 {
-    heirs.iter().find(|row| row.name.as_bytes() == name)
+    replacements.iter().find(|row| row.name.as_bytes() == name)
 }
 
 // The names that the phrase at the fault may mean, if a licence is wanted.

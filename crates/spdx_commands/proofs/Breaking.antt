@@ -11,7 +11,7 @@ use Rattle.shelves.specs.Shelf.{Shelved}
 use Rattle.fix_program.specs.Runs.{IsRun, path_in}
 use Rattle.fix_program.specs.Shown.{AreShown, more, none}
 use Rattle.fix_program.specs.declared.ends.FileEnd.{FileEnd}
-use Rattle.fix_program.specs.declared.file.Replacement.{Replacement}
+use Rattle.fix_program.specs.declared.file.FileReplacement.{FileReplacement}
 use Rattle.fix_program.specs.declared.run.PathEnd.{PathEnd}
 use Rattle.fix_program.specs.declared.run.Request.{Request}
 use Rattle.fix_program.specs.declared.run.Run.{Run}
@@ -44,7 +44,7 @@ pub at_silence : (out : Told) (h l : Account Trouble) (k : Account Attempt) (Is 
 at_silence out h l k Is same is = subst (λ (x : Account Trouble). Did (stand out h k) (stand out x k) Is) (sym same) (at_none (stand out h k) Is is)
 
 -- bytes were tried
-pub at_try : (out : Told) (h l : Account Trouble) (k m : Account Attempt) (links : _) (r : Replacement) (answer : Result Loss Obstacle) → HearsTried k m links r answer → l ≡ h
+pub at_try : (out : Told) (h l : Account Trouble) (k m : Account Attempt) (links : _) (r : FileReplacement) (answer : Result Loss Obstacle) → HearsTried k m links r answer → l ≡ h
     → Did (stand out h k) (stand out l m) (IsTried links r)
 at_try out h l k m links r answer tries same = record {
   done = trying (noted (attempt_of links r answer));
@@ -55,7 +55,7 @@ at_try out h l k m links r answer tries same = record {
 }
 
 -- where it is told why a file isn't written
-pub at_hindrance : {T : Type 0} (h l : Account Trouble) (k m : Account Attempt) (links : _) (r : Replacement) (answer : Result Loss Obstacle) (result : Result T Trouble)
+pub at_hindrance : {T : Type 0} (h l : Account Trouble) (k m : Account Attempt) (links : _) (r : FileReplacement) (answer : Result Loss Obstacle) (result : Result T Trouble)
     → HearsTried k m links r answer → OnErr result (l ≡ h) → IfErr result (λ _. (output : Told) → Did (stand output h k) (stand output l m) (IsTried links r))
 at_hindrance h l k m links r answer (Ok x) tries same = tt
 at_hindrance h l k m links r answer (Err t) tries same = λ out. at_try out h l k m links r answer tries same

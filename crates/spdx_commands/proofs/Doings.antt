@@ -12,7 +12,7 @@ use Rattle.check_files.specs.Told.{Account, Hears, Tells}
 use Rattle.check_files.proofs.Doing.{hears_nil, hears_trans}
 use Rattle.shelves.specs.declared.shelf.Stamp.{Stamp}
 use Rattle.fix_program.specs.declared.ends.FileEnd.{FileEnd}
-use Rattle.fix_program.specs.declared.file.Replacement.{Replacement}
+use Rattle.fix_program.specs.declared.file.FileReplacement.{FileReplacement}
 use Rattle.fix_program.specs.declared.run.PathEnd.{PathEnd}
 use Rattle.fix_program.specs.declared.trouble.FixTrouble.{FixTrouble}
 use Rattle.spdx_commands.specs.Mend.{AreEndsDone, ArePathsDone, Did, Done, IsBrokenOff, IsEndDone, IsLeftOut, IsPathDone, IsPlaced, Setting, Stand, attempt_of, behind, broken, hindrance, is_end, left_behind, no_end, no_path, nothing, stand, telling, then_end, then_path, told_of, unwritten, worst, writing}
@@ -58,7 +58,7 @@ or_none false = refl
 abbrev is_of : Stamp → Attempt → Bool
 is_of x a = is_placed a.answer && same_node a.stamp x
 
-one_placed : (old new : Nodes) (links : Bool) (r : Replacement) (loss : Loss) (before : List Attempt)
+one_placed : (old new : Nodes) (links : Bool) (r : FileReplacement) (loss : Loss) (before : List Attempt)
     → ((other : Stamp) → has_node new other ≡ (same_node r.stamp other || has_node old other))
     → AreReplaced old before → AreReplaced new (before ++ attempt_of links r (Ok loss) ∷ [])
 one_placed old new links r loss before adds knows = λ x.
@@ -67,7 +67,7 @@ one_placed old new links r loss before adds knows = λ x.
     ∙ swap (same_node r.stamp x) (is_replaced before x)
     ∙ sym (list_any-append (is_of x) before (attempt_of links r (Ok loss) ∷ []))
 
-none_placed : (nodes : Nodes) (links : Bool) (r : Replacement) (o : Obstacle) (before : List Attempt)
+none_placed : (nodes : Nodes) (links : Bool) (r : FileReplacement) (o : Obstacle) (before : List Attempt)
     → AreReplaced nodes before → AreReplaced nodes (before ++ attempt_of links r (Err o) ∷ [])
 none_placed nodes links r o before knows = λ x.
     knows x
@@ -125,17 +125,17 @@ loss_zero path loss.Nothing = refl
 loss_zero path loss.SetId = refl
 
 -- its bytes were tried
-abbrev pub HearsTried : Account Attempt → Account Attempt → Bool → Replacement → Result Loss Obstacle → Type 0
+abbrev pub HearsTried : Account Attempt → Account Attempt → Bool → FileReplacement → Result Loss Obstacle → Type 0
 HearsTried k m links r answer = Hears k m (noted (attempt_of links r answer))
 
-pub tried : (k m : Account Attempt) (links : Bool) (r : Replacement) (answer : Result Loss Obstacle) (path bytes : List ℕ) → path ≡ string_bytes r.path → bytes ≡ r.bytes.items
+pub tried : (k m : Account Attempt) (links : Bool) (r : FileReplacement) (answer : Result Loss Obstacle) (path bytes : List ℕ) → path ≡ string_bytes r.path → bytes ≡ r.bytes.items
     → Hears k m (noted (attempt path r.stamp links bytes answer)) → HearsTried k m links r answer
 tried k m links r answer path bytes is same h =
     subst (λ (b : List ℕ). Hears k m (noted (attempt (string_bytes r.path) r.stamp links b answer))) same
     (subst (λ (p : List ℕ). Hears k m (noted (attempt p r.stamp links bytes answer))) is h)
 
 -- the bytes take the file's place
-pub placed : (out : Told) (h l : Account Trouble) (k m : Account Attempt) (old new : Nodes) (links : Bool) (r : Replacement) (answer : Result Loss Obstacle) (x : Loss)
+pub placed : (out : Told) (h l : Account Trouble) (k m : Account Attempt) (old new : Nodes) (links : Bool) (r : FileReplacement) (answer : Result Loss Obstacle) (x : Loss)
     → answer ≡ Ok x → HearsTried k m links r answer → Hears h l (told_of r.path (Ok x))
     → ((other : Stamp) → has_node new other ≡ (same_node r.stamp other || has_node old other))
     → Did (stand out h k) (stand out l m) (Comes old new 0 (λ _. IsPlaced links r))
@@ -151,14 +151,14 @@ placed out h l k m old new links r answer x is tries tells adds = record {
   };
 }
 
-noted_on : (links : Bool) (r : Replacement) (o : Obstacle) → is_end (Err o) ≡ false → noted (attempt_of links r (Err o)) ≡ attempt_of links r (Err o) ∷ []
+noted_on : (links : Bool) (r : FileReplacement) (o : Obstacle) → is_end (Err o) ≡ false → noted (attempt_of links r (Err o)) ≡ attempt_of links r (Err o) ∷ []
 noted_on links r obstacle.Changed e = refl
 noted_on links r obstacle.Linked e = refl
 noted_on links r (obstacle.Owner x) e = refl
 noted_on links r (obstacle.Failed x) e = absurd (let bad : true ≡ false = e in cc)
 
 -- they don't, and it is told why
-pub hindered : (h l : Account Trouble) (k m : Account Attempt) (nodes : Nodes) (links : Bool) (r : Replacement) (answer : Result Loss Obstacle) (o : Obstacle) (result : Result ℕ Trouble)
+pub hindered : (h l : Account Trouble) (k m : Account Attempt) (nodes : Nodes) (links : Bool) (r : FileReplacement) (answer : Result Loss Obstacle) (o : Obstacle) (result : Result ℕ Trouble)
     → answer ≡ Err o → HearsTried k m links r answer
     → IfOk result (λ status. status ≡ status_of (hindrance r.path o)) → OnOk result (Hears h l (hindrance r.path o ∷ [])) → OnOk result (is_end (Err o) ≡ false)
     → IfOk result (λ status. (out : Told) → Did (stand out h k) (stand out l m) (Comes nodes nodes status (λ _. IsPlaced links r)))
@@ -256,7 +256,7 @@ pub off_at : (out : Told) (k m : Account Attempt) (r : Result ℕ Trouble) → I
 off_at out k m (Ok x) h = tt
 off_at out k m (Err t) h = h out
 
-noted_end : (k m : Account Attempt) (links : Bool) (r : Replacement) (o : Obstacle) (t : Trouble)
+noted_end : (k m : Account Attempt) (links : Bool) (r : FileReplacement) (o : Obstacle) (t : Trouble)
     → HearsTried k m links r (Err o) → IsUnwritten r.path o t → (out : Told) → IsBrokenOff out k m t
 noted_end k m links r obstacle.Changed t tries is out = subst (IsBrokenOff out k m) (sym is) (broken trouble.Memory tt)
 noted_end k m links r obstacle.Linked t tries is out = subst (IsBrokenOff out k m) (sym is) (broken trouble.Memory tt)
@@ -268,7 +268,7 @@ noted_end k m links r (obstacle.Failed e) t tries (inr is) out =
     (unwritten [] r.path r.stamp links r.bytes.items e (subst (λ (b : Bool). Hears k m (if b then [] else a ∷ [])) is.0 tries))
 
 -- the file can't be written
-pub unwritten_off : (k m : Account Attempt) (links : Bool) (r : Replacement) (answer : Result Loss Obstacle) (o : Obstacle) (result : Result ℕ Trouble)
+pub unwritten_off : (k m : Account Attempt) (links : Bool) (r : FileReplacement) (answer : Result Loss Obstacle) (o : Obstacle) (result : Result ℕ Trouble)
     → answer ≡ Err o → HearsTried k m links r answer → IfErr result (IsUnwritten r.path o)
     → IfErr result (λ t. (out : Told) → IsBrokenOff out k m t)
 unwritten_off k m links r answer o (Ok x) is tries off = tt

@@ -19,7 +19,7 @@ use Rattle.fix_program.specs.declared.ends.FileEnd.TheVariants as end
 use Rattle.fix_program.specs.declared.file.Deed.{Deed}
 use Rattle.fix_program.specs.declared.file.Deed.TheVariants as deed
 use Rattle.fix_program.specs.declared.file.Fixed.{Fixed}
-use Rattle.fix_program.specs.declared.file.Replacement.{Replacement}
+use Rattle.fix_program.specs.declared.file.FileReplacement.{FileReplacement}
 use Rattle.fix_program.specs.declared.run.PathEnd.{PathEnd}
 use Rattle.fix_program.specs.declared.run.Request.{Request}
 use Rattle.fix_program.proofs.Each.{AreFixed, IsFixedSomewhere, each_fixed}
@@ -43,7 +43,7 @@ all_right P (x ∷ xs) ys h = all_right P xs ys (All-tail P x (xs ++ ys) h)
 -- ---- a replacement
 
 -- of which bytes of the file it is
-record IsOf (w : Bool) (path : List ℕ) (new : Option (Vec ℕ)) (r : Replacement) : Type 0 where
+record IsOf (w : Bool) (path : List ℕ) (new : Option (Vec ℕ)) (r : FileReplacement) : Type 0 where
   is_written : w ≡ true
   path_is : path ≡ string_bytes r.path
   bytes_are : bytes_in new ≡ Some r.bytes.items
@@ -52,13 +52,13 @@ record IsOf (w : Bool) (path : List ℕ) (new : Option (Vec ℕ)) (r : Replaceme
 all_same_first : {X : Type 0} (P : X → Type 0) (xs ys : List X) → xs ≡ ys ++ [] → All P ys → All P xs
 all_same_first P xs ys is h = All-same P xs ys (is ∙ append-nil ys) h
 
-none_replaced : (r : Replacement) → deed.Replace r ≡ deed.Nothing → ⊥
+none_replaced : (r : FileReplacement) → deed.Replace r ≡ deed.Nothing → ⊥
 none_replaced r e = let bad : true ≡ false = ap files.is_replaced e in absurd cc
 
 some_is : (v : Vec ℕ) → Some v ≡ None → ⊥
 some_is v e = absurd cc
 
-of_deed : (w input : Bool) (p : Parts) (path old : List ℕ) (new : Option (Vec ℕ)) (r : Replacement) → IsDeedBy w input p path old new (deed.Replace r) → IsOf w path new r
+of_deed : (w input : Bool) (p : Parts) (path old : List ℕ) (new : Option (Vec ℕ)) (r : FileReplacement) → IsDeedBy w input p path old new (deed.Replace r) → IsOf w path new r
 of_deed false input p path old None r h = absurd (none_replaced r h)
 of_deed false input p path old (Some v) r h = absurd h.2
 of_deed true true p path old new r h = absurd h
@@ -79,7 +79,7 @@ module _ (s : Shelved) (inside : InsideBytes) (a : Request) where
     abbrev of_run : Setting
     of_run = setting s c a.breaks_links
 
-    needed_at : (p : Parts) (path : List ℕ) (f : Fixed) (r : Replacement) (answer : Result Loss Obstacle) (h : IsFixedAt s c true p path f) → IsOf true path h.outcome.bytes r → s.HoldsAs path h.bytes r.stamp
+    needed_at : (p : Parts) (path : List ℕ) (f : Fixed) (r : FileReplacement) (answer : Result Loss Obstacle) (h : IsFixedAt s c true p path f) → IsOf true path h.outcome.bytes r → s.HoldsAs path h.bytes r.stamp
         → IsNeeded s inside a (attempt path r.stamp a.breaks_links r.bytes.items answer)
     needed_at p path f r answer h of stamped = record {
       catalogue = c;
@@ -95,10 +95,10 @@ module _ (s : Shelved) (inside : InsideBytes) (a : Request) where
       links_are = refl;
     }
 
-    of_fixed : (on : Bool) (p : Parts) (path : List ℕ) (f : Fixed) (r : Replacement) (h : IsFixedAt s c on p path f) → f.deed ≡ deed.Replace r → IsOf on path h.outcome.bytes r
+    of_fixed : (on : Bool) (p : Parts) (path : List ℕ) (f : Fixed) (r : FileReplacement) (h : IsFixedAt s c on p path f) → f.deed ≡ deed.Replace r → IsOf on path h.outcome.bytes r
     of_fixed on p path f r h is = of_deed on (is_input path) p path h.bytes h.outcome.bytes r (subst (IsDeedBy on (is_input path) p path h.bytes h.outcome.bytes) is h.does)
 
-    fixed_for : (on : Bool) (p : Parts) (path : List ℕ) (f : Fixed) (r : Replacement) (answer : Result Loss Obstacle) → IsFixedAt s c on p path f → f.deed ≡ deed.Replace r
+    fixed_for : (on : Bool) (p : Parts) (path : List ℕ) (f : Fixed) (r : FileReplacement) (answer : Result Loss Obstacle) → IsFixedAt s c on p path f → f.deed ≡ deed.Replace r
         → IsFor on (attempt_of a.breaks_links r answer)
     fixed_for false p path f r answer h is = absurd (let bad : false ≡ true = (of_fixed false p path f r h is).is_written in cc)
     fixed_for true p path f r answer h is =
@@ -111,7 +111,7 @@ module _ (s : Shelved) (inside : InsideBytes) (a : Request) where
     tries_none : (on : Bool) (d e : Done) → d ≡ e → e.tried ≡ [] → All (IsFor on) d.tried
     tries_none on d e same none = All-same (IsFor on) d.tried [] (ap (λ (x : Done). x.tried) same ∙ none) (All-nil (IsFor on))
 
-    placed_for : (on : Bool) (r : Replacement) (d : Done) → ((answer : Result Loss Obstacle) → IsFor on (attempt_of a.breaks_links r answer)) → IsPlaced a.breaks_links r d → All (IsFor on) d.tried
+    placed_for : (on : Bool) (r : FileReplacement) (d : Done) → ((answer : Result Loss Obstacle) → IsFor on (attempt_of a.breaks_links r answer)) → IsPlaced a.breaks_links r d → All (IsFor on) d.tried
     placed_for on r d are h =
         let t = attempt_of a.breaks_links r h.answer in
         All-same (IsFor on) d.tried (t ∷ []) h.tried_is (All-cons (IsFor on) t [] (are h.answer) (All-nil (IsFor on)))
@@ -121,11 +121,11 @@ module _ (s : Shelved) (inside : InsideBytes) (a : Request) where
     if_for on p path f e h (deed.Put text) is d done = tries_none on d nothing done refl
     if_for on p path f e h (deed.Replace r) is d done = placed_for on r d (λ answer. (e, (fixed_for true p path f r answer h is).1)) done
 
-    again_for : (on : Bool) (r : Replacement) (d : Done) → on ≡ true → IsPlacedAgain of_run r d → All (IsFor on) d.tried
+    again_for : (on : Bool) (r : FileReplacement) (d : Done) → on ≡ true → IsPlacedAgain of_run r d → All (IsFor on) d.tried
     again_for on r d e (mended f at done) = if_for on r.parts (string_bytes r.path) f e at f.deed refl d done
     again_for on r d e (left_out t at done) = tries_none on d _ done.done_is refl
 
-    by_for : (twice on : Bool) (r : Replacement) (d : Done) → on ≡ true → ((answer : Result Loss Obstacle) → IsFor on (attempt_of a.breaks_links r answer)) → IsPlacedBy twice of_run r d
+    by_for : (twice on : Bool) (r : FileReplacement) (d : Done) → on ≡ true → ((answer : Result Loss Obstacle) → IsFor on (attempt_of a.breaks_links r answer)) → IsPlacedBy twice of_run r d
         → All (IsFor on) d.tried
     by_for false on r d e are h = placed_for on r d are h
     by_for true on r d e are h = again_for on r d e h
@@ -163,7 +163,7 @@ module _ (s : Shelved) (inside : InsideBytes) (a : Request) where
     noted_for on t true h = All-nil (IsFor on)
     noted_for on t false h = All-cons (IsFor on) t [] h (All-nil (IsFor on))
 
-    tried_for : (on : Bool) (r : Replacement) (d : Done) → ((answer : Result Loss Obstacle) → IsFor on (attempt_of a.breaks_links r answer)) → IsTried a.breaks_links r d → All (IsFor on) d.tried
+    tried_for : (on : Bool) (r : FileReplacement) (d : Done) → ((answer : Result Loss Obstacle) → IsFor on (attempt_of a.breaks_links r answer)) → IsTried a.breaks_links r d → All (IsFor on) d.tried
     tried_for on r d are h =
         let t = attempt_of a.breaks_links r h.answer in
         All-same (IsFor on) d.tried (noted t) (ap (λ (x : Done). x.tried) h.done_is) (noted_for on t (is_of_memory h.answer) (are h.answer))
@@ -173,11 +173,11 @@ module _ (s : Shelved) (inside : InsideBytes) (a : Request) where
     tried_if on p path f e h (deed.Put text) is d done = absurd done
     tried_if on p path f e h (deed.Replace r) is d done = tried_for on r d (λ answer. (e, (fixed_for true p path f r answer h is).1)) done
 
-    tried_again : (on : Bool) (r : Replacement) (d : Done) → on ≡ true → IsTriedAgain of_run r d → All (IsFor on) d.tried
+    tried_again : (on : Bool) (r : FileReplacement) (d : Done) → on ≡ true → IsTriedAgain of_run r d → All (IsFor on) d.tried
     tried_again on r d e (again f at done) = tried_if on r.parts (string_bytes r.path) f e at f.deed refl d done
     tried_again on r d e (untried is) = tries_none on d nothing is refl
 
-    tried_by : (twice on : Bool) (r : Replacement) (d : Done) → on ≡ true → ((answer : Result Loss Obstacle) → IsFor on (attempt_of a.breaks_links r answer)) → IsTriedBy twice of_run r d
+    tried_by : (twice on : Bool) (r : FileReplacement) (d : Done) → on ≡ true → ((answer : Result Loss Obstacle) → IsFor on (attempt_of a.breaks_links r answer)) → IsTriedBy twice of_run r d
         → All (IsFor on) d.tried
     tried_by false on r d e are h = tried_for on r d are h
     tried_by true on r d e are h = tried_again on r d e h

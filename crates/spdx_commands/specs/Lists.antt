@@ -29,17 +29,18 @@ abbrev pub unlisted_trouble : Unlisted → Trouble
 unlisted_trouble u = trouble.Unlisted u.name u.told
 
 -- what the list says of the names is written, and those are told that it hasn't
-pub record IsShow (s : Shelved) (inside : InsideBytes) (heirs : List ℕ) (a : Asked)
+pub record IsShow (s : Shelved) (inside : InsideBytes) (replacements : List ℕ) (a : Asked)
     (text : List ℕ) (told : List Trouble) (status : ℕ) : Type 0 where
   pub shown : Shown
-  pub is_shown : IsShown s inside heirs a shown
+  pub is_shown : IsShown s inside replacements a shown
   pub text_is : text ≡ shown.text.items
   pub told_are : told ≡ map unlisted_trouble shown.unlisted.items
   pub status_is : status ≡ status_of shown
 
 -- so it is with such a status
 abbrev pub SaysShown : Shelved → InsideBytes → List ℕ → Asked → List ℕ → List Trouble → Type 0
-SaysShown s inside heirs a text told = (status : ℕ) × IsShow s inside heirs a text told status
+SaysShown s inside replacements a text told =
+    (status : ℕ) × IsShow s inside replacements a text told status
 
 -- the status is 0 exactly if the list that is read has each of the names
 pub record SaysListed (s : Shelved) (inside : InsideBytes) (a : Asked) (status : ℕ) : Type 0 where
@@ -51,7 +52,7 @@ pub record SaysListed (s : Shelved) (inside : InsideBytes) (a : Asked) (status :
 
 -- the difference is written, and nothing is told
 abbrev pub SaysDiffer : Shelved → InsideBytes → List ℕ → Lists → List ℕ → List Trouble → Type 0
-SaysDiffer s inside heirs a text told = (told ≡ []) × IsDiff s inside heirs a text
+SaysDiffer s inside replacements a text told = (told ≡ []) × IsDiff s inside replacements a text
 
 -- ---- `list make`
 

@@ -22,7 +22,7 @@ use Rattle.fix_program.specs.declared.ends.FileEnd.TheVariants as end
 use Rattle.fix_program.specs.declared.file.Deed.{Deed}
 use Rattle.fix_program.specs.declared.file.Deed.TheVariants as deed
 use Rattle.fix_program.specs.declared.file.Fixed.{Fixed}
-use Rattle.fix_program.specs.declared.file.Replacement.{Replacement}
+use Rattle.fix_program.specs.declared.file.FileReplacement.{FileReplacement}
 use Rattle.fix_program.specs.declared.run.FixFault.{FixFault}
 use Rattle.fix_program.specs.declared.run.PathEnd.{PathEnd}
 use Rattle.fix_program.specs.declared.run.Request.{Request}
@@ -120,12 +120,12 @@ is_end (Err (obstacle.Failed e)) = true
 is_end _ = false
 
 -- the bytes are tried to put in the file's place, with this answer
-abbrev pub attempt_of : Bool → Replacement → Result Loss Obstacle → Attempt
+abbrev pub attempt_of : Bool → FileReplacement → Result Loss Obstacle → Attempt
 attempt_of breaks_links r answer =
     attempt (string_bytes r.path) r.stamp breaks_links r.bytes.items answer
 
 -- that is tried, and it is told why they aren't in its place, or what the file lost
-pub record IsPlaced (breaks_links : Bool) (r : Replacement) (done : Done) : Type 0 where
+pub record IsPlaced (breaks_links : Bool) (r : FileReplacement) (done : Done) : Type 0 where
   pub answer : Result Loss Obstacle
   pub goes_on : is_end answer ≡ false
   pub text_is : done.text ≡ []
@@ -143,14 +143,14 @@ pub record IsLeftOut (t : FixTrouble) (done : Done) : Type 0 where
   pub done_is : done ≡ telling (trouble ∷ [])
 
 -- the file is read and mended again, as it is now; its bytes are then placed, or it is left out
-pub data IsPlacedAgain (w : Setting) (r : Replacement) (done : Done) : Type 0 where
+pub data IsPlacedAgain (w : Setting) (r : FileReplacement) (done : Done) : Type 0 where
   mended : (f : Fixed) → IsFixedAt w.shelf w.rows true r.parts (string_bytes r.path) f →
       IsPlacedIf w.breaks_links f.deed done → IsPlacedAgain w r done
   left_out : (t : FixTrouble) → IsNotFixed w.shelf w.rows true r.parts (string_bytes r.path) t →
       IsLeftOut t done → IsPlacedAgain w r done
 
 -- again, where the run has replaced it already, under another name maybe
-abbrev pub IsPlacedBy : Bool → Setting → Replacement → Done → Type 0
+abbrev pub IsPlacedBy : Bool → Setting → FileReplacement → Done → Type 0
 IsPlacedBy false w r done = IsPlaced w.breaks_links r done
 IsPlacedBy true w r done = IsPlacedAgain w r done
 
@@ -212,7 +212,7 @@ pub record IsFix (s : Shelved) (inside : InsideBytes) (a : Request) (status : �
 -- ---- what is done of a file at which it breaks off, of which nothing is told
 
 -- its bytes were tried to put in its place
-pub record IsTried (breaks_links : Bool) (r : Replacement) (done : Done) : Type 0 where
+pub record IsTried (breaks_links : Bool) (r : FileReplacement) (done : Done) : Type 0 where
   pub answer : Result Loss Obstacle
   pub done_is : done ≡ trying (noted (attempt_of breaks_links r answer))
 
@@ -221,12 +221,12 @@ IsTriedIf breaks_links (deed.Replace r) done = IsTried breaks_links r done
 IsTriedIf breaks_links _ done = ⊥
 
 -- it was read and mended again, and these bytes were tried; or nothing was
-pub data IsTriedAgain (w : Setting) (r : Replacement) (done : Done) : Type 0 where
+pub data IsTriedAgain (w : Setting) (r : FileReplacement) (done : Done) : Type 0 where
   again : (f : Fixed) → IsFixedAt w.shelf w.rows true r.parts (string_bytes r.path) f →
       IsTriedIf w.breaks_links f.deed done → IsTriedAgain w r done
   untried : done ≡ nothing → IsTriedAgain w r done
 
-abbrev pub IsTriedBy : Bool → Setting → Replacement → Done → Type 0
+abbrev pub IsTriedBy : Bool → Setting → FileReplacement → Done → Type 0
 IsTriedBy false w r done = IsTried w.breaks_links r done
 IsTriedBy true w r done = IsTriedAgain w r done
 

@@ -37,7 +37,7 @@ ghost use Rattle.spdx_troubles.specs.Status.{status_of};
 use crate::listener::Listener;
 use crate::mending::replacing::{Loss, Obstacle, Replacing};
 use crate::nodes::Nodes;
-use fix_program::{Deed, FileEnd, FixTrouble, Fixed, Manner, Replacement, file_fixed};
+use fix_program::{Deed, FileEnd, FileReplacement, FixTrouble, Fixed, Manner, file_fixed};
 use line_engine::device::Sink;
 use line_engine::lines::write_all;
 use shelves::Shelf;
@@ -158,7 +158,7 @@ fn do_deed<S: Shelf, R: Replacing, O: Sink, T: Listener>(
 fn do_replacement<S: Shelf, R: Replacing, T: Listener>(
     alloc: Global,
     means: &Means<'_, S>,
-    new: Replacement,
+    new: FileReplacement,
     replaced: &mut Nodes,
     replacer: &mut R,
     listener: &mut T,
@@ -187,7 +187,7 @@ fn do_replacement<S: Shelf, R: Replacing, T: Listener>(
 fn place_again<S: Shelf, R: Replacing, T: Listener>(
     alloc: Global,
     means: &Means<'_, S>,
-    old: Replacement,
+    old: FileReplacement,
     replaced: &mut Nodes,
     replacer: &mut R,
     listener: &mut T,
@@ -256,7 +256,7 @@ fn place_if<R: Replacing, T: Listener>(
 // Puts the mended bytes in the place of the file's, and tells what comes of that.
 fn place<R: Replacing, T: Listener>(
     alloc: Global,
-    new: Replacement,
+    new: FileReplacement,
     breaks_links: bool,
     replaced: &mut Nodes,
     replacer: &mut R,
@@ -273,7 +273,7 @@ fn place<R: Replacing, T: Listener>(
         (stand output (T.heard listener.new) (R.tried replacer.new))
         (IsTried breaks_links new)) }
 {
-    let Replacement {
+    let FileReplacement {
         path,
         stamp,
         bytes,

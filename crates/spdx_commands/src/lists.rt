@@ -27,30 +27,30 @@ use std::alloc::{AllocError, Global};
 ///
 /// # Errors
 ///
-/// The list or the heirs aren't had: nothing is written. Or the output fails, or memory was refused: what was written and told
-/// is a beginning.
+/// The list or the replacements can't be read: nothing is written. Or the output fails, or memory was refused: what was written and
+/// told is a beginning.
 pub fn show<S: Shelf, O: Sink, T: Listener>(
     alloc: Global,
     shelf: &S,
     inside: Inside<'_>,
-    heirs: &[u8],
+    replacements: &[u8],
     asked: Asked<'_>,
     output: &mut O,
     listener: &mut T,
 ) -> Result<u8, Trouble>
     ensures ok { IfOk result (λ status. Does (O.told output.old) (O.told output.new)
         (T.heard listener.old) (T.heard listener.new) (λ text told. IsShow (S.told shelf.now)
-        (inside_of inside.entry.list.now inside.entry.extras.now) heirs.now asked.entry text told
-        status)) }
+        (inside_of inside.entry.list.now inside.entry.extras.now) replacements.now
+        asked.entry text told status)) }
     ensures err { IfErr result (IsStopped list_trouble (IsNotShown (S.told shelf.now)
-        (inside_of inside.entry.list.now inside.entry.extras.now) heirs.now asked.entry)
+        (inside_of inside.entry.list.now inside.entry.extras.now) replacements.now asked.entry)
         (SaysShown (S.told shelf.now) (inside_of inside.entry.list.now inside.entry.extras.now)
-        heirs.now asked.entry) (O.told output.old) (O.told output.new) (T.heard listener.old)
+        replacements.now asked.entry) (O.told output.old) (O.told output.new) (T.heard listener.old)
         (T.heard listener.new)) }
     ensures listed { IfOk result (SaysListed (S.told shelf.now)
         (inside_of inside.entry.list.now inside.entry.extras.now) asked.entry) }
 {
-    let shown = list_told::show(alloc, shelf, inside, heirs, asked)?;
+    let shown = list_told::show(alloc, shelf, inside, replacements, asked)?;
     let status = shown.status();
     let said = shown_said(alloc, shown)?;
     say(alloc, said, output, listener)?;
@@ -91,25 +91,25 @@ fn tell_unlisted<T: Listener>(
 ///
 /// # Errors
 ///
-/// A list or the heirs aren't had: nothing is written. Or the output fails, and what was written is a beginning; or memory was
-/// refused.
+/// A list or the replacements can't be read: nothing is written. Or the output fails, and what was written is a beginning; or
+/// memory was refused.
 pub fn diff<S: Shelf, O: Sink>(
     alloc: Global,
     shelf: &S,
     inside: Inside<'_>,
-    heirs: &[u8],
+    replacements: &[u8],
     lists: Lists<'_>,
     output: &mut O,
 ) -> Result<(), Trouble>
     ensures ok { OnOk result (Writes (O.told output.old) (O.told output.new)
         (IsDiff (S.told shelf.now) (inside_of inside.entry.list.now inside.entry.extras.now)
-        heirs.now lists.entry)) }
+        replacements.now lists.entry)) }
     ensures err { IfErr result (IsStopped list_trouble (IsNoDiff (S.told shelf.now)
-        (inside_of inside.entry.list.now inside.entry.extras.now) heirs.now lists.entry)
+        (inside_of inside.entry.list.now inside.entry.extras.now) replacements.now lists.entry)
         (SaysDiffer (S.told shelf.now) (inside_of inside.entry.list.now inside.entry.extras.now)
-        heirs.now lists.entry) (O.told output.old) (O.told output.new) unkept unkept) }
+        replacements.now lists.entry) (O.told output.old) (O.told output.new) unkept unkept) }
 {
-    let text = list_told::diff(alloc, shelf, inside, heirs, lists)?;
+    let text = list_told::diff(alloc, shelf, inside, replacements, lists)?;
     write_all(output, &text)?;
     Ok(())
 }

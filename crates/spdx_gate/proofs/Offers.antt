@@ -32,19 +32,19 @@ flag_text : (text x : List ℕ) (b : Bool) → bytes_eq text x ≡ b → (text �
 flag_text text x true e apart = absurd (apart ((bytes_eq-Decides text x).0 e))
 flag_text text x false e apart = refl
 
-no_name : (p : Rules) (text : List ℕ) (n : NamedRow) → IsNoEntry p.list text → IsNamed p.list p.heirs text n → ⊥
+no_name : (p : Rules) (text : List ℕ) (n : NamedRow) → IsNoEntry p.list text → IsNamed p.list p.replacements text n → ⊥
 no_name p text n isnt is = isnt is.requirement is.entry
 
 -- a text that is an entry is known exactly if an offer has it
-known_offered : (p : Rules) (x : List ℕ) (n : NamedRow) → IsNamed p.list p.heirs x n → {texts : List (List ℕ)} {ns : List NamedRow} → AreEntries p texts ns → is_among texts x ≡ list_any (λ (m : NamedRow). bytes_eq m.text x) ns
+known_offered : (p : Rules) (x : List ℕ) (n : NamedRow) → IsNamed p.list p.replacements x n → {texts : List (List ℕ)} {ns : List NamedRow} → AreEntries p texts ns → is_among texts x ≡ list_any (λ (m : NamedRow). bytes_eq m.text x) ns
 known_offered p x n named none = refl
 known_offered p x n named (entry {text = text} {n = m} {texts = texts} {ns = ns} is more) =
     ap (λ (t : List ℕ). bytes_eq t x || is_among texts x) (sym is.text_is) ∙ ap (λ (b : Bool). bytes_eq m.text x || b) (known_offered p x n named more)
 known_offered p x n named (no_entry {text = text} {texts = texts} isnt more) =
-    ap (λ (b : Bool). b || is_among texts x) (flag_text text x (bytes_eq text x) refl (λ e. no_name p text n isnt (subst (λ (t : List ℕ). IsNamed p.list p.heirs t n) (sym e) named)))
+    ap (λ (b : Bool). b || is_among texts x) (flag_text text x (bytes_eq text x) refl (λ e. no_name p text n isnt (subst (λ (t : List ℕ). IsNamed p.list p.replacements t n) (sym e) named)))
     ∙ known_offered p x n named more
 
-put_entry : (p : Rules) (x : List ℕ) (n : NamedRow) → IsNamed p.list p.heirs x n → {texts : List (List ℕ)} {ns : List NamedRow} → AreEntries p texts ns → AreEntries p (texts ++ x ∷ []) (ns ++ n ∷ [])
+put_entry : (p : Rules) (x : List ℕ) (n : NamedRow) → IsNamed p.list p.replacements x n → {texts : List (List ℕ)} {ns : List NamedRow} → AreEntries p texts ns → AreEntries p (texts ++ x ∷ []) (ns ++ n ∷ [])
 put_entry p x n named none = entry named none
 put_entry p x n named (entry is more) = entry is (put_entry p x n named more)
 put_entry p x n named (no_entry isnt more) = no_entry isnt (put_entry p x n named more)
@@ -55,16 +55,16 @@ put_none p x isnt (entry is more) = entry is (put_none p x isnt more)
 put_none p x isnt (no_entry other more) = no_entry other (put_none p x isnt more)
 
 pub are_named : (p : Rules) {texts : List (List ℕ)} {ns : List NamedRow} → AreEntries p texts ns → AreNamed p ns
-are_named p none = All-nil (λ (n : NamedRow). IsNamed p.list p.heirs n.text n)
+are_named p none = All-nil (λ (n : NamedRow). IsNamed p.list p.replacements n.text n)
 are_named p (entry {n = n} {ns = ns} is more) =
-    All-cons (λ (m : NamedRow). IsNamed p.list p.heirs m.text m) n ns (subst (λ (t : List ℕ). IsNamed p.list p.heirs t n) (sym is.text_is) is) (are_named p more)
+    All-cons (λ (m : NamedRow). IsNamed p.list p.replacements m.text m) n ns (subst (λ (t : List ℕ). IsNamed p.list p.replacements t n) (sym is.text_is) is) (are_named p more)
 are_named p (no_entry isnt more) = are_named p more
 
 -- texts have one list of entries
 pub entries_once : (p : Rules) (texts : List (List ℕ)) (ns ms : List NamedRow) → AreEntries p texts ns → AreEntries p texts ms → ns ≡ ms
 entries_once p _ _ _ none none = refl
 entries_once p _ _ _ (entry {text = text} {n = n} {texts = texts} {ns = ns} is more) (entry {n = m} {ns = ms} also rest) =
-    ap (λ (z : NamedRow). z ∷ ns) (named_once p.list p.heirs text n m is also) ∙ ap (λ (zs : List NamedRow). m ∷ zs) (entries_once p texts ns ms more rest)
+    ap (λ (z : NamedRow). z ∷ ns) (named_once p.list p.replacements text n m is also) ∙ ap (λ (zs : List NamedRow). m ∷ zs) (entries_once p texts ns ms more rest)
 entries_once p _ _ _ (entry {n = n} is more) (no_entry isnt rest) = absurd (no_name p _ n isnt is)
 entries_once p _ _ _ (no_entry isnt more) (entry {n = m} also rest) = absurd (no_name p _ m isnt also)
 entries_once p _ _ _ (no_entry {texts = texts} {ns = ns} isnt more) (no_entry {ns = ms} also rest) = entries_once p texts ns ms more rest
@@ -95,7 +95,7 @@ none_adds p tables w old e isnt = free_adds p tables w old old e (λ known h. by
     by true known h = h
     by false known h = put_none p (requirement_text w) isnt h
 
-pub known_adds : (p : Rules) (tables : List ℕ) (w : Requirement) (n : NamedRow) (old : List NamedRow) → not (is_denied_way p tables w) ≡ true → IsNamed p.list p.heirs (requirement_text w) n
+pub known_adds : (p : Rules) (tables : List ℕ) (w : Requirement) (n : NamedRow) (old : List NamedRow) → not (is_denied_way p tables w) ≡ true → IsNamed p.list p.replacements (requirement_text w) n
     → list_any (λ (m : NamedRow). bytes_eq m.text n.text) old ≡ true → AddsOffers p (free_texts p tables (w ∷ [])) old old
 known_adds p tables w n old e named there = free_adds p tables w old old e (λ known h. by (is_among known x) known (known_offered p x n named h ∙ same) h)
   where
@@ -109,7 +109,7 @@ known_adds p tables w n old e named there = free_adds p tables w old old e (λ k
     by true known is h = h
     by false known is h = absurd (cc)
 
-pub new_adds : (p : Rules) (tables : List ℕ) (w : Requirement) (n : NamedRow) (old new : List NamedRow) → not (is_denied_way p tables w) ≡ true → IsNamed p.list p.heirs (requirement_text w) n
+pub new_adds : (p : Rules) (tables : List ℕ) (w : Requirement) (n : NamedRow) (old new : List NamedRow) → not (is_denied_way p tables w) ≡ true → IsNamed p.list p.replacements (requirement_text w) n
     → list_any (λ (m : NamedRow). bytes_eq m.text n.text) old ≡ false → new ≡ old ++ n ∷ [] → AddsOffers p (free_texts p tables (w ∷ [])) old new
 new_adds p tables w n old new e named there last =
     free_adds p tables w old new e

@@ -26,7 +26,7 @@ use Rattle.spdx_canonical.specs.Law.{tree_by, only_license}
 use Rattle.spdx_canonical.proofs.Written.{suffixed}
 use Rattle.spdx_canonical.proofs.Laws.{laws}
 use Rattle.spdx_catalogue.specs.RowRules.{is_well_formed}
-use Rattle.spdx_licensee.specs.Heirs.{Heir}
+use Rattle.spdx_licensee.specs.Replacements.{KnownReplacement}
 use Rattle.spdx_licensee.specs.Sense as sensed
 use Rattle.spdx_licensee.proofs.Unique.{oks_once}
 use Rattle.spdx_policy.specs.declared.decision.Decision.{Decision}
@@ -80,7 +80,7 @@ only_again c r = by (is_gnu r.flags) (has_suffix r.name) (LookUps.listed c.licen
         let written : canon.gnu_name false r.name ≡ r.name ++ only = ap (λ b. cond b r.name (r.name ++ only)) es in
         keeps_suffixed c q (ap has_suffix (name ∙ sym written) ∙ suffixed false r.name)
 
-same_sense : (c : Rows) (hs : List Heir) (l : LicenseTerm) (a : Option Addition) → sensed.sense_of c hs (only_license c l) a ≡ sensed.sense_of c hs l a
+same_sense : (c : Rows) (hs : List KnownReplacement) (l : LicenseTerm) (a : Option Addition) → sensed.sense_of c hs (only_license c l) a ≡ sensed.sense_of c hs l a
 same_sense c hs (referred r) a = refl
 same_sense c hs (listed r mark) a =
     let same : sensed.only_row c (canon.only_row c r) ≡ sensed.only_row c r = only_same c (canon.only_row c r) ∙ only_again c r ∙ sym (only_same c r) in
@@ -89,7 +89,7 @@ same_sense c hs (listed r mark) a =
 -- ---- the decisions and the verdict of a tree
 
 same_decision : (p : Rules) (tables : List ℕ) (r : Requirement) → decision_of p tables (record { license = only_license p.list r.license; addition = r.addition }) ≡ decision_of p tables r
-same_decision p tables r = ap (λ (z : Requirement). decision_among p tables (ways p.list z)) (same_sense p.list p.heirs r.license r.addition)
+same_decision p tables r = ap (λ (z : Requirement). decision_among p tables (ways p.list z)) (same_sense p.list p.replacements r.license r.addition)
 
 same_decisions : (p : Rules) (tables : List ℕ) (t : Tree) → map (decision_of p tables) (leaves (tree_by (only_license p.list) t)) ≡ map (decision_of p tables) (leaves t)
 same_decisions p tables (Leaf r) = ap (λ (d : Decision). d ∷ []) (same_decision p tables r)

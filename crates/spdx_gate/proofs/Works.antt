@@ -12,7 +12,7 @@ use Rattle.spdx_parser.specs.Grammar.{IsTheTree}
 use Rattle.spdx_evaluation.specs.Truth.{holds, truth_of}
 use Rattle.selections.specs.Selection.{IsWithin}
 use Rattle.spdx_minimize.specs.GrowthLaws.{truth_grows}
-use Rattle.spdx_licensee.specs.Heirs.{Heir}
+use Rattle.spdx_licensee.specs.Replacements.{KnownReplacement}
 use Rattle.spdx_licensee.specs.Sense.{sense}
 use Rattle.spdx_licensee.proofs.Unique.{names_once, oks_once}
 use Rattle.spdx_policy.specs.declared.decision.Decision.{Decision}
@@ -50,7 +50,7 @@ same_row a b e f =
     let first : a ≡ (let z : NamedRow = record { text = b.text; sense = a.sense } in z) = ap (λ (t : List ℕ). let z : NamedRow = record { text = t; sense = a.sense } in z) e in
     first ∙ ap (λ (s : Requirement). let z : NamedRow = record { text = b.text; sense = s } in z) f
 
-pub named_once : (c : Rows) (hs : List Heir) (text : List ℕ) (a b : NamedRow) → IsNamed c hs text a → IsNamed c hs text b → a ≡ b
+pub named_once : (c : Rows) (hs : List KnownReplacement) (text : List ℕ) (a b : NamedRow) → IsNamed c hs text a → IsNamed c hs text b → a ≡ b
 named_once c hs text a b h k =
     same_row a b (h.text_is ∙ sym k.text_is) (h.sense_is ∙ ap (sense c hs) (entry_once c text h.requirement k.requirement h.entry k.entry) ∙ sym k.sense_is)
 
@@ -117,7 +117,7 @@ at_place P (y ∷ xs) (suc k) x all e = at_place P xs k x (λ j d lt. all (suc j
 
 -- each offer is an entry by its own text
 abbrev pub AreNamed : Rules → List NamedRow → Type 0
-AreNamed p offers = All (λ (n : NamedRow). IsNamed p.list p.heirs n.text n) offers
+AreNamed p offers = All (λ (n : NamedRow). IsNamed p.list p.replacements n.text n) offers
 
 marked : (d : Decision) → allows (mark_of d) ≡ is_allowed d
 marked (decision.Allowed e) = refl
@@ -134,9 +134,9 @@ served_allowed p tables offers numbers more r named all e =
     let text : slice_get (offered_texts offers numbers) listed.place ≡ Some (offered_text offers found.number) = mapped_at (offered_text offers) numbers listed.place found.number listed.there in
     let there = at_place (HasEntry p more) (offered_texts offers numbers) listed.place (offered_text offers found.number) all text in
     let own : offered_text offers found.number ≡ found.element.text = ap (λ (o : Option NamedRow). option_map_or (λ (n : NamedRow). n.text) o []) found.there in
-    let entry : IsNamed p.list p.heirs found.element.text there.0 = subst (λ (z : List ℕ). IsNamed p.list p.heirs z there.0) own there.2 in
-    let same : there.0 ≡ found.element = named_once p.list p.heirs found.element.text there.0 found.element entry
-    (at_place (λ (n : NamedRow). IsNamed p.list p.heirs n.text n) offers found.number found.element named found.there) in
+    let entry : IsNamed p.list p.replacements found.element.text there.0 = subst (λ (z : List ℕ). IsNamed p.list p.replacements z there.0) own there.2 in
+    let same : there.0 ≡ found.element = named_once p.list p.replacements found.element.text there.0 found.element entry
+    (at_place (λ (n : NamedRow). IsNamed p.list p.replacements n.text n) offers found.number found.element named found.there) in
     let within : Contains more found.element = subst (Contains more) same there.1 in
     marked (decision_of (with_allowed p more) tables r) ∙ freed_with p tables (ways_of p r) found.element more found.passes within
 

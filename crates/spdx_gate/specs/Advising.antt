@@ -43,7 +43,8 @@ wanted_in p tables t = each_once (flat_map (wanted_of p tables) (leaves t))
 pub data AreEntries (p : Rules) : List (List ℕ) → List NamedRow → Type 0 where
   none : AreEntries p [] []
   entry : {text : List ℕ} {n : NamedRow} {texts : List (List ℕ)} {ns : List NamedRow}
-      → IsNamed p.list p.heirs text n → AreEntries p texts ns → AreEntries p (text ∷ texts) (n ∷ ns)
+      → IsNamed p.list p.replacements text n → AreEntries p texts ns
+      → AreEntries p (text ∷ texts) (n ∷ ns)
   no_entry : {text : List ℕ} {texts : List (List ℕ)} {ns : List NamedRow}
       → IsNoEntry p.list text → AreEntries p texts ns → AreEntries p (text ∷ texts) ns
 
@@ -81,7 +82,7 @@ Advises offers (advice.TooMany n) c = c ≡ too_many n
 
 -- some entry among these is what the policy's file makes of the text
 abbrev pub HasEntry : Rules → List NamedRow → List ℕ → Type 0
-HasEntry p more text = (n : NamedRow) × Contains more n × IsNamed p.list p.heirs text n
+HasEntry p more text = (n : NamedRow) × Contains more n × IsNamed p.list p.replacements text n
 
 -- With entries of these texts in `allow`, whatever the policy's file makes of them, the expression
 -- passes; also where others stand beside them.

@@ -4,13 +4,13 @@
 #![tactic(auto)]
 
 mod extras;
-mod heirs;
 mod lines;
 mod list;
+mod replacements;
 mod version;
 
 pub use crate::extras::EXTRAS;
-pub use crate::heirs::HEIRS;
 pub use crate::lines::LINES;
 pub use crate::list::LIST;
+pub use crate::replacements::REPLACEMENTS;
 pub use crate::version::VERSION;

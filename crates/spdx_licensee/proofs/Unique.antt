@@ -7,7 +7,7 @@ use Rattle.spdx_requirement.specs.declared.failure.Failure.TheVariants.{Refused}
 use Rattle.spdx_requirement.specs.Items.{Requirement}
 use Rattle.spdx_lexer.specs.Words.{Placed, words}
 use Rattle.spdx_licensee.specs.LicenseeText.{Names, licensee_named}
-use Rattle.spdx_licensee.specs.Heirs.{Successor, as_requirement, IsSuccessor, IsSuccessorIn}
+use Rattle.spdx_licensee.specs.Replacements.{Successor, as_requirement, IsSuccessor, IsSuccessorIn}
 
 ok_once : {A E : Type 0} (x y : A) → (let a : Result A E = Ok x in a) ≡ Ok y → x ≡ y
 ok_once x y e = cc

@@ -1,6 +1,6 @@
-pub mod Heirs
+pub mod Replacements
 pub mod Shown
-pub mod HeirsModel
+pub mod ReplacementsModel
 pub mod Sense
 pub mod Ways
 pub mod Version

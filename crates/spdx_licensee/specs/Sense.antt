@@ -8,7 +8,7 @@ use Rattle.spdx_requirement.specs.Endings.{or_later, has_suffix, without}
 use Rattle.spdx_requirement.specs.Items.{LicenseTerm, listed, referred, Addition, excepted, added, Requirement}
 use Rattle.spdx_catalogue.specs.LookUps.{gnu_listed}
 use Rattle.spdx_licensee.specs.Satisfies.{allows_later}
-use Rattle.spdx_licensee.specs.Heirs.{Heir, Successor, successor_of, exception_heir}
+use Rattle.spdx_licensee.specs.Replacements.{KnownReplacement, Successor, successor_of, exception_replacement}
 
 -- a GNU licence without an ending is the one that is listed with `-only`
 abbrev pub only_row : Rows → LicenseRow → LicenseRow
@@ -18,7 +18,7 @@ only_row c r =
     else r
 
 -- a licence that is still deprecated has a successor, if the list states one
-abbrev pub succeeds : List Heir → LicenseRow → Option Successor
+abbrev pub succeeds : List KnownReplacement → LicenseRow → Option Successor
 succeeds hs r = if is_deprecated r.flags then successor_of hs r else None
 
 -- The licence and the addition, with the successor in the licence's place. Where both have an
@@ -29,10 +29,11 @@ replaced r None (Some s) = (s.license, option_map excepted s.addition)
 replaced r (Some a) (Some s) = (s.license, Some a)
 
 -- an exception that is deprecated gives way to the one that succeeds it
-abbrev pub current_exception : List Heir → ExceptionRow → ExceptionRow
-current_exception hs e = if is_deprecated e.flags then unwrap_or (exception_heir hs e) e else e
+abbrev pub current_exception : List KnownReplacement → ExceptionRow → ExceptionRow
+current_exception hs e =
+    if is_deprecated e.flags then unwrap_or (exception_replacement hs e) e else e
 
-abbrev pub current_addition : List Heir → Addition → Addition
+abbrev pub current_addition : List KnownReplacement → Addition → Addition
 current_addition hs (excepted e) = excepted (current_exception hs e)
 current_addition hs (added r) = added r
 
@@ -49,7 +50,8 @@ versions_from c r mark =
     option_map_or (λ only. listed only true) (only_twin c r) (listed r (allows_later r mark))
 
 -- a listed licence with its mark and its addition, and what came in its place
-abbrev pub sense_behind : Rows → List Heir → Bool → LicenseRow × Option Addition → Requirement
+abbrev pub sense_behind : Rows → List KnownReplacement → Bool → LicenseRow × Option Addition
+    → Requirement
 sense_behind c hs mark now =
     record {
       license = versions_from c now.0 mark;
@@ -57,12 +59,12 @@ sense_behind c hs mark now =
     }
 
 -- what a licence with its addition means
-abbrev pub sense_of : Rows → List Heir → LicenseTerm → Option Addition → Requirement
+abbrev pub sense_of : Rows → List KnownReplacement → LicenseTerm → Option Addition → Requirement
 sense_of c hs (listed r mark) a =
     sense_behind c hs mark (replaced (only_row c r) a (succeeds hs (only_row c r)))
 sense_of c hs (referred r) a =
     record { license = referred r; addition = option_map (current_addition hs) a }
 
 -- what a requirement means
-abbrev pub sense : Rows → List Heir → Requirement → Requirement
+abbrev pub sense : Rows → List KnownReplacement → Requirement → Requirement
 sense c hs r = sense_of c hs r.license r.addition

@@ -1,18 +1,18 @@
--- What rows, successors and heirs show.
+-- What rows, successors and replacements show.
 use Rattle.std.specs.Prelude.{option_map}
 use Rattle.spdx_requirement.specs.declared.id.LicenseId.{LicenseId}
 use Rattle.spdx_requirement.specs.declared.id.ExceptionId.{ExceptionId}
 use Rattle.spdx_requirement.specs.Rows.{LicenseRow, ExceptionRow}
 use Rattle.spdx_requirement.specs.Ids.{id_row, exception_row}
-use Rattle.spdx_licensee.specs.declared.heirs.Restated.{Restated}
-use Rattle.spdx_licensee.specs.declared.heirs.Successor.{Successor}
-use Rattle.spdx_licensee.specs.declared.heirs.Heir.{Heir}
-use Rattle.spdx_licensee.specs.declared.heirs.Heir.TheVariants as heir
-use Rattle.spdx_licensee.specs.Heirs as rows
+use Rattle.spdx_licensee.specs.declared.replacements.ReplacedName.{ReplacedName}
+use Rattle.spdx_licensee.specs.declared.replacements.Successor.{Successor}
+use Rattle.spdx_licensee.specs.declared.replacements.KnownReplacement.{KnownReplacement}
+use Rattle.spdx_licensee.specs.declared.replacements.KnownReplacement.TheVariants as replacement
+use Rattle.spdx_licensee.specs.Replacements as rows
 
 -- a row shows its two texts
-abbrev pub restated : Restated → rows.Restated
-restated r = record { name = r.name.now; write = r.write.now }
+abbrev pub replaced_name : ReplacedName → rows.ReplacedName
+replaced_name r = record { name = r.name.now; write = r.write.now }
 
 -- a successor shows its rows
 abbrev pub successor : Successor → rows.Successor
@@ -26,7 +26,8 @@ abbrev pub exception_pair : ExceptionId × ExceptionId → ExceptionRow × Excep
 exception_pair f = (exception_row f.0, exception_row f.1)
 
 -- what a row says, as rows
-abbrev pub heir_shown : Heir → rows.Heir
-heir_shown (heir.License old new) = rows.of_license (id_row old) (successor new)
-heir_shown (heir.Exception old new) = rows.of_exception (exception_row old) (exception_row new)
-heir_shown heir.Nothing = rows.of_nothing
+abbrev pub replacement_shown : KnownReplacement → rows.KnownReplacement
+replacement_shown (replacement.License old new) = rows.of_license (id_row old) (successor new)
+replacement_shown (replacement.Exception old new) =
+    rows.of_exception (exception_row old) (exception_row new)
+replacement_shown replacement.Nothing = rows.of_nothing

@@ -11,16 +11,16 @@
 #![tactic(auto)]
 
 mod equality;
-pub mod heirs;
 pub mod licensee;
 mod meaning;
 mod reading;
+pub mod replacements;
 mod serving;
 mod texts;
 mod version;
 
-pub use crate::heirs::{Heirs, Restated};
 pub use crate::licensee::Licensee;
 pub use crate::meaning::sense;
+pub use crate::replacements::{ReplacedName, Replacements};
 pub use crate::serving::{stands_for, stands_for_license, ways};
 pub use crate::texts::{RequirementTexts, texts_of};

@@ -5,29 +5,29 @@ ghost use Rattle.std.specs.Option.{option_copied};
 ghost use Rattle.spdx_requirement.specs.Endings as endings;
 ghost use Rattle.spdx_requirement.specs.Ids.{id_row, exception_row};
 ghost use Rattle.spdx_requirement.specs.Items.{requirement_of, license_of, addition_of};
-ghost use Rattle.spdx_licensee.specs.Heirs as stated;
+ghost use Rattle.spdx_licensee.specs.Replacements as stated;
 ghost use Rattle.spdx_licensee.specs.Sense as spec;
 ghost use Rattle.spdx_licensee.specs.Shown as shown;
 
-use crate::heirs::{Heir, Heirs, Successor};
 use crate::licensee::allows_later;
+use crate::replacements::{KnownReplacement, Replacements, Successor};
 use spdx_catalogue::{AdditionItem, Catalogue, ExceptionId, LicenseId, LicenseItem, LicenseReq};
 use spdx_requirement::endings::has_suffix;
 use std::alloc::{AllocError, Global};
 
 /// What a requirement means: a GNU name without an ending is the one with `-only`, any other
-/// deprecated name is what the heirs state in its place, and `-or-later` is the licence with `-only`
+/// deprecated name is what the replacements state in its place, and `-or-later` is the licence with `-only`
 /// and a mark, where the list has it. A deprecated name stays where nothing is stated in its place;
 /// where that has an addition beside the requirement's own, the requirement's counts. Copies of
 /// references take memory.
 pub fn sense<'c>(
     alloc: Global,
     catalogue: &'c Catalogue,
-    heirs: &Heirs<'c>,
+    replacements: &Replacements<'c>,
     req: &LicenseReq<'c>,
 ) -> Result<LicenseReq<'c>, AllocError>
     ensures { IfOk result (λ means. requirement_of means
-        ≡ spec.sense catalogue.now heirs.now (requirement_of req.now)) }
+        ≡ spec.sense catalogue.now replacements.now (requirement_of req.now)) }
 {
     match &req.license {
         LicenseItem::Other(_) => {
@@ -35,15 +35,15 @@ pub fn sense<'c>(
             let addition = copy_of(alloc, &req.addition)?;
             Ok(LicenseReq {
                 license,
-                addition: current(heirs, addition),
+                addition: current(replacements, addition),
             })
         }
         LicenseItem::Spdx { id, or_later } => {
             let id = only_id(catalogue, *id);
-            let (id, addition) = replaced(alloc, id, &req.addition, heirs.succeeds(id))?;
+            let (id, addition) = replaced(alloc, id, &req.addition, replacements.succeeds(id))?;
             Ok(LicenseReq {
                 license: versions_from(catalogue, id, *or_later),
-                addition: current(heirs, addition),
+                addition: current(replacements, addition),
             })
         }
     }
@@ -97,13 +97,19 @@ fn replaced<'c>(
 }
 
 // An addition that is deprecated gives way to the one that succeeds it.
-fn current<'c>(heirs: &Heirs<'c>, addition: Option<AdditionItem<'c>>) -> Option<AdditionItem<'c>>
+fn current<'c>(
+    replacements: &Replacements<'c>,
+    addition: Option<AdditionItem<'c>>,
+) -> Option<AdditionItem<'c>>
     ensures { option_map addition_of result
-        ≡ option_map (spec.current_addition heirs.now) (option_map addition_of addition.entry) }
+        ≡ option_map (spec.current_addition replacements.now)
+        (option_map addition_of addition.entry) }
 {
     match addition {
         None => None,
-        Some(AdditionItem::Spdx(id)) => Some(AdditionItem::Spdx(heirs.current_exception(id))),
+        Some(AdditionItem::Spdx(id)) => Some(AdditionItem::Spdx(replacements.current_exception(
+            id,
+        ))),
         Some(AdditionItem::Other(reference)) => Some(AdditionItem::Other(reference)),
     }
 }
@@ -146,7 +152,7 @@ fn without_or_later(name: &str) -> Option<&str>
     }
 }
 
-impl<'c> Heirs<'c> {
+impl<'c> Replacements<'c> {
     // What succeeds a licence that is deprecated.
     fn succeeds(&self, id: LicenseId<'c>) -> Option<Successor<'c>>
         ensures { option_map shown.successor result ≡ spec.succeeds self.now (id_row id.entry) }
@@ -163,7 +169,7 @@ impl<'c> Heirs<'c> {
             ≡ stated.successor_of self.now (id_row id.entry) }
     {
         for row in &self.rows {
-            if let Heir::License(old, new) = row
+            if let KnownReplacement::License(old, new) = row
                 && *old == id
             {
                 return Some(*new);
@@ -180,16 +186,16 @@ impl<'c> Heirs<'c> {
         if !id.is_deprecated() {
             return id;
         }
-        self.exception_heir(id).unwrap_or(id)
+        self.exception_replacement(id).unwrap_or(id)
     }
 
     // The exception that succeeds an exception, by the first row that says it.
-    fn exception_heir(&self, id: ExceptionId<'c>) -> Option<ExceptionId<'c>>
+    fn exception_replacement(&self, id: ExceptionId<'c>) -> Option<ExceptionId<'c>>
         ensures { option_map exception_row result
-            ≡ stated.exception_heir self.now (exception_row id.entry) }
+            ≡ stated.exception_replacement self.now (exception_row id.entry) }
     {
         for row in &self.rows {
-            if let Heir::Exception(old, new) = row
+            if let KnownReplacement::Exception(old, new) = row
                 && *old == id
             {
                 return Some(*new);

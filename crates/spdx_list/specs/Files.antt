@@ -23,7 +23,7 @@ pub record EntryRow : Type 0 where
   pub deprecated : Bool
 
 -- what is to be written in place of a name
-pub record InsteadRow : Type 0 where
+pub record ReplacementRow : Type 0 where
   pub name : List ℕ
   pub write : List ℕ
 
@@ -31,7 +31,7 @@ pub record InsteadRow : Type 0 where
 pub record ExtraRows : Type 0 where
   pub copyleft : List (List ℕ)
   pub imprecise : List ImpreciseRow
-  pub instead : List InsteadRow
+  pub instead : List ReplacementRow
 
 -- ---- flags
 
@@ -91,8 +91,8 @@ imprecise_row d =
     (λ name. Ok (record { prefix = prefix; name = name })))
 
 -- what an item says to write in place of a name
-abbrev pub instead_row : Data → Result InsteadRow Member
-instead_row d =
+abbrev pub replacement_row : Data → Result ReplacementRow Member
+replacement_row d =
     need member.Name (text_at (codes "name") d) (λ name.
     need member.Write (text_at (codes "write") d)
     (λ write. Ok (record { name = name; write = write })))
@@ -120,7 +120,7 @@ abbrev pub extras_of : Data → Result ExtraRows ListFault
 extras_of d =
     on_ok (rows_at copyleft_name table.Copyleft (codes "copyleft") d) (λ copyleft.
     on_ok (rows_at imprecise_row table.Imprecise (codes "imprecise") d) (λ imprecise.
-    on_ok (rows_at instead_row table.Instead (codes "instead") d) (λ instead.
+    on_ok (rows_at replacement_row table.Instead (codes "instead") d) (λ instead.
     Ok (record { copyleft = copyleft; imprecise = imprecise; instead = instead }))))
 
 -- what the bytes of the licences hold, or their first fault

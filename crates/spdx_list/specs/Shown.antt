@@ -3,9 +3,9 @@ use Rattle.std.specs.Prelude.{string_bytes, map}
 use Rattle.spdx_requirement.specs.Rows.{imprecise_of}
 use Rattle.spdx_list.specs.declared.tables.item.Entry.{Entry}
 use Rattle.spdx_list.specs.declared.tables.Stated.{Stated}
-use Rattle.spdx_list.specs.declared.extras.Instead.{Instead}
+use Rattle.spdx_list.specs.declared.extras.Replacement.{Replacement}
 use Rattle.spdx_list.specs.declared.extras.Extras.{Extras}
-use Rattle.spdx_list.specs.Files.{EntryRow, StatedRows, InsteadRow, ExtraRows}
+use Rattle.spdx_list.specs.Files.{EntryRow, StatedRows, ReplacementRow, ExtraRows}
 
 -- an entry as bytes and flags
 abbrev pub entry_of : Entry → EntryRow
@@ -23,8 +23,8 @@ abbrev pub shown_stated : Stated → StatedRows
 shown_stated s = record { version = string_bytes s.version; entries = map entry_of s.entries.items }
 
 -- what is written in place of a name, as bytes
-abbrev pub instead_of : Instead → InsteadRow
-instead_of r = record { name = string_bytes r.name; write = string_bytes r.write }
+abbrev pub shown_replacement : Replacement → ReplacementRow
+shown_replacement r = record { name = string_bytes r.name; write = string_bytes r.write }
 
 -- the extras as bytes
 abbrev pub shown_extras : Extras → ExtraRows
@@ -32,5 +32,5 @@ shown_extras x =
     record {
       copyleft = map string_bytes x.copyleft.items;
       imprecise = map imprecise_of x.imprecise.items;
-      instead = map instead_of x.instead.items;
+      instead = map shown_replacement x.instead.items;
     }

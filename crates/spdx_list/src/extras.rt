@@ -4,9 +4,9 @@ ghost use Rattle.std.specs.Prelude.{◌≡◌, [], Ok, Err, IfOk, IfErr, option_
 ghost use Rattle.std.specs.Option.{option_copied};
 ghost use Rattle.serde_json.specs.View.{view};
 ghost use Rattle.spdx_requirement.specs.Failures.{IfRefused};
-ghost use Rattle.spdx_list.specs.Files.{ExtraRows, InsteadRow, extras_of, extras_in};
+ghost use Rattle.spdx_list.specs.Files.{ExtraRows, ReplacementRow, extras_of, extras_in};
 ghost use Rattle.spdx_list.specs.Shown.{shown_extras};
-ghost use Rattle.spdx_list.specs.declared.extras.Instead.{Instead};
+ghost use Rattle.spdx_list.specs.declared.extras.Replacement.{Replacement};
 
 use crate::error::{File, ListFault, Table};
 use crate::json::value_of;
@@ -18,7 +18,7 @@ use std::alloc::Global;
 
 /// What to write in place of a name for which no other single name stands.
 #[derive(Drop)]
-pub struct Instead {
+pub struct Replacement {
     /// The deprecated name, as `GPL-2.0-with-classpath-exception`.
     pub name: String,
     /// What says the same, as `GPL-2.0-only WITH Classpath-exception-2.0`.
@@ -33,12 +33,12 @@ pub struct Extras {
     /// Other spellings of licences' names.
     pub imprecise: Vec<ImpreciseName>,
     /// What to write in place of names.
-    pub instead: Vec<Instead>,
+    pub instead: Vec<Replacement>,
 }
 
-fn row_named<'x>(rows: &'x [Instead], name: &str) -> Option<&'x Instead>
+fn row_named<'x>(rows: &'x [Replacement], name: &str) -> Option<&'x Replacement>
     ensures { option_copied result
-        ≡ find (λ (r : Instead). bytes_eq (string_bytes r.name) name.now) rows.now }
+        ≡ find (λ (r : Replacement). bytes_eq (string_bytes r.name) name.now) rows.now }
 {
     rows.iter().find(|row| row.name.as_str() == name)
 }
@@ -73,9 +73,10 @@ impl Extras {
     }
 
     /// What to write in place of the name, by the first row of just that name.
-    pub fn instead(&self, name: &str) -> Option<&str>
-        ensures { option_copied result ≡ option_map (λ (r : InsteadRow). r.write)
-            (find (λ (r : InsteadRow). bytes_eq r.name name.now) (shown_extras self.now).instead) }
+    pub fn replacement(&self, name: &str) -> Option<&str>
+        ensures { option_copied result ≡ option_map (λ (r : ReplacementRow). r.write)
+            (find (λ (r : ReplacementRow). bytes_eq r.name name.now)
+            (shown_extras self.now).instead) }
     {
         let row = row_named(&self.instead, name)?;
         Some(row.write.as_str())

@@ -21,6 +21,6 @@ pub mod text;
 pub use crate::date::release_date;
 pub use crate::diff::{Listed, RowChange, RowDifferences, differences};
 pub use crate::error::{File, ListFault, Member, Table};
-pub use crate::extras::{Extras, Instead};
+pub use crate::extras::{Extras, Replacement};
 pub use crate::tables::{catalogue_of, tables_of};
 pub use crate::text::{list_text, text_of};

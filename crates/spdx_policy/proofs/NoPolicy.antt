@@ -4,7 +4,7 @@ use Rattle.semver.specs.Parse.{Held, req_of}
 use Rattle.spdx_requirement.specs.Rows.{Rows}
 use Rattle.spdx_requirement.specs.Failures.{IfRefused}
 use Rattle.spdx_requirement.specs.declared.failure.Failure.{Failure}
-use Rattle.spdx_licensee.specs.Heirs.{Heir}
+use Rattle.spdx_licensee.specs.Replacements.{KnownReplacement}
 use Rattle.spdx_policy.specs.declared.error.Place.{Place}
 use Rattle.spdx_policy.specs.declared.error.Section.{Section}
 use Rattle.spdx_policy.specs.declared.error.Key.{Key}
@@ -25,7 +25,7 @@ no_entry c p text (Shape s) blame = absurd blame
 no_entry c p text (UnknownFlag q) blame = absurd blame
 no_entry c p text (NotARange s t e w) blame = absurd blame
 
-no_names : (c : Rows) (hs : List Heir) (s : Section) (k : Key) (texts : List (List ℕ)) (f : PolicyFault) (ns : List NamedRow) → BlamesNames c s k texts f → Each (IsNamed c hs) texts ns → ⊥
+no_names : (c : Rows) (hs : List KnownReplacement) (s : Section) (k : Key) (texts : List (List ℕ)) (f : PolicyFault) (ns : List NamedRow) → BlamesNames c s k texts f → Each (IsNamed c hs) texts ns → ⊥
 no_names c hs s k texts f ns blame all =
     each_none (IsNamed c hs) texts ns blame.0 blame.1 blame.2 (λ n is. no_entry c _ blame.1 f blame.4 is.requirement is.entry) all
 
@@ -50,7 +50,7 @@ no_range s (Some v) (Some range) (NotALicensee q t x y) blame is = blame
 known_flags : (c : Rows) (d : DraftRows) (p : Place) → unknown_flag c d ≡ Some p → unknown_flag c d ≡ None → ⊥
 known_flags c d p e f = let bad : Some p ≡ None = sym e ∙ f in cc
 
-no_meaning : (c : Rows) (hs : List Heir) (d : DraftRows) (f : PolicyFault) → IsRefusedDraft c d f → (p : Rules) → IsMeant c hs d p → ⊥
+no_meaning : (c : Rows) (hs : List KnownReplacement) (d : DraftRows) (f : PolicyFault) → IsRefusedDraft c d f → (p : Rules) → IsMeant c hs d p → ⊥
 no_meaning c hs d _ (by_list q e) p meant = known_flags c d q e meant.flags_known
 no_meaning c hs d f (in_allow read b) p meant = no_names c hs _ _ d.allow f p.allow b meant.allow
 no_meaning c hs d f (in_deny read b) p meant = no_names c hs _ _ d.deny f p.deny b meant.deny
@@ -62,7 +62,7 @@ no_meaning c hs d f (in_clarifications read ranges names b) p meant =
     each_none IsClarified d.clarifications p.clarified b.0 b.1 b.2 (λ s is. no_range _ b.1.versions s.versions f b.4 is.1) meant.clarified
 
 -- a draft with a fault, of a text, is that of no policy
-pub no_policy : (c : Rows) (hs : List Heir) (text : List ℕ) (f : PolicyFault) → HasFault c text f → (p : Rules) → IsPolicyOf c hs text p → ⊥
+pub no_policy : (c : Rows) (hs : List KnownReplacement) (text : List ℕ) (f : PolicyFault) → HasFault c text f → (p : Rules) → IsPolicyOf c hs text p → ⊥
 no_policy c hs text f has p is =
     let one : Some has.members ≡ Some is.members = sym has.document ∙ is.document in
     let members : has.members ≡ is.members = cc in

@@ -141,7 +141,7 @@ decision_among p tables ws =
 
 -- the licences under which a requirement may be had, by the policy's list
 abbrev pub ways_of : Rules → Requirement → List Requirement
-ways_of p r = ways p.list (sense p.list p.heirs r)
+ways_of p r = ways p.list (sense p.list p.replacements r)
 
 -- what the policy says of a requirement
 abbrev pub decision_of : Rules → List ℕ → Requirement → Decision

@@ -14,7 +14,7 @@ use Rattle.spdx_lexer.specs.Words.{Placed, words}
 use Rattle.spdx_parser.specs.Tree.{Leaf}
 use Rattle.spdx_parser.specs.Grammar.{IsTheTree}
 use Rattle.spdx_licensee.specs.LicenseeText.{Names, NamesNone}
-use Rattle.spdx_licensee.specs.Heirs.{Heir}
+use Rattle.spdx_licensee.specs.Replacements.{KnownReplacement}
 use Rattle.spdx_licensee.specs.Sense.{sense}
 use Rattle.spdx_policy.specs.declared.decision.Flag.{Flag}
 use Rattle.spdx_policy.specs.declared.decision.Flag.TheVariants as flag
@@ -67,7 +67,8 @@ pub data IsEntry (c : Rows) (text : List ℕ) (r : Requirement) : Type 0 where
   old : NamesNone c text → IsOldEntry c text r → IsEntry c text r
 
 -- an entry has the text, and what the requirement means that it names
-pub record IsNamed (c : Rows) (hs : List Heir) (text : List ℕ) (n : NamedRow) : Type 0 where
+pub record IsNamed (c : Rows) (hs : List KnownReplacement) (text : List ℕ)
+    (n : NamedRow) : Type 0 where
   pub text_is : n.text ≡ text
   pub requirement : Requirement
   pub entry : IsEntry c text requirement
@@ -83,7 +84,7 @@ IsRange (Some text) None = ⊥
 abbrev pub IsExempted : ExceptionRow → ScopeRow → Type 0
 IsExempted e s = (s.name ≡ e.name) × IsRange e.versions s.versions
 
-abbrev pub IsExempting : Rows → List Heir → ExceptionRow → List NamedRow → Type 0
+abbrev pub IsExempting : Rows → List KnownReplacement → ExceptionRow → List NamedRow → Type 0
 IsExempting c hs e names = Each (IsNamed c hs) e.allow names
 
 abbrev pub IsClarified : ClarifyRow → ScopeRow → Type 0
@@ -114,9 +115,10 @@ abbrev pub unknown_flag : Rows → DraftRows → Option Place
 unknown_flag c d = if knows_copyleft c then None else copyleft_place d
 
 -- the policy that a draft means
-pub record IsMeant (c : Rows) (hs : List Heir) (d : DraftRows) (p : Rules) : Type 0 where
+pub record IsMeant (c : Rows) (hs : List KnownReplacement) (d : DraftRows)
+    (p : Rules) : Type 0 where
   pub list : p.list ≡ c
-  pub heirs : p.heirs ≡ hs
+  pub replacements : p.replacements ≡ hs
   pub flags_known : unknown_flag c d ≡ None
   pub lax : p.lax ≡ d.lax
   pub unstated : p.unstated ≡ d.unstated
@@ -131,7 +133,8 @@ pub record IsMeant (c : Rows) (hs : List Heir) (d : DraftRows) (p : Rules) : Typ
   pub expressions : p.expressions ≡ map expression d.clarifications
 
 -- the policy that a text means
-pub record IsPolicyOf (c : Rows) (hs : List Heir) (text : List ℕ) (p : Rules) : Type 0 where
+pub record IsPolicyOf (c : Rows) (hs : List KnownReplacement) (text : List ℕ)
+    (p : Rules) : Type 0 where
   pub utf8 : IsUtf8 text
   pub members : Members
   pub document : parse_document text ≡ Some members

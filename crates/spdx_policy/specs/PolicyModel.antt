@@ -14,7 +14,7 @@ named_rows names = map named_row names.items
 abbrev pub rules_shown : Inside → Rules
 rules_shown p = record {
   list = p.catalogue.now;
-  heirs = p.heirs;
+  replacements = p.replacements;
   lax = p.lax;
   unstated = p.unstated;
   allow = map named_row p.allow.items;

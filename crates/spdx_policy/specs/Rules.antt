@@ -2,7 +2,7 @@
 use Rattle.std.specs.Prelude.{ℕ, Bool, List, [], Option, option_map, slice_get, unwrap_or, codes}
 use Rattle.spdx_requirement.specs.Items.{Requirement}
 use Rattle.spdx_requirement.specs.Rows.{Rows}
-use Rattle.spdx_licensee.specs.Heirs.{Heir}
+use Rattle.spdx_licensee.specs.Replacements.{KnownReplacement}
 use Rattle.spdx_policy.specs.declared.decision.Flag.{Flag}
 use Rattle.spdx_policy.specs.declared.decision.Flag.TheVariants as flag
 use Rattle.spdx_policy.specs.declared.decision.Entry.{Entry}
@@ -17,10 +17,10 @@ pub record NamedRow : Type 0 where
 -- The lists in the order of the file. `exempted` has the packages of the exceptions, `exempting`
 -- what each of them allows and `reasons` why; `clarified` has the packages of the clarifications,
 -- and `expressions` what each of them says. `list` is the list of licences that the file was read
--- by, and `heirs` what stands in the place of its deprecated names.
+-- by, and `replacements` what stands in the place of its deprecated names.
 pub record Rules : Type 0 where
   pub list : Rows
-  pub heirs : List Heir
+  pub replacements : List KnownReplacement
   pub lax : Bool
   pub unstated : Bool
   pub allow : List NamedRow

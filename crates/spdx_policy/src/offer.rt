@@ -58,7 +58,7 @@ impl<'c> Policy<'c> {
         ensures { IfOk result (λ found. map requirement_of found.items
             ≡ spec.ways_of self.now (requirement_of req.now)) }
     {
-        let sense = sense(alloc, self.catalogue, &self.heirs, req)?;
+        let sense = sense(alloc, self.catalogue, &self.replacements, req)?;
         ways(alloc, self.catalogue, &sense)
     }
 
@@ -81,13 +81,19 @@ impl<'c> Policy<'c> {
         way: &LicenseReq<'_>,
     ) -> Result<Option<Offer<'c>>, AllocError>
         ensures some { IfOk result (λ found. IfSome found (λ offer. IsNamed self.now.list
-            self.now.heirs (requirement_text (requirement_of way.now)) offer)) }
+            self.now.replacements (requirement_text (requirement_of way.now)) offer)) }
         ensures none { IfOk result (λ found. IfNone found (IsNoEntry self.now.list
             (requirement_text (requirement_of way.now)))) }
     {
         let text = format!(in alloc; "{way}")?;
         let place = Place::one(Section::Policy, Key::Allow, 0);
-        match name_of(alloc, self.catalogue, &self.heirs, place, text.as_str()) {
+        match name_of(
+            alloc,
+            self.catalogue,
+            &self.replacements,
+            place,
+            text.as_str(),
+        ) {
             Ok(named) => Ok(Some(Offer { named })),
             Err(Failure::Refused(_)) => Ok(None),
             Err(Failure::Memory(error)) => Err(error),

@@ -10,7 +10,7 @@ use crate::decision::{Entry, Flag};
 use crate::named::Named;
 use crate::scopes::Scopes;
 use spdx_catalogue::Catalogue;
-use spdx_licensee::Heirs;
+use spdx_licensee::Replacements;
 use std::alloc::{AllocError, Global};
 use std::marker::Model;
 
@@ -19,7 +19,7 @@ use std::marker::Model;
 #[derive(Drop)]
 pub struct Policy<'c> {
     pub(crate) catalogue: &'c Catalogue,
-    pub(crate) heirs: Heirs<'c>,
+    pub(crate) replacements: Replacements<'c>,
     pub(crate) lax: bool,
     pub(crate) unstated: bool,
     pub(crate) allow: Vec<Named<'c>>,

@@ -29,7 +29,7 @@ use crate::scopes::Scope;
 use semver::{Error, VersionReq};
 use spdx_catalogue::{Catalogue, LicenseItem, LicenseReq};
 use spdx_lexer::{ParseError, ParseMode, Reason};
-use spdx_licensee::{Heirs, Licensee, sense};
+use spdx_licensee::{Licensee, Replacements, sense};
 use spdx_parser::node::ExprNode;
 use spdx_parser::parse_nodes;
 use spdx_requirement::failure::Failure;
@@ -40,17 +40,17 @@ use std::ops::Range;
 pub(crate) fn name_of<'c>(
     alloc: Global,
     catalogue: &'c Catalogue,
-    heirs: &Heirs<'c>,
+    replacements: &Replacements<'c>,
     place: Place,
     text: &str,
 ) -> Result<Named<'c>, Failure<PolicyFault>>
-    ensures ok { IfOk result (λ n. IsNamed catalogue.now heirs.now text.now (named_row n)) }
+    ensures ok { IfOk result (λ n. IsNamed catalogue.now replacements.now text.now (named_row n)) }
     ensures err { IfErr result (IfRefused (BlamesName catalogue.now place text.now)) }
 {
     let req = entry_of(alloc, catalogue, place, text)?;
     Ok(Named {
         text: String::from_str(alloc, text)?,
-        sense: sense(alloc, catalogue, heirs, &req)?,
+        sense: sense(alloc, catalogue, replacements, &req)?,
     })
 }
 
@@ -145,20 +145,21 @@ fn is_marked(license: &LicenseItem<'_>) -> bool
 pub(crate) fn names_of<'c>(
     alloc: Global,
     catalogue: &'c Catalogue,
-    heirs: &Heirs<'c>,
+    replacements: &Replacements<'c>,
     section: Section,
     key: Key,
     texts: &[String],
 ) -> Result<Vec<Named<'c>>, Failure<PolicyFault>>
     ensures ok { IfOk result (λ names.
-        Each (IsNamed catalogue.now heirs.now) (map string_bytes texts.now) (named_rows names)) }
+        Each (IsNamed catalogue.now replacements.now) (map string_bytes texts.now)
+        (named_rows names)) }
     ensures err { IfErr result (IfRefused (
         BlamesNames catalogue.now section key (map string_bytes texts.now))) }
 {
     let mut names = Vec::new(alloc);
     for (index, text) in texts.iter().enumerate() {
         let place = Place::one(section, key, index);
-        names.push(name_of(alloc, catalogue, heirs, place, text.as_str())?)?;
+        names.push(name_of(alloc, catalogue, replacements, place, text.as_str())?)?;
     }
     Ok(names)
 }
@@ -259,19 +260,20 @@ pub(crate) fn exempted_of(
 fn exempting_in<'c>(
     alloc: Global,
     catalogue: &'c Catalogue,
-    heirs: &Heirs<'c>,
+    replacements: &Replacements<'c>,
     number: usize,
     exception: &ExceptionDraft,
 ) -> Result<Vec<Named<'c>>, Failure<PolicyFault>>
     ensures ok { IfOk result (λ names.
-        IsExempting catalogue.now heirs.now (exception_row exception.now) (named_rows names)) }
+        IsExempting catalogue.now replacements.now (exception_row exception.now)
+        (named_rows names)) }
     ensures err { IfErr result (IfRefused (BlamesNames catalogue.now (Section.Exception number)
         Key.Allow (exception_row exception.now).allow)) }
 {
     names_of(
         alloc,
         catalogue,
-        heirs,
+        replacements,
         Section::Exception(number),
         Key::Allow,
         &exception.allow,
@@ -282,17 +284,17 @@ fn exempting_in<'c>(
 pub(crate) fn exempting_of<'c>(
     alloc: Global,
     catalogue: &'c Catalogue,
-    heirs: &Heirs<'c>,
+    replacements: &Replacements<'c>,
     exceptions: &[ExceptionDraft],
 ) -> Result<Vec<Vec<Named<'c>>>, Failure<PolicyFault>>
-    ensures ok { IfOk result (λ lists. Each (IsExempting catalogue.now heirs.now)
+    ensures ok { IfOk result (λ lists. Each (IsExempting catalogue.now replacements.now)
         (map exception_row exceptions.now) (map named_rows lists.items)) }
     ensures err { IfErr result (IfRefused (
         BlamesExempting catalogue.now (map exception_row exceptions.now))) }
 {
     let mut lists = Vec::new(alloc);
     for (index, exception) in exceptions.iter().enumerate() {
-        lists.push(exempting_in(alloc, catalogue, heirs, index, exception)?)?;
+        lists.push(exempting_in(alloc, catalogue, replacements, index, exception)?)?;
     }
     Ok(lists)
 }

@@ -36,7 +36,7 @@ use Rattle.spdx_words.specs.declared.request.MakeRequest.{MakeRequest}
 use Rattle.spdx_words.specs.declared.request.ShowRequest.{ShowRequest}
 use Rattle.spdx_words.specs.declared.request.SimplifyRequest.{SimplifyRequest}
 use Rattle.spdx_program.specs.Asked.{IsAskedOf, IsShowAsked, changes_of, check_of, compare_of, fix_of, gate_of, lists_of, make_of, notice_of, simplify_of}
-use Rattle.spdx_program.specs.Ends.{Ends, IsChangesEnd, IsChangesStopped, IsCheckEnd, IsCheckStopped, IsCompareStopped, IsEnd, IsGateEnd, IsGateStopped, IsListsStopped, IsNoticeEnd, IsNoticeStopped, IsShowStopped, IsSimplifyStopped, World, alone, caused, changed_end, heirs_in, list_in, noticed_end, passed, paths_in, stopped}
+use Rattle.spdx_program.specs.Ends.{Ends, IsChangesEnd, IsChangesStopped, IsCheckEnd, IsCheckStopped, IsCompareStopped, IsEnd, IsGateEnd, IsGateStopped, IsListsStopped, IsNoticeEnd, IsNoticeStopped, IsShowStopped, IsSimplifyStopped, World, alone, caused, changed_end, list_in, noticed_end, passed, paths_in, replacements_in, stopped}
 use Rattle.spdx_program.specs.Requests.{DoesChanges, DoesCheck, DoesCompare, DoesFix, DoesGate, DoesLists, DoesMake, DoesNotice, DoesShow, DoesSimplify, IfWritten, IsFixed, Quietly, idle, nowhere}
 use Rattle.spdx_program.specs.declared.ended.Ended.{Ended}
 
@@ -114,12 +114,12 @@ simplify_done w r a out out' h h' got answer asked is ok err = (
 
 pub show_done : (w : World) (r : ShowRequest) (a : show_asked.Asked) (out out' : Told) (h h' : Account Trouble) (got : Result ℕ Trouble) (answer : Result Ended Trouble)
     → IsShowAsked r a → answer ≡ alone got
-    → IfOk got (λ status. Does out out' h h' (λ text told. IsShow w.shelf (list_in w) (heirs_in w) a text told status))
+    → IfOk got (λ status. Does out out' h h' (λ text told. IsShow w.shelf (list_in w) (replacements_in w) a text told status))
     → IfErr got (IsShowStopped w a out out' h h') → DoesShow w r out out' h h' answer
 show_done w r a out out' h h' got answer asked is ok err = (
   a,
   asked,
-  alone_end (λ status. Does out out' h h' (λ text told. IsShow w.shelf (list_in w) (heirs_in w) a text told status))
+  alone_end (λ status. Does out out' h h' (λ text told. IsShow w.shelf (list_in w) (replacements_in w) a text told status))
       (IsShowStopped w a out out' h h') got answer is ok err,
 )
 
@@ -131,17 +131,17 @@ make_done s r out out' got status answer was is ok err =
 
 pub lists_done : (w : World) (r : DiffRequest) (out out' : Told) (got : Result (Unit {0}) Trouble) (status : Result ℕ Trouble) (answer : Result Ended Trouble)
     → status ≡ passed got → answer ≡ alone status
-    → IfOk got (λ _. Writes out out' (lists.IsDiff w.shelf (list_in w) (heirs_in w) (lists_of r)))
+    → IfOk got (λ _. Writes out out' (lists.IsDiff w.shelf (list_in w) (replacements_in w) (lists_of r)))
     → IfErr got (IsListsStopped w (lists_of r) out out') → DoesLists w r out out' answer
 lists_done w r out out' got status answer was is ok err =
-    passed_end (Writes out out' (lists.IsDiff w.shelf (list_in w) (heirs_in w) (lists_of r)))
+    passed_end (Writes out out' (lists.IsDiff w.shelf (list_in w) (replacements_in w) (lists_of r)))
     (IsListsStopped w (lists_of r) out out') got status answer was is ok err
 
 pub gate_done : (w : World) (a : gate_asked.Asked) (out out' : Told) (h h' : Account Trouble) (got : Result ℕ Trouble) (answer : Result Ended Trouble) → answer ≡ alone got
-    → IfOk got (λ status. Does out out' h h' (λ text told. IsGate w.shelf (list_in w) (heirs_in w) a text told status))
+    → IfOk got (λ status. Does out out' h h' (λ text told. IsGate w.shelf (list_in w) (replacements_in w) a text told status))
     → IfErr got (IsGateStopped w a out out' h h') → IsGateEnd w a out out' h h' answer
 gate_done w a out out' h h' got answer is ok err =
-    alone_end (λ status. Does out out' h h' (λ text told. IsGate w.shelf (list_in w) (heirs_in w) a text told status))
+    alone_end (λ status. Does out out' h h' (λ text told. IsGate w.shelf (list_in w) (replacements_in w) a text told status))
     (IsGateStopped w a out out' h h') got answer is ok err
 
 pub gate_quiet : (w : World) (colours : Bool) (r : GateRequest) (a : gate_asked.Asked) (out : Told) (h h' : Account Trouble) (answer : Result Ended Trouble)
@@ -156,7 +156,7 @@ gate_told w colours r a out out' h h' answer asked is end =
 
 pub changes_done : (w : World) (r : ChangesRequest) (a : AskedDiff) (out out' : Told) (h h' : Account Trouble) (got : Result Changed Trouble) (answer : Result Ended Trouble)
     → a ≡ changes_of r → answer ≡ changed_end got
-    → IfOk got (λ c. Does out out' h h' (λ text told. IsDiff w.shelf (list_in w) (heirs_in w) a text told c))
+    → IfOk got (λ c. Does out out' h h' (λ text told. IsDiff w.shelf (list_in w) (replacements_in w) a text told c))
     → IfErr got (IsChangesStopped w a out out' h h') → DoesChanges w r out out' h h' answer
 changes_done w r a out out' h h' (Ok c) answer asked is ok err =
     subst (λ (b : AskedDiff). IsChangesEnd w b out out' h h' answer) asked (subst (IsChangesEnd w a out out' h h') (sym is) ok)
@@ -165,7 +165,7 @@ changes_done w r a out out' h h' (Err t) answer asked is ok err =
 
 pub notice_done : (w : World) (r : NoticeRequest) (a : notice_asked.Request) (out out' : Told) (h h' : Account Trouble) (got : Result Noticed Trouble) (answer : Result Ended Trouble)
     → IsAskedOf r.paths.items (notice_of r) a → answer ≡ noticed_end got
-    → IfOk got (λ n. Does out out' h h' (λ text told. IsNotice w.shelf (list_in w) (heirs_in w) a text told n))
+    → IfOk got (λ n. Does out out' h h' (λ text told. IsNotice w.shelf (list_in w) (replacements_in w) a text told n))
     → IfErr got (IsNoticeStopped w a out out' h h') → DoesNotice w r out out' h h' answer
 notice_done w r a out out' h h' (Ok n) answer asked is ok err = (a, asked, subst (IsNoticeEnd w a out out' h h') (sym is) ok)
 notice_done w r a out out' h h' (Err t) answer asked is ok err = (a, asked, subst (IsNoticeEnd w a out out' h h') (sym is) err)

@@ -46,7 +46,7 @@ use Rattle.spdx_words.specs.declared.request.FixRequest.{FixRequest}
 use Rattle.spdx_words.specs.declared.request.Request.{Request}
 use Rattle.spdx_words.specs.declared.request.Request.TheVariants as request
 use Rattle.spdx_program.specs.Asked.{changes_of, compare_of}
-use Rattle.spdx_program.specs.Ends.{IsCheckEnd, IsGateEnd, World, changed, heirs_in, list_in, noticed}
+use Rattle.spdx_program.specs.Ends.{IsCheckEnd, IsGateEnd, World, changed, list_in, noticed, replacements_in}
 use Rattle.spdx_program.specs.Requests.{DoesCheck, DoesFix, DoesGate, IfWritten, IsFixed, Performs, Quietly, Side, idle, nowhere, stand_of}
 use Rattle.spdx_program.specs.declared.ended.Ended.{Ended}
 
@@ -82,9 +82,9 @@ unlisted_low : (unlisted : List Unlisted) → show.status_by unlisted < 4
 unlisted_low [] = omega arith
 unlisted_low (u ∷ us) = omega arith
 
-show_ends : (s : Shelved) (inside : InsideBytes) (heirs : List ℕ) (a : show_asked.Asked) (out out' : Told) (h h' : Account Trouble) (status : ℕ)
-    → Does out out' h h' (λ text told. IsShow s inside heirs a text told status) → status < 4
-show_ends s inside heirs a out out' h h' status d = as_is status _ d.is.status_is (unlisted_low _)
+show_ends : (s : Shelved) (inside : InsideBytes) (replacements : List ℕ) (a : show_asked.Asked) (out out' : Told) (h h' : Account Trouble) (status : ℕ)
+    → Does out out' h h' (λ text told. IsShow s inside replacements a text told status) → status < 4
+show_ends s inside replacements a out out' h h' status d = as_is status _ d.is.status_is (unlisted_low _)
 
 gate_low : (left_out : List FileFault) (e : End) → gate.status_by left_out e < 4
 gate_low [] end.NoFile = omega arith
@@ -93,9 +93,9 @@ gate_low [] (end.Told text) = none_one text.is_passed
 gate_low [] (end.NoPackage text) = omega arith
 gate_low (f ∷ fs) e = omega arith
 
-gate_ends : (s : Shelved) (inside : InsideBytes) (heirs : List ℕ) (a : gate_asked.Asked) (out out' : Told) (h h' : Account Trouble) (status : ℕ)
-    → Does out out' h h' (λ text told. IsGate s inside heirs a text told status) → status < 4
-gate_ends s inside heirs a out out' h h' status d = as_is status _ d.is.status_is (gate_low _ _)
+gate_ends : (s : Shelved) (inside : InsideBytes) (replacements : List ℕ) (a : gate_asked.Asked) (out out' : Told) (h h' : Account Trouble) (status : ℕ)
+    → Does out out' h h' (λ text told. IsGate s inside replacements a text told status) → status < 4
+gate_ends s inside replacements a out out' h h' status d = as_is status _ d.is.status_is (gate_low _ _)
 
 status_low : (t : Trouble) → status_of t < 4
 status_low (told.Unreadable n e) = omega arith
@@ -150,9 +150,9 @@ changes_low : (told : Option changes_told.Told) → changes.status_by told < 4
 changes_low None = omega arith
 changes_low (Some told) = one_none told.is_refused
 
-diff_ends : (s : Shelved) (inside : InsideBytes) (heirs : List ℕ) (a : AskedDiff) (out out' : Told) (h h' : Account Trouble) (changed : Changed)
-    → Does out out' h h' (λ text told. IsDiff s inside heirs a text told changed) → changed.status < 4
-diff_ends s inside heirs a out out' h h' changed d = as_is changed.status _ d.is.status_is (changes_low _)
+diff_ends : (s : Shelved) (inside : InsideBytes) (replacements : List ℕ) (a : AskedDiff) (out out' : Told) (h h' : Account Trouble) (changed : Changed)
+    → Does out out' h h' (λ text told. IsDiff s inside replacements a text told changed) → changed.status < 4
+diff_ends s inside replacements a out out' h h' changed d = as_is changed.status _ d.is.status_is (changes_low _)
 
 choice_low : (t : ChoiceTrouble) → notice.choice_status t < 4
 choice_low (trouble.NoChoices us) = omega arith
@@ -174,9 +174,9 @@ notice_low (ends.NoGeneral ts) = omega arith
 notice_low (ends.NotUtf8 n) = omega arith
 notice_low (ends.Told n) = page_low n.page
 
-notice_ends : (s : Shelved) (inside : InsideBytes) (heirs : List ℕ) (a : notice_asked.Request) (out out' : Told) (h h' : Account Trouble) (noticed : Noticed)
-    → Does out out' h h' (λ text told. IsNotice s inside heirs a text told noticed) → noticed.status < 4
-notice_ends s inside heirs a out out' h h' noticed d = as_is noticed.status _ d.is.status_is (notice_low _)
+notice_ends : (s : Shelved) (inside : InsideBytes) (replacements : List ℕ) (a : notice_asked.Request) (out out' : Told) (h h' : Account Trouble) (noticed : Noticed)
+    → Does out out' h h' (λ text told. IsNotice s inside replacements a text told noticed) → noticed.status < 4
+notice_ends s inside replacements a out out' h h' noticed d = as_is noticed.status _ d.is.status_is (notice_low _)
 
 none_low : (status : ℕ) → status ≡ 0 → status < 4
 none_low status is = as_is status 0 is (omega arith)
@@ -194,7 +194,7 @@ check_low w r colours out out' h h' e does =
 gate_low_end : (w : World) (r : GateRequest) (colours : Bool) (out out' : Told) (h h' : Account Trouble) (e : Ended) → DoesGate w colours r out out' h h' (Ok e) → e.status < 4
 gate_low_end w r colours out out' h h' e does =
     let (o, o', end) = quietly r.quiet out out' (λ o o'. IsGateEnd w does.0 o o' h h' (Ok e)) does.2 in
-    gate_ends w.shelf (list_in w) (heirs_in w) does.0 o o' h h' e.status end.is
+    gate_ends w.shelf (list_in w) (replacements_in w) does.0 o o' h h' e.status end.is
 
 -- whether files are written or not, it ends so of some stands
 if_written : (write : Bool) (x y : Stand) (Is : Stand → Stand → Type 0) → IfWritten write x y Is → (x' : Stand) × (y' : Stand) × Is x' y'
@@ -210,11 +210,11 @@ pub low : (w : World) (colours : Bool) (r : Request) (x y : Side) (answer : Resu
 low w colours (request.Check r) x y (Ok e) does = check_low w r colours x.output y.output x.noted y.noted e does
 low w colours (request.Fix r) x y (Ok e) does = fix_low w r (stand_of x) (stand_of y) e does
 low w colours (request.Gate r) x y (Ok e) does = gate_low_end w r colours x.output y.output x.heard y.heard e does
-low w colours (request.Notice r) x y (Ok e) does = notice_ends w.shelf (list_in w) (heirs_in w) does.0 x.output y.output x.heard y.heard (noticed e) does.2
+low w colours (request.Notice r) x y (Ok e) does = notice_ends w.shelf (list_in w) (replacements_in w) does.0 x.output y.output x.heard y.heard (noticed e) does.2
 low w colours (request.Compare r) x y (Ok e) does = compare_ends w.shelf (list_in w) (compare_of r) x.output y.output e.status does.0.is
 low w colours (request.Simplify r) x y (Ok e) does = simplify_ends w.shelf (list_in w) does.0 x.output y.output x.heard y.heard e.status does.2.is
-low w colours (request.Show r) x y (Ok e) does = show_ends w.shelf (list_in w) (heirs_in w) does.0 x.output y.output x.heard y.heard e.status does.2.is
+low w colours (request.Show r) x y (Ok e) does = show_ends w.shelf (list_in w) (replacements_in w) does.0 x.output y.output x.heard y.heard e.status does.2.is
 low w colours (request.Make r) x y (Ok e) does = none_low e.status does.0.is.0
 low w colours (request.Diff r) x y (Ok e) does = none_low e.status does.0.is.0
-low w colours (request.Changes r) x y (Ok e) does = diff_ends w.shelf (list_in w) (heirs_in w) (changes_of r) x.output y.output x.heard y.heard (changed e) does
+low w colours (request.Changes r) x y (Ok e) does = diff_ends w.shelf (list_in w) (replacements_in w) (changes_of r) x.output y.output x.heard y.heard (changed e) does
 low w colours r x y (Err t) does = tt

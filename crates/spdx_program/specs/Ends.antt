@@ -55,8 +55,8 @@ world shelf inside = record { shelf = shelf; inside = inside }
 abbrev pub list_in : World → InsideBytes
 list_in w = inside_of w.inside.list.list.now w.inside.list.extras.now
 
-abbrev pub heirs_in : World → List ℕ
-heirs_in w = w.inside.heirs.now
+abbrev pub replacements_in : World → List ℕ
+replacements_in w = w.inside.replacements.now
 
 -- ---- how it ends
 
@@ -146,14 +146,14 @@ IsSimplifyEnd w a out out' heard heard' answer =
 abbrev pub IsShowStopped : World → show_asked.Asked → Told → Told → Account Trouble →
     Account Trouble → Trouble → Type 0
 IsShowStopped w a out out' heard heard' t =
-    IsStopped list_trouble (show.IsNotShown w.shelf (list_in w) (heirs_in w) a)
-    (SaysShown w.shelf (list_in w) (heirs_in w) a) out out' heard heard' t
+    IsStopped list_trouble (show.IsNotShown w.shelf (list_in w) (replacements_in w) a)
+    (SaysShown w.shelf (list_in w) (replacements_in w) a) out out' heard heard' t
 
 abbrev pub IsShowEnd : World → show_asked.Asked → Told → Told → Account Trouble →
     Account Trouble → Result Ended Trouble → Type 0
 IsShowEnd w a out out' heard heard' answer =
     Ends (IsEnd (λ status. Does out out' heard heard' (λ text told.
-    IsShow w.shelf (list_in w) (heirs_in w) a text told status)))
+    IsShow w.shelf (list_in w) (replacements_in w) a text told status)))
     (IsShowStopped w a out out' heard heard') answer
 
 abbrev pub paths_in : MadeOf → MadePaths
@@ -166,50 +166,50 @@ IsMakeEnd s a out out' answer =
 
 abbrev pub IsListsStopped : World → Lists → Told → Told → Trouble → Type 0
 IsListsStopped w a out out' t =
-    IsStopped list_trouble (lists.IsNoDiff w.shelf (list_in w) (heirs_in w) a)
-    (SaysDiffer w.shelf (list_in w) (heirs_in w) a) out out' unkept unkept t
+    IsStopped list_trouble (lists.IsNoDiff w.shelf (list_in w) (replacements_in w) a)
+    (SaysDiffer w.shelf (list_in w) (replacements_in w) a) out out' unkept unkept t
 
 abbrev pub IsListsEnd : World → Lists → Told → Told → Result Ended Trouble → Type 0
 IsListsEnd w a out out' answer =
     Ends (IsEnd (λ status. (status ≡ 0) × Writes out out'
-    (lists.IsDiff w.shelf (list_in w) (heirs_in w) a)))
+    (lists.IsDiff w.shelf (list_in w) (replacements_in w) a)))
     (IsListsStopped w a out out') answer
 
 abbrev pub IsGateStopped : World → gate_asked.Asked → Told → Told → Account Trouble →
     Account Trouble → Trouble → Type 0
 IsGateStopped w a out out' heard heard' t =
-    IsStopped gate_trouble (gate.IsNoRun w.shelf (list_in w) (heirs_in w) a.run)
-    (SaysGate w.shelf (list_in w) (heirs_in w) a) out out' heard heard' t
+    IsStopped gate_trouble (gate.IsNoRun w.shelf (list_in w) (replacements_in w) a.run)
+    (SaysGate w.shelf (list_in w) (replacements_in w) a) out out' heard heard' t
 
 abbrev pub IsGateEnd : World → gate_asked.Asked → Told → Told → Account Trouble →
     Account Trouble → Result Ended Trouble → Type 0
 IsGateEnd w a out out' heard heard' answer =
     Ends (IsEnd (λ status. Does out out' heard heard' (λ text told.
-    IsGate w.shelf (list_in w) (heirs_in w) a text told status)))
+    IsGate w.shelf (list_in w) (replacements_in w) a text told status)))
     (IsGateStopped w a out out' heard heard') answer
 
 abbrev pub IsChangesStopped : World → AskedDiff → Told → Told → Account Trouble →
     Account Trouble → Trouble → Type 0
 IsChangesStopped w a out out' heard heard' t =
-    IsStopped gate_trouble (changes.IsNoRun w.shelf (list_in w) (heirs_in w) a.run)
-    (SaysDiff w.shelf (list_in w) (heirs_in w) a) out out' heard heard' t
+    IsStopped gate_trouble (changes.IsNoRun w.shelf (list_in w) (replacements_in w) a.run)
+    (SaysDiff w.shelf (list_in w) (replacements_in w) a) out out' heard heard' t
 
 abbrev pub IsChangesEnd : World → AskedDiff → Told → Told → Account Trouble →
     Account Trouble → Result Ended Trouble → Type 0
 IsChangesEnd w a out out' heard heard' answer =
     Ends (λ e. Does out out' heard heard' (λ text told.
-    IsDiff w.shelf (list_in w) (heirs_in w) a text told (changed e)))
+    IsDiff w.shelf (list_in w) (replacements_in w) a text told (changed e)))
     (IsChangesStopped w a out out' heard heard') answer
 
 abbrev pub IsNoticeStopped : World → notice_asked.Request → Told → Told → Account Trouble →
     Account Trouble → Trouble → Type 0
 IsNoticeStopped w a out out' heard heard' t =
     IsStopped notice_trouble (notice.IsNoRun w.shelf (list_in w) a)
-    (SaysNotice w.shelf (list_in w) (heirs_in w) a) out out' heard heard' t
+    (SaysNotice w.shelf (list_in w) (replacements_in w) a) out out' heard heard' t
 
 abbrev pub IsNoticeEnd : World → notice_asked.Request → Told → Told → Account Trouble →
     Account Trouble → Result Ended Trouble → Type 0
 IsNoticeEnd w a out out' heard heard' answer =
     Ends (λ e. Does out out' heard heard' (λ text told.
-    IsNotice w.shelf (list_in w) (heirs_in w) a text told (noticed e)))
+    IsNotice w.shelf (list_in w) (replacements_in w) a text told (noticed e)))
     (IsNoticeStopped w a out out' heard heard') answer

@@ -70,7 +70,7 @@ file_trouble file.Memory = trouble.Memory
 abbrev pub policy_trouble : PolicyTrouble → Trouble
 policy_trouble (policy.Unreadable n e) = of_path n e
 policy_trouble (policy.NoPolicy n fault) = trouble.Policy n fault
-policy_trouble (policy.NoHeirs fault) = trouble.NoExtras fault
+policy_trouble (policy.NoReplacements fault) = trouble.NoExtras fault
 policy_trouble policy.Memory = trouble.Memory
 
 abbrev pub gate_trouble : GateTrouble → Trouble

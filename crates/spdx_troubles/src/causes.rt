@@ -91,7 +91,7 @@ impl From<PolicyTrouble> for Trouble {
         match trouble {
             PolicyTrouble::Unreadable(path, error) => Trouble::of_path(path, error),
             PolicyTrouble::NoPolicy(path, fault) => Trouble::Policy(path, fault),
-            PolicyTrouble::NoHeirs(fault) => Trouble::NoExtras(fault),
+            PolicyTrouble::NoReplacements(fault) => Trouble::NoExtras(fault),
             PolicyTrouble::Memory => Trouble::Memory,
         }
     }

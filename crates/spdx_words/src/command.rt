@@ -279,7 +279,7 @@ pub(crate) fn make<'a>(alloc: Global) -> Result<Command<'a>, AllocError>
             alloc,
             "extras",
             "FILE",
-            "Copyleft names, imprecise names and heirs of old names",
+            "Copyleft names, imprecise names and replacements of old names",
         ))
 }
 

@@ -30,11 +30,11 @@ use std::process::ExitCode;
 use std::{env, fs, io};
 use test_rows::Tally;
 
-fn tell(rt: &HostRuntime, way: Way, row: &str, shown: Shown) -> io::Result<()> {
+fn print_row(rt: &HostRuntime, way: Way, row: &str, shown: Shown) -> io::Result<()> {
     println!(rt; "{way}, {row}: {shown}")
 }
 
-fn tell_of_part(rt: &HostRuntime, row: &str, asked: Asked) -> io::Result<()> {
+fn print_part(rt: &HostRuntime, row: &str, asked: Asked) -> io::Result<()> {
     match asked {
         Some(count) => println!(rt; "{row}: asked {count} times"),
         None => println!(rt; "{row}: differs"),
@@ -43,54 +43,54 @@ fn tell_of_part(rt: &HostRuntime, row: &str, asked: Asked) -> io::Result<()> {
 
 fn try_writers(rt: &HostRuntime, judge: &Judge<'_>, way: Way) -> io::Result<()> {
     let all = usize::MAX;
-    tell(
+    print_row(
         rt,
         way,
         "all is read and written",
         writers::whole(judge, way, &LAX),
     )?;
     let shown = writers::cut_short(judge, way, all, Full::Error);
-    tell(rt, way, "a writer fails after k bytes", shown)?;
+    print_row(rt, way, "a writer fails after k bytes", shown)?;
     let shown = writers::cut_short(judge, way, 1, Full::Error);
-    tell(rt, way, "a writer of single bytes fails after k", shown)?;
+    print_row(rt, way, "a writer of single bytes fails after k", shown)?;
     let shown = writers::cut_short(judge, way, all, Full::NoByte);
-    tell(rt, way, "a writer takes no byte after k", shown)?;
-    tell(rt, way, "a flush fails", writers::unflushed(judge, way))
+    print_row(rt, way, "a writer takes no byte after k", shown)?;
+    print_row(rt, way, "a flush fails", writers::unflushed(judge, way))
 }
 
 fn try_readers(rt: &HostRuntime, judge: &Judge<'_>, way: Way) -> io::Result<()> {
     let all = usize::MAX;
     let shown = readers::broken_off(judge, way, all);
-    tell(rt, way, "a reader fails after k bytes", shown)?;
+    print_row(rt, way, "a reader fails after k bytes", shown)?;
     let shown = readers::broken_off(judge, way, 1);
-    tell(rt, way, "a reader of single bytes fails after k", shown)?;
+    print_row(rt, way, "a reader of single bytes fails after k", shown)?;
     let shown = readers::cut_off(judge, way, all)?;
-    tell(rt, way, "the input ends after k bytes", shown)?;
+    print_row(rt, way, "the input ends after k bytes", shown)?;
     let shown = readers::cut_off(judge, way, 1)?;
-    tell(rt, way, "the input ends after k single bytes", shown)?;
+    print_row(rt, way, "the input ends after k single bytes", shown)?;
     let shown = again::failed_input(judge, way);
-    tell(rt, way, "a second run on a failed input", shown)?;
+    print_row(rt, way, "a second run on a failed input", shown)?;
     let shown = again::failed_output(judge, way);
-    tell(rt, way, "a second run on a failed output", shown)
+    print_row(rt, way, "a second run on a failed output", shown)
 }
 
 fn try_parts(rt: &HostRuntime) -> io::Result<()> {
     let alloc = rt.alloc();
-    tell_of_part(
+    print_part(
         rt,
         "reads where a reader has failed",
         parts::input_that_fails(),
     )?;
-    tell_of_part(rt, "reads into no room", parts::input_without_room())?;
-    tell_of_part(rt, "reads at the end", parts::input_at_its_end())?;
+    print_part(rt, "reads into no room", parts::input_without_room())?;
+    print_part(rt, "reads at the end", parts::input_at_its_end())?;
     let asked = parts::output_that_fails(alloc, Full::Error);
-    tell_of_part(rt, "writes and flushes where a write has failed", asked)?;
+    print_part(rt, "writes and flushes where a write has failed", asked)?;
     let asked = parts::output_that_fails(alloc, Full::NoByte);
-    tell_of_part(rt, "writes and flushes where a write took no byte", asked)?;
+    print_part(rt, "writes and flushes where a write took no byte", asked)?;
     let asked = parts::output_that_is_not_flushed(alloc);
-    tell_of_part(rt, "writes and flushes where a flush has failed", asked)?;
-    tell_of_part(rt, "writes of no byte", parts::output_without_bytes(alloc))?;
-    tell_of_part(
+    print_part(rt, "writes and flushes where a flush has failed", asked)?;
+    print_part(rt, "writes of no byte", parts::output_without_bytes(alloc))?;
+    print_part(
         rt,
         "a write by single bytes",
         parts::output_of_one_byte(alloc),
@@ -103,7 +103,7 @@ fn try_all(rt: &HostRuntime, judge: &Judge<'_>) -> io::Result<()> {
         try_writers(rt, judge, way)?;
         try_readers(rt, judge, way)?;
     }
-    tell(
+    print_row(
         rt,
         Way::Run,
         "a line of more than 2 MiB",
@@ -114,7 +114,7 @@ fn try_all(rt: &HostRuntime, judge: &Judge<'_>) -> io::Result<()> {
 // Tries lines of the judge's mode.
 fn try_mode(rt: &HostRuntime, judge: &Judge<'_>, row: &str, worked: &Worked) -> io::Result<()> {
     for way in WAYS {
-        tell(rt, way, row, writers::whole(judge, way, worked))?;
+        print_row(rt, way, row, writers::whole(judge, way, worked))?;
     }
     Ok(())
 }

@@ -10,7 +10,7 @@ mod answers;
 
 use crate::choices::answers::{Rows, answers, read_rows};
 use spdx_catalogue::Catalogue;
-use spdx_licensee::Heirs;
+use spdx_licensee::Replacements;
 use spdx_policy::Policy;
 use std::alloc::{AllocError, Global};
 use test_rows::Tally;
@@ -37,8 +37,8 @@ fn try_section(
     section: &str,
 ) -> Result<(), AllocError> {
     let (text, lines) = section.split_once("--\n").unwrap_or((section, ""));
-    let heirs = Heirs::new(alloc);
-    let Ok(policy) = Policy::from_toml(alloc, catalogue, heirs, text.as_bytes()) else {
+    let replacements = Replacements::new(alloc);
+    let Ok(policy) = Policy::from_toml(alloc, catalogue, replacements, text.as_bytes()) else {
         return tally.count(shown, text, "a policy", "none");
     };
     try_lines(alloc, shown, tally, catalogue, (&policy, lines))

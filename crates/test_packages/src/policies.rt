@@ -12,7 +12,7 @@ mod answers;
 
 use crate::policies::answers::{answer, fault_text};
 use spdx_catalogue::Catalogue;
-use spdx_licensee::{Heirs, Restated};
+use spdx_licensee::{ReplacedName, Replacements};
 use spdx_policy::Policy;
 use std::alloc::{AllocError, Global};
 use std::fs;
@@ -20,12 +20,12 @@ use std::io::{self, ErrorKind};
 use test_rows::Tally;
 
 // What stands in the place of deprecated names that the rows have.
-const HEIRS: [Restated<'static>; 2] = [
-    Restated {
+const REPLACEMENTS: [ReplacedName<'static>; 2] = [
+    ReplacedName {
         name: "GPL-2.0-with-classpath-exception",
         write: "GPL-2.0-only WITH Classpath-exception-2.0",
     },
-    Restated {
+    ReplacedName {
         name: "Nokia-Qt-exception-1.1",
         write: "Qt-LGPL-exception-1.1",
     },
@@ -108,8 +108,8 @@ fn policy_in<'c>(
     catalogue: &'c Catalogue,
     bytes: &[u8],
 ) -> Result<Result<Policy<'c>, String>, AllocError> {
-    let heirs = Heirs::of_rows(alloc, catalogue, &HEIRS)?;
-    match Policy::from_toml(alloc, catalogue, heirs, bytes) {
+    let replacements = Replacements::of_rows(alloc, catalogue, &REPLACEMENTS)?;
+    match Policy::from_toml(alloc, catalogue, replacements, bytes) {
         Ok(policy) => Ok(Ok(policy)),
         Err(error) => Ok(Err(fault_text(alloc, &error)?)),
     }

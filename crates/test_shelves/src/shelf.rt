@@ -17,14 +17,14 @@ L\tGPL-2.0-with-classpath-exception\tGNU General Public License v2.0 w/Classpath
 \u{c}";
 
 /// What stands in the place of deprecated names.
-pub(crate) const HEIRS: &str = r#"{"copyleft":[],"imprecise":[],"instead":[
+pub(crate) const REPLACEMENTS: &str = r#"{"copyleft":[],"imprecise":[],"instead":[
 {"name":"GPL-2.0-with-classpath-exception","write":"GPL-2.0-only WITH Classpath-exception-2.0"}]}"#;
 
 /// What a program of rows has inside.
 pub(crate) fn inside() -> Inside<'static> {
     Inside {
         list: LINES,
-        extras: HEIRS.as_bytes(),
+        extras: REPLACEMENTS.as_bytes(),
     }
 }
 

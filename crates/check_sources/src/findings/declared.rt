@@ -21,7 +21,7 @@ ghost use Rattle.finding_forms.specs.Forms.{finding_text};
 ghost use Rattle.spdx_check.specs.Checking.{spot_of};
 
 use crate::cursor::Cursor;
-use crate::findings::written::{Part, Written, shown_part};
+use crate::findings::written::{Part, Written, part_excerpt};
 use crate::findings::{Findings, Source, findings_of};
 use finding_forms::{Finding, Help, Place, Sight, put_finding};
 use line_engine::lines::Summary;
@@ -157,7 +157,7 @@ fn fault_found(
 {
     let mut cursor = Cursor::new(source.bytes);
     cursor.move_to(fault.offset);
-    let shown = shown_part(alloc, cursor, fault_part(source.bytes, fault.offset))?;
+    let shown = part_excerpt(alloc, cursor, fault_part(source.bytes, fault.offset))?;
     let place = Place {
         file: source.path,
         line: cursor.line(),

@@ -1,7 +1,7 @@
 // An expression that is written in a file.
 
 ghost use Rattle.std.specs.Prelude.{◌≡◌, ◌++◌, ◌-◌, IfOk, OnErr, OnOk, is_some, option_map};
-ghost use Rattle.spdx_check.specs.Checking.{heirs_in, spot_of};
+ghost use Rattle.spdx_check.specs.Checking.{replacements_in, spot_of};
 ghost use Rattle.spdx_check.specs.Found.{finding_of};
 ghost use Rattle.spdx_check.specs.Refusals.{wrong_of};
 ghost use Rattle.check_sources.specs.Findings.{found_text};
@@ -19,7 +19,7 @@ ghost use Rattle.check_sources.specs.Shown.{seen_in};
 
 use crate::cursor::Cursor;
 use crate::findings::Source;
-use crate::shown::Shown;
+use crate::line_excerpt::LineExcerpt;
 use finding_forms::{Place, put_finding};
 use spdx_check::{Check, Refusal, refusal_of};
 use std::alloc::{AllocError, Global};
@@ -81,13 +81,17 @@ pub fn slice_in(bytes: &[u8], start: usize, end: usize) -> &[u8]
 }
 
 /// How a part of the file of the cursor is seen.
-pub(crate) fn shown_part(alloc: Global, cursor: Cursor<'_>, part: Part) -> Result<Shown, AllocError>
+pub(crate) fn part_excerpt(
+    alloc: Global,
+    cursor: Cursor<'_>,
+    part: Part,
+) -> Result<LineExcerpt, AllocError>
     ensures { IfOk result (λ shown.
         seen_in shown ≡ part_seen cursor.entry.bytes.now (part_of part)) }
 {
     let mut cursor = cursor;
     cursor.move_to(part.from);
-    cursor.shown(alloc, part.len)
+    cursor.excerpt(alloc, part.len)
 }
 
 /// Appends the finding of an expression of the file, if it has one, and says whether it has. The cursor is one of the file,
@@ -104,10 +108,10 @@ pub(crate) fn put_written<'f>(
     requires { cursor.old.bytes.now ≡ source.bytes.now }
     ensures text { IfOk result (λ _. text.new.items ≡ text.old.items ++
         found_text check.now.format is_first (source_of source.entry) (stood written.entry)
-        (finding_of check.now.catalogue.now (heirs_in check.now) check.now.mode
+        (finding_of check.now.catalogue.now (replacements_in check.now) check.now.mode
         written.entry.text.now)) }
     ensures refuses { IfOk result (λ is_refused. is_refused ≡ is_some
-        (finding_of check.now.catalogue.now (heirs_in check.now) check.now.mode
+        (finding_of check.now.catalogue.now (replacements_in check.now) check.now.mode
         written.entry.text.now)) }
     ensures same_file { cursor.new.bytes.now ≡ source.entry.bytes.now }
 {
@@ -120,7 +124,7 @@ pub(crate) fn put_written<'f>(
         line: cursor.line(),
         column: cursor.column(),
     };
-    let shown = shown_part(alloc, *cursor, written.marked(source.bytes, &refusal))?;
+    let shown = part_excerpt(alloc, *cursor, written.marked(source.bytes, &refusal))?;
     let finding = refusal.finding(place, Some(shown.sight()));
     put_finding(alloc, text, check.format, is_first, &finding)?;
     Ok(true)

@@ -8,10 +8,10 @@ ghost use Rattle.spdx_requirement.specs.Rows.{ExceptionRow, ImpreciseRow, except
 ghost use Rattle.spdx_list.specs.declared.error.Member.{Member};
 ghost use Rattle.spdx_list.specs.Files as spec;
 ghost use Rattle.spdx_list.specs.Items.{rows_from, rows_at};
-ghost use Rattle.spdx_list.specs.Shown.{entry_of, instead_of};
+ghost use Rattle.spdx_list.specs.Shown.{entry_of, shown_replacement};
 
 use crate::error::{ListFault, Member, Table};
-use crate::extras::Instead;
+use crate::extras::Replacement;
 use crate::json::{flag_at, items_at, text_at};
 use crate::names::exception_flags;
 use serde_json::Value;
@@ -135,21 +135,21 @@ impl Item for ImpreciseName {
     }
 }
 
-impl Item for Instead {
-    ghost Shown = { spec.InsteadRow };
+impl Item for Replacement {
+    ghost Shown = { spec.ReplacementRow };
 
-    ghost shown = { instead_of };
+    ghost shown = { shown_replacement };
 
-    ghost reads = { spec.instead_row };
+    ghost reads = { spec.replacement_row };
 
-    fn read(alloc: Global, value: &Value) -> Result<Instead, Failure<Member>> {
+    fn read(alloc: Global, value: &Value) -> Result<Replacement, Failure<Member>> {
         let Some(name) = text_at(value, "name") else {
             return Err(Failure::Refused(Member::Name));
         };
         let Some(write) = text_at(value, "write") else {
             return Err(Failure::Refused(Member::Write));
         };
-        Ok(Instead {
+        Ok(Replacement {
             name: String::from_str(alloc, name)?,
             write: String::from_str(alloc, write)?,
         })

@@ -26,7 +26,7 @@ use crate::reading::{
 };
 use crate::scopes::Scopes;
 use spdx_catalogue::{Catalogue, License, LicenseId};
-use spdx_licensee::Heirs;
+use spdx_licensee::Replacements;
 use spdx_requirement::failure::Failure;
 use std::alloc::{AllocError, Global};
 use toml::Table;
@@ -84,10 +84,10 @@ fn drafted(alloc: Global, table: &Table) -> Result<Draft, Failure<PolicyFault>>
 fn policy_of<'c>(
     alloc: Global,
     catalogue: &'c Catalogue,
-    heirs: Heirs<'c>,
+    replacements: Replacements<'c>,
     draft: Draft,
 ) -> Result<Policy<'c>, Failure<PolicyFault>>
-    ensures ok { IfOk result (λ p. IsMeant catalogue.now heirs.entry (draft_rows draft) p) }
+    ensures ok { IfOk result (λ p. IsMeant catalogue.now replacements.entry (draft_rows draft) p) }
     ensures err { IfErr result (IfRefused (IsRefusedDraft catalogue.now (draft_rows draft))) }
 {
     if let Some(place) = unknown_flag(catalogue, &draft) {
@@ -96,7 +96,7 @@ fn policy_of<'c>(
     let allow = names_of(
         alloc,
         catalogue,
-        &heirs,
+        &replacements,
         Section::Policy,
         Key::Allow,
         &draft.allow,
@@ -104,17 +104,17 @@ fn policy_of<'c>(
     let deny = names_of(
         alloc,
         catalogue,
-        &heirs,
+        &replacements,
         Section::Policy,
         Key::Deny,
         &draft.deny,
     )?;
     let exempted = exempted_of(alloc, &draft.exceptions)?;
-    let exempting = exempting_of(alloc, catalogue, &heirs, &draft.exceptions)?;
+    let exempting = exempting_of(alloc, catalogue, &replacements, &draft.exceptions)?;
     let clarified = clarified_of(alloc, &draft.clarifications)?;
     Ok(Policy {
         catalogue,
-        heirs,
+        replacements,
         lax: draft.lax,
         unstated: draft.unstated,
         allow,
@@ -183,16 +183,16 @@ impl<'c> Policy<'c> {
     pub fn from_toml(
         alloc: Global,
         catalogue: &'c Catalogue,
-        heirs: Heirs<'c>,
+        replacements: Replacements<'c>,
         text: &[u8],
     ) -> Result<Policy<'c>, Failure<PolicyFault>>
-        ensures ok { IfOk result (λ p. IsPolicyOf catalogue.now heirs.entry text.now p) }
+        ensures ok { IfOk result (λ p. IsPolicyOf catalogue.now replacements.entry text.now p) }
         ensures err { IfErr result (IfRefused (IsRefusedText catalogue.now text.now)) }
         ensures none { IfErr result (IfRefused (λ _.
-            (p : Rules) → IsPolicyOf catalogue.now heirs.entry text.now p → ⊥)) }
+            (p : Rules) → IsPolicyOf catalogue.now replacements.entry text.now p → ⊥)) }
     {
         let table = table_in(alloc, text)?;
         let draft = drafted(alloc, &table)?;
-        policy_of(alloc, catalogue, heirs, draft)
+        policy_of(alloc, catalogue, replacements, draft)
     }
 }

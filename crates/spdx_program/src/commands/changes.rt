@@ -34,8 +34,12 @@ pub(crate) fn changes<S: Shelf, O: Sink, T: Listener>(
         result }
 {
     let asked = asked(request);
-    let Inside { list, heirs, .. } = inside;
-    ended(package_commands::diff(alloc, shelf, list, heirs, asked, output, teller))
+    let Inside {
+        list,
+        replacements,
+        ..
+    } = inside;
+    ended(package_commands::diff(alloc, shelf, list, replacements, asked, output, teller))
 }
 
 fn asked<'r>(request: &'r ChangesRequest<'r>) -> AskedDiff<'r>

@@ -57,8 +57,12 @@ fn gate_as<S: Shelf, O: Sink, T: Listener>(
     ensures { IsGateEnd (world (S.told shelf.now) inside.entry) asked.entry (O.told output.old)
         (O.told output.new) (T.heard teller.old) (T.heard teller.new) result }
 {
-    let Inside { list, heirs, .. } = inside;
-    alone(package_commands::gate(alloc, shelf, list, heirs, asked, output, teller))
+    let Inside {
+        list,
+        replacements,
+        ..
+    } = inside;
+    alone(package_commands::gate(alloc, shelf, list, replacements, asked, output, teller))
 }
 
 // What is asked of the command, whose logs tell this version.

@@ -8,7 +8,7 @@ pub(crate) mod make;
 pub(crate) mod show;
 
 use check_program::Inside;
-use spdx_known::{EXTRAS, HEIRS, LINES, VERSION as LIST_VERSION};
+use spdx_known::{EXTRAS, LINES, REPLACEMENTS, VERSION as LIST_VERSION};
 use spdx_troubles::Trouble;
 
 /// The version that logs tell.
@@ -25,7 +25,7 @@ pub fn known_version() -> &'static str
 pub fn inside() -> Inside<'static>
     ensures list { result.list.list.now ≡ LINES.now }
     ensures extras { result.list.extras.now ≡ EXTRAS.now }
-    ensures heirs { result.heirs.now ≡ HEIRS.now }
+    ensures replacements { result.replacements.now ≡ REPLACEMENTS.now }
     ensures version { result.version.now ≡ VERSION.now }
 {
     Inside {
@@ -33,7 +33,7 @@ pub fn inside() -> Inside<'static>
             list: LINES,
             extras: EXTRAS.as_bytes(),
         },
-        heirs: HEIRS.as_bytes(),
+        replacements: REPLACEMENTS.as_bytes(),
         version: VERSION,
     }
 }

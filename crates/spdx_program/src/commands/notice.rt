@@ -38,8 +38,12 @@ pub(crate) fn notice<S: Shelf, O: Sink, T: Listener>(
         result }
 {
     let asked = asked(request);
-    let Inside { list, heirs, .. } = inside;
-    ended(package_commands::notice(alloc, shelf, list, heirs, asked, output, teller))
+    let Inside {
+        list,
+        replacements,
+        ..
+    } = inside;
+    ended(package_commands::notice(alloc, shelf, list, replacements, asked, output, teller))
 }
 
 fn asked<'r>(request: &'r NoticeRequest<'r>) -> Request<'r>

@@ -105,5 +105,8 @@ fn reads_as(alloc: Global, text: &str, shown: &str) -> Result<bool, AllocError> 
 fn instead(alloc: Global, given: &str) -> Result<String, Failure<ListFault>> {
     let (extras, name) = given.split_once('|').unwrap_or((given, ""));
     let extras = extras_of(alloc, extras)?;
-    Ok(String::from_str(alloc, extras.instead(name.trim()).unwrap_or("(nothing)"))?)
+    Ok(String::from_str(
+        alloc,
+        extras.replacement(name.trim()).unwrap_or("(nothing)"),
+    )?)
 }

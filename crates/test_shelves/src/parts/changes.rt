@@ -6,7 +6,7 @@
 // `empty`, `quiet`, without the totals, or `auto`, by which the form of the files is guessed; else their lines have
 // columns. A line that begins with `#` says something to readers.
 
-use crate::shelf::{HEIRS, inside, lines_of};
+use crate::shelf::{REPLACEMENTS, inside, lines_of};
 use crate::told::{Told, line_of};
 use changes_program::Request;
 use line_engine::stream::Output;
@@ -39,8 +39,8 @@ fn changed(
     written: &mut Output<Vec<u8>>,
     told: &mut Told,
 ) -> Result<Changed, AllocError> {
-    let heirs = HEIRS.as_bytes();
-    match diff(alloc, shelf, inside(), heirs, asked, written, told) {
+    let replacements = REPLACEMENTS.as_bytes();
+    match diff(alloc, shelf, inside(), replacements, asked, written, told) {
         Ok(changed) => Ok(changed),
         Err(trouble) => Ok(Changed {
             status: told.hear_last(alloc, trouble)?,

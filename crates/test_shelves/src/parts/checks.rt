@@ -7,7 +7,7 @@
 
 use crate::fragile::Fragile;
 use crate::parts::fixes::{put_quoted, wanted_by};
-use crate::shelf::{HEIRS, inside};
+use crate::shelf::{REPLACEMENTS, inside};
 use check_files::{CheckTrouble, Telling};
 use check_program::{CheckEnd, Inside, Request, check};
 use finding_forms::Format;
@@ -99,7 +99,7 @@ fn format_of(how: &str) -> Format {
 fn what_is_inside() -> Inside<'static> {
     Inside {
         list: inside(),
-        heirs: HEIRS.as_bytes(),
+        replacements: REPLACEMENTS.as_bytes(),
         version: "0",
     }
 }

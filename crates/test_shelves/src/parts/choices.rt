@@ -7,7 +7,7 @@
 // What is wanted is of each package the choice and all that it offers, or why there is none. A line that begins with `#` says
 // something to readers.
 
-use crate::shelf::{HEIRS, inside};
+use crate::shelf::{REPLACEMENTS, inside};
 use choice_program::{Accepted, ChoiceTrouble, Chosen, Why, choose};
 use gate_program::PolicyTrouble;
 use list_program::named_list;
@@ -74,10 +74,16 @@ fn answer_for(
     let (kind, rest) = accepted.split_once(" ").unwrap_or((accepted, ""));
     let names = written(alloc, rest, ",")?;
     let accepted = accepted_by(kind, names.as_str());
-    let heirs = HEIRS.as_bytes();
+    let replacements = REPLACEMENTS.as_bytes();
     let together = words == "all";
     match choose(
-        alloc, shelf, heirs, &catalogue, accepted, together, packages,
+        alloc,
+        shelf,
+        replacements,
+        &catalogue,
+        accepted,
+        together,
+        packages,
     ) {
         Ok(chosen) => told(alloc, packages, &chosen),
         Err(trouble) => told_trouble(alloc, &trouble),

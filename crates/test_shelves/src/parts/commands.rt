@@ -8,7 +8,7 @@
 use crate::desk::Desk;
 use crate::parts::fixes::put_quoted;
 use crate::parts::mends::{Places, put_places};
-use crate::shelf::{HEIRS, inside};
+use crate::shelf::{REPLACEMENTS, inside};
 use check_program::Inside;
 use line_engine::stream::Output;
 use shelves::{Held, HeldFile};
@@ -63,7 +63,7 @@ fn told_of(alloc: Global, shelf: &Held, request: &Request<'_>) -> Result<String,
     };
     let inside = Inside {
         list: inside(),
-        heirs: HEIRS.as_bytes(),
+        replacements: REPLACEMENTS.as_bytes(),
         version: "0",
     };
     let status = serve(

@@ -5,7 +5,7 @@
 // and then what is told, with ` / ` between lines, and how many came, went, changed and are refused. A line that begins with
 // `#` says something to readers.
 
-use crate::shelf::{HEIRS, inside, lines_of, told_faults};
+use crate::shelf::{REPLACEMENTS, inside, lines_of, told_faults};
 use changes_program::{Request, Run, changes};
 use gate_program::{GateTrouble, PolicyTrouble};
 use package_changes::Format;
@@ -29,7 +29,7 @@ pub(crate) fn answer(alloc: Global, shelf: &Held, given: &str) -> Result<String,
         new,
         format: Format::Text,
     };
-    match changes(alloc, shelf, inside(), HEIRS.as_bytes(), request) {
+    match changes(alloc, shelf, inside(), REPLACEMENTS.as_bytes(), request) {
         Ok(run) => told(alloc, &run),
         Err(GateTrouble::List(_)) => String::from_str(alloc, "no list"),
         Err(GateTrouble::Policy(PolicyTrouble::Memory) | GateTrouble::Memory) => Err(AllocError),

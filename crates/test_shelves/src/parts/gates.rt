@@ -5,7 +5,7 @@
 // `before PATH`, `explain NAME`, `empty`, or `auto`, by which the form of the files is guessed; else each of their lines is a
 // package. A line that begins with `#` says something to readers.
 
-use crate::shelf::{HEIRS, inside, lines_of};
+use crate::shelf::{REPLACEMENTS, inside, lines_of};
 use crate::told::Told;
 use finding_forms::Style;
 use gate_program::{Look, Request};
@@ -40,8 +40,8 @@ fn status_of(
     written: &mut Output<Vec<u8>>,
     told: &mut Told,
 ) -> Result<u8, AllocError> {
-    let heirs = HEIRS.as_bytes();
-    match gate(alloc, shelf, inside(), heirs, asked, written, told) {
+    let replacements = REPLACEMENTS.as_bytes();
+    match gate(alloc, shelf, inside(), replacements, asked, written, told) {
         Ok(status) => Ok(status),
         Err(trouble) => told.hear_last(alloc, trouble),
     }

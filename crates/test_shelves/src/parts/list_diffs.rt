@@ -5,7 +5,7 @@
 // deprecated names isn't readable.
 
 use crate::parts::shows::untold;
-use crate::shelf::{HEIRS, inside, lines_of};
+use crate::shelf::{REPLACEMENTS, inside, lines_of};
 use list_told::{Lists, diff};
 use shelves::Held;
 use std::alloc::{AllocError, Global};
@@ -13,12 +13,12 @@ use std::alloc::{AllocError, Global};
 pub(crate) fn answer(alloc: Global, shelf: &Held, given: &str) -> Result<String, AllocError> {
     let (head, new) = given.split_once(" | ").unwrap_or((given, ""));
     let (how, old) = head.split_once(' ').unwrap_or((head, "-"));
-    let heirs = if how == "unread" { "[]" } else { HEIRS };
+    let replacements = if how == "unread" { "[]" } else { REPLACEMENTS };
     let lists = Lists {
         old: if old == "-" { None } else { Some(old) },
         new,
     };
-    match diff(alloc, shelf, inside(), heirs.as_bytes(), lists) {
+    match diff(alloc, shelf, inside(), replacements.as_bytes(), lists) {
         Ok(text) => {
             let lines = lines_of(alloc, &text)?;
             String::from_str(alloc, lines.as_str().trim_start())

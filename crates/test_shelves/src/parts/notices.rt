@@ -7,7 +7,7 @@
 // The words are `texts DIR`, `sources DIR`, `installed`, `strict`, `follow`, `plain`, `html`, `together`, `list PATH`, and `auto`,
 // with which the form of the files is guessed. A line that begins with `#` says something to readers.
 
-use crate::shelf::{HEIRS, inside, told_faults};
+use crate::shelf::{REPLACEMENTS, inside, told_faults};
 use choice_program::Accepted;
 use notice_forms::Format;
 use notice_program::{End, NoticeTrouble, Request, Run, ToldPage, notice};
@@ -24,7 +24,7 @@ pub(crate) fn answer(alloc: Global, shelf: &Held, given: &str) -> Result<String,
     let paths: Vec<&str> = paths.split(' ').collect(alloc)?;
     let words: Vec<&str> = words.split(' ').collect(alloc)?;
     let request = request(&paths, accepted, &words);
-    match notice(alloc, shelf, inside(), HEIRS.as_bytes(), request) {
+    match notice(alloc, shelf, inside(), REPLACEMENTS.as_bytes(), request) {
         Ok(run) => told(alloc, &run),
         Err(NoticeTrouble::List(_)) => String::from_str(alloc, "no list"),
         Err(NoticeTrouble::Memory) => Err(AllocError),

@@ -5,7 +5,7 @@
 // totals. A line that begins with `#` says something to readers.
 
 use crate::parts::notices::{lines_told, request};
-use crate::shelf::{HEIRS, inside};
+use crate::shelf::{REPLACEMENTS, inside};
 use crate::told::{Told, line_of};
 use line_engine::stream::Output;
 use notice_program::Request;
@@ -34,8 +34,8 @@ fn noticed(
     written: &mut Output<Vec<u8>>,
     told: &mut Told,
 ) -> Result<Noticed, AllocError> {
-    let heirs = HEIRS.as_bytes();
-    match notice(alloc, shelf, inside(), heirs, request, written, told) {
+    let replacements = REPLACEMENTS.as_bytes();
+    match notice(alloc, shelf, inside(), replacements, request, written, told) {
         Ok(noticed) => Ok(noticed),
         Err(trouble) => Ok(Noticed {
             status: told.hear_last(alloc, trouble)?,

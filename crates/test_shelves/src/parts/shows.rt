@@ -5,7 +5,7 @@
 // of it, in brackets; or why nothing is told. In a row `unread LIST | ..` what is to stand in the place of deprecated names isn't
 // readable.
 
-use crate::shelf::{HEIRS, inside, lines_of};
+use crate::shelf::{REPLACEMENTS, inside, lines_of};
 use list_program::ListTrouble;
 use list_told::{Asked, show};
 use shelves::Held;
@@ -14,20 +14,20 @@ use std::alloc::{AllocError, Global};
 pub(crate) fn answer(alloc: Global, shelf: &Held, given: &str) -> Result<String, AllocError> {
     let (head, names) = given.split_once(" | ").unwrap_or((given, ""));
     let (how, list) = head.split_once(' ').unwrap_or((head, "-"));
-    let heirs = if how == "unread" { "[]" } else { HEIRS };
+    let replacements = if how == "unread" { "[]" } else { REPLACEMENTS };
     let mut asked = Vec::new(alloc);
     for name in names.split(" | ") {
         if !name.is_empty() {
             asked.push(name)?;
         }
     }
-    shown(alloc, shelf, heirs, list, &asked)
+    shown(alloc, shelf, replacements, list, &asked)
 }
 
 fn shown(
     alloc: Global,
     shelf: &Held,
-    heirs: &str,
+    replacements: &str,
     list: &str,
     names: &[&str],
 ) -> Result<String, AllocError> {
@@ -35,7 +35,7 @@ fn shown(
         list: if list == "-" { None } else { Some(list) },
         names,
     };
-    match show(alloc, shelf, inside(), heirs.as_bytes(), asked) {
+    match show(alloc, shelf, inside(), replacements.as_bytes(), asked) {
         Ok(shown) => {
             let status = shown.status();
             let lines = lines_of(alloc, &shown.text)?;

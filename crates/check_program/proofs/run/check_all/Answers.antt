@@ -1,5 +1,5 @@
 use Rattle.std.proofs.Common.{ap, map, refl}
-use Rattle.spdx_list.specs.Shown.{instead_of, shown_extras}
+use Rattle.spdx_list.specs.Shown.{shown_extras, shown_replacement}
 use Rattle.check_program.specs.Runs.{inside_of}
 use Rattle.check_program.proofs.Begun.{run_broken}
 use Rattle.check_program.proofs.run.check_all.Goals as goal
@@ -13,7 +13,7 @@ returns-in_err-status-clause-err g c =
       list_is = c.in_ok-catalogue.ensures.ok;
       extras = shown_extras c.in_ok-extras.extras;
       says = c.in_ok-extras.ensures.ok;
-      heirs_are = ap (map instead_of) c.as_slice.ensures.value;
+      replacements_are = ap (map shown_replacement) c.as_slice.ensures.value;
       mode_is = refl;
       format_is = refl;
     })

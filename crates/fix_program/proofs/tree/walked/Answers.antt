@@ -18,7 +18,7 @@ loop-turn-preserved g c =
     let is = subst (λ (o : Option Seen). IsNext s (waiting c.loop-turn.walk) o (waiting c.next.new.self)) c.in-Some.is c.in_ok-seen.ensures in
     let are = further s c.args.manner.catalogue.now c.args.manner.is_written c.args.taken (waiting c.args.walk) (waiting c.loop-turn.walk) (waiting c.next.new.self) c.in-Some.seen c.loop-turn.ends.items c.add_ends.new.ends.items
     c.loop-turn.invariant.0 is c.in_ok-add_ends.ensures in
-    (are, both_shown g.P.Progress.Shows c.loop-turn.invariant.1 c.shown.ensures)
+    (are, both_shown g.P.Progress.Shows c.loop-turn.invariant.1 c.show_one_more.ensures)
 
 pub returns-in_default-clause-ends : goal.returns-in_default-clause-ends
 returns-in_default-clause-ends g c =
@@ -31,7 +31,7 @@ returns-in_default-clause-shows g c =
     both_shown g.P.Progress.Shows c.loop-turn.invariant.1 (one_shown g.P.Progress.Shows c.loop-turn.progress c.ended.new.self c.ended.ensures)
 
 pub returns-in_err-files-clause-shows : goal.returns-in_err-files-clause-shows
-returns-in_err-files-clause-shows g c = both_shown g.P.Progress.Shows c.loop-turn.invariant.1 c.shown.ensures
+returns-in_err-files-clause-shows g c = both_shown g.P.Progress.Shows c.loop-turn.invariant.1 c.show_one_more.ensures
 
 pub returns-in_err-add_ends-clause-shows : goal.returns-in_err-add_ends-clause-shows
-returns-in_err-add_ends-clause-shows g c = both_shown g.P.Progress.Shows c.loop-turn.invariant.1 c.shown.ensures
+returns-in_err-add_ends-clause-shows g c = both_shown g.P.Progress.Shows c.loop-turn.invariant.1 c.show_one_more.ensures

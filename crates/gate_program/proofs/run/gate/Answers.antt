@@ -4,7 +4,7 @@ use Rattle.gate_program.proofs.run.gate.Goals as goal
 
 pub returns-clause-passes : goal.returns-clause-passes
 returns-clause-passes g c zero alone =
-    all_are_allowed (g.S.Shelf.told c.args.shelf.now) (inside_of c.args.inside.list.now c.args.inside.extras.now) c.args.heirs.now c.args.request c.in_ok-run.run'
+    all_are_allowed (g.S.Shelf.told c.args.shelf.now) (inside_of c.args.inside.list.now c.args.inside.extras.now) c.args.replacements.now c.args.request c.in_ok-run.run'
     (record {
       catalogue = c.in_ok-catalogue.catalogue;
       policy = c.in_ok-policy.policy;

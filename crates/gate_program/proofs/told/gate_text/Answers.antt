@@ -8,15 +8,15 @@ use Rattle.gate_program.proofs.told.gate_text.Goals as goal
 
 pub returns : goal.returns
 returns c =
-    let details = rw c.deref-2.ensures.value at c.in_ok-details.ensures in
-    let judged = told_of_each c.args.catalogue.now c.args.policy.now c.in_ok-shown.shown.items c.in_ok-details.details.items c.in_ok-shown.ensures.each details in
+    let breakdowns = rw c.deref-2.ensures.value at c.in_ok-breakdowns.ensures in
+    let judged = told_of_each c.args.catalogue.now c.args.policy.now c.in_ok-shown.shown.items c.in_ok-breakdowns.breakdowns.items c.in_ok-shown.ensures.each breakdowns in
     let are = rw c.scope_in.ensures at (rw c.deref-6.ensures.value at (rw c.deref-5.ensures.value at (rw c.deref-4.ensures.value at c.in_ok-told.ensures))) in
     record {
       told = are.all;
       known = c.known.result;
       known_are = c.known.ensures;
       told_are = record {
-        tellings = map telling_in c.in_ok-details.details.items;
+        tellings = map telling_in c.in_ok-breakdowns.breakdowns.items;
         packages = c.in_ok-packages.packages.items;
         tells = rw c.deref.ensures.value at (rw c.in_ok-shown.ensures.of at judged);
         named = rw c.deref-3.ensures.value at c.in_ok-packages.ensures;

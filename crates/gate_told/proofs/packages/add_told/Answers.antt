@@ -13,7 +13,7 @@ use Rattle.gate_told.proofs.packages.add_told.Goals as goal
 
 pub returns-in-Some : goal.returns-in-Some
 returns-in-Some c =
-    let row = row_told c.args.policy.now (map telling_in c.args.details.now) c.args.named.now c.args.baseline in
+    let row = row_told c.args.policy.now (map telling_in c.args.breakdowns.now) c.args.named.now c.args.baseline in
     on_ok_weaker c.add_in.result
     (λ added. (
       c.report_of.result ∷ [],
@@ -24,7 +24,7 @@ returns-in-Some c =
 
 pub returns-in-None : goal.returns-in-None
 returns-in-None c =
-    let row = row_told c.args.policy.now (map telling_in c.args.details.now) c.args.named.now c.args.baseline in (
+    let row = row_told c.args.policy.now (map telling_in c.args.breakdowns.now) c.args.named.now c.args.baseline in (
       [],
       ap (λ (o : Option (Bor Row)). row (option_copied o)) (sym c.in-None.is),
       sym (append-nil c.args.told.now.items) ∙ ap (λ (rs : List Report). c.args.told.now.items ++ rs) (none_told c.args.scope),

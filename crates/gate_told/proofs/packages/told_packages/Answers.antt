@@ -11,12 +11,12 @@ loop-number-init c = ([], refl, c.new-told.ensures.items ∙ none_told c.args.sc
 pub loop-number-preserved : goal.loop-number-preserved
 loop-number-preserved c =
     let n = c.loop-number.number in
-    one_in c.args.scope c.args.policy.now (map telling_in c.args.details.now) c.args.rows.now c.args.known c.args.packages.now n (get_or c.args.packages.now n unnamed)
+    one_in c.args.scope c.args.policy.now (map telling_in c.args.breakdowns.now) c.args.rows.now c.args.known c.args.packages.now n (get_or c.args.packages.now n unnamed)
     c.state_at-baseline.result (option_copied c.get.result) c.loop-number.told.items c.add_told.new.told.items
     c.in_ok-add_told.ensures c.state_at-baseline.ensures (found c.args.rows.now n c.get.result _ c.get.ensures.lookup.1 c.get.ensures.lookup.3)
     (drop-cons c.args.packages.now n unnamed c.loop-number-test.true) c.loop-number.invariant
 
 pub returns : goal.returns
 returns c =
-    all_in c.args.scope c.args.policy.now (map telling_in c.args.details.now) c.args.rows.now c.args.known c.args.packages.now c.loop-number.number c.loop-number.told.items
+    all_in c.args.scope c.args.policy.now (map telling_in c.args.breakdowns.now) c.args.rows.now c.args.known c.args.packages.now c.loop-number.number c.loop-number.told.items
     c.loop-number-test.false c.loop-number.invariant

@@ -8,6 +8,6 @@ use Rattle.gate_told.proofs.packages.told_packages.Given as goal
 abbrev pub invariant-loop-number : goal.invariant-loop-number
 invariant-loop-number l =
     (all : List Report) ×
-    (map moved_report all ++ reports_from l.policy (map telling_in l.details) l.rows l.known l.number (drop l.number l.packages)
-    ≡ reports_of l.policy (map telling_in l.details) l.rows l.known l.packages) ×
+    (map moved_report all ++ reports_from l.policy (map telling_in l.breakdowns) l.rows l.known l.number (drop l.number l.packages)
+    ≡ reports_of l.policy (map telling_in l.breakdowns) l.rows l.known l.packages) ×
     (l.told.items ≡ told_in l.scope all)

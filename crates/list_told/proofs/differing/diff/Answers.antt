@@ -1,19 +1,19 @@
 use Rattle.std.proofs.lemmas.Result.{IfErr-weaker, IfOk-weaker}
 use Rattle.list_program.specs.Named.{inside_of}
-use Rattle.list_told.proofs.Lines.{each_row, no_heirs, tells_same}
+use Rattle.list_told.proofs.Lines.{each_row, no_replacements, tells_same}
 use Rattle.list_told.proofs.differing.diff.Goals as goal
 
 pub returns-clause-err : goal.returns-clause-err
 returns-clause-err g c =
     IfErr-weaker c.diff_by.result _ _
-    (λ t why. no_heirs (g.S.Shelf.told c.args.shelf.now) (inside_of c.args.inside.list.now c.args.inside.extras.now) c.args.heirs.now c.args.lists
+    (λ t why. no_replacements (g.S.Shelf.told c.args.shelf.now) (inside_of c.args.inside.list.now c.args.inside.extras.now) c.args.replacements.now c.args.lists
     c.in_ok-old.old c.in_ok-new.new t c.in_ok-old.ensures.ok c.in_ok-new.ensures.ok why)
     c.diff_by.ensures.err
 
 pub returns-clause-each : goal.returns-clause-each
 returns-clause-each g c =
     IfOk-weaker c.diff_by.result _ _
-    (λ text is. each_row (g.S.Shelf.told c.args.shelf.now) (inside_of c.args.inside.list.now c.args.inside.extras.now) c.args.heirs.now c.args.lists text.items
+    (λ text is. each_row (g.S.Shelf.told c.args.shelf.now) (inside_of c.args.inside.list.now c.args.inside.extras.now) c.args.replacements.now c.args.lists text.items
     (record {
       old = c.in_ok-old.old;
       new = c.in_ok-new.new;

@@ -8,7 +8,7 @@ use Rattle.notice_program.proofs.run.end_over.Goals as goal
 pub returns-in-empty : goal.returns-in-empty
 returns-in-empty g c =
     let s = g.S.Shelf.told c.args.shelf.now in
-    IfOk-weaker c.files_end.result (IsFilesEnd s c.args.heirs.now c.args.catalogue.now c.args.request c.args.files.now) (IsEnd s c.args.heirs.now c.args.catalogue.now c.args.request c.args.files.now c.args.left_out.now)
+    IfOk-weaker c.files_end.result (IsFilesEnd s c.args.replacements.now c.args.catalogue.now c.args.request c.args.files.now) (IsEnd s c.args.replacements.now c.args.catalogue.now c.args.request c.args.files.now c.args.left_out.now)
     (λ e is. read (nil_from_length c.args.left_out.now (omega (arith, c.in-empty.len_below))) is)
     c.files_end.ensures
 

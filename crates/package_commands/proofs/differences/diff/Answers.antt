@@ -15,23 +15,23 @@ pub returns-in_err-outcome-clause-err : goal.returns-in_err-outcome-clause-err
 returns-in_err-outcome-clause-err g c =
     let s = g.S.Shelf.told c.args.shelf.now in
     let inside = inside_of c.args.inside.list.now c.args.inside.extras.now in
-    stopped gate_trouble (IsNoRun s inside c.args.heirs.now c.args.asked.run) (SaysDiff s inside c.args.heirs.now c.args.asked) (g.O.Sink.told c.args.output.now)
+    stopped gate_trouble (IsNoRun s inside c.args.replacements.now c.args.asked.run) (SaysDiff s inside c.args.replacements.now c.args.asked) (g.O.Sink.told c.args.output.now)
     (g.T.Listener.heard c.args.listener.now) c.in_err-outcome.field-0.0 c.in_err-outcome.ensures.err c.from_residual.result c.from_residual.ensures.1
 
 pub returns-in_err-both-clause-err : goal.returns-in_err-both-clause-err
 returns-in_err-both-clause-err g c =
     let s = g.S.Shelf.told c.args.shelf.now in
     let inside = inside_of c.args.inside.list.now c.args.inside.extras.now in
-    refused gate_trouble (IsNoRun s inside c.args.heirs.now c.args.asked.run) (SaysDiff s inside c.args.heirs.now c.args.asked) (g.O.Sink.told c.args.output.now)
+    refused gate_trouble (IsNoRun s inside c.args.replacements.now c.args.asked.run) (SaysDiff s inside c.args.replacements.now c.args.asked) (g.O.Sink.told c.args.output.now)
     (g.T.Listener.heard c.args.listener.now) c.from_residual-in_err-both.result c.from_residual-in_err-both.ensures.1
 
 pub returns-in_err-say-clause-err : goal.returns-in_err-say-clause-err
 returns-in_err-say-clause-err g c =
     let s = g.S.Shelf.told c.args.shelf.now in
     let inside = inside_of c.args.inside.list.now c.args.inside.extras.now in
-    said_off gate_trouble (IsNoRun s inside c.args.heirs.now c.args.asked.run) (SaysDiff s inside c.args.heirs.now c.args.asked) (g.O.Sink.told c.args.output.now)
+    said_off gate_trouble (IsNoRun s inside c.args.replacements.now c.args.asked.run) (SaysDiff s inside c.args.replacements.now c.args.asked) (g.O.Sink.told c.args.output.now)
     (g.T.Listener.heard c.args.listener.now) (g.O.Sink.told c.say.new.output) (g.T.Listener.heard c.say.new.listener) (text_of c.in_ok-both.both.0) (told_of c.in_ok-both.both.0)
-    (says_diff s inside c.args.heirs.now c.args.asked c.in_ok-outcome.outcome c.in_ok-both.both.0 (record { status = c.status-status.result; totals = c.in_ok-both.both.1 }) c.in_ok-outcome.ensures.ok c.in_ok-both.ensures c.status-status.ensures)
+    (says_diff s inside c.args.replacements.now c.args.asked c.in_ok-outcome.outcome c.in_ok-both.both.0 (record { status = c.status-status.result; totals = c.in_ok-both.both.1 }) c.in_ok-outcome.ensures.ok c.in_ok-both.ensures c.status-status.ensures)
     c.in_err-say.field-0.0 c.in_err-say.ensures.err c.from_residual-in_err-say.result c.from_residual-in_err-say.ensures.1
 
 pub returns-clause-ok : goal.returns-clause-ok
@@ -39,12 +39,12 @@ returns-clause-ok g c =
     let s = g.S.Shelf.told c.args.shelf.now in
     let inside = inside_of c.args.inside.list.now c.args.inside.extras.now in
     known (g.O.Sink.told c.args.output.now) (g.O.Sink.told c.say.new.output) (g.T.Listener.heard c.args.listener.now) (g.T.Listener.heard c.say.new.listener) (IsSaid c.in_ok-both.both.0)
-    (λ text told. IsDiff s inside c.args.heirs.now c.args.asked text told (record { status = c.status-status.result; totals = c.in_ok-both.both.1 })) c.in_ok-say.ensures.ok
-    (diff_as s inside c.args.heirs.now c.args.asked c.in_ok-outcome.outcome c.in_ok-both.both.0 (record { status = c.status-status.result; totals = c.in_ok-both.both.1 }) c.in_ok-outcome.ensures.ok c.in_ok-both.ensures c.status-status.ensures)
+    (λ text told. IsDiff s inside c.args.replacements.now c.args.asked text told (record { status = c.status-status.result; totals = c.in_ok-both.both.1 })) c.in_ok-say.ensures.ok
+    (diff_as s inside c.args.replacements.now c.args.asked c.in_ok-outcome.outcome c.in_ok-both.both.0 (record { status = c.status-status.result; totals = c.in_ok-both.both.1 }) c.in_ok-outcome.ensures.ok c.in_ok-both.ensures c.status-status.ensures)
 
 pub returns-clause-read : goal.returns-clause-read
 returns-clause-read g c = λ lt.
-    both_read (g.S.Shelf.told c.args.shelf.now) (inside_of c.args.inside.list.now c.args.inside.extras.now) c.args.heirs.now c.args.asked.run c.in_ok-outcome.outcome
+    both_read (g.S.Shelf.told c.args.shelf.now) (inside_of c.args.inside.list.now c.args.inside.extras.now) c.args.replacements.now c.args.asked.run c.in_ok-outcome.outcome
     c.in_ok-outcome.ensures.ok (subst (λ (n : ℕ). n < 2) c.status-status.ensures lt)
 
 pub returns-clause-passes : goal.returns-clause-passes

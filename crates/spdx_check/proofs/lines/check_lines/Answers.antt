@@ -4,7 +4,7 @@ use Rattle.line_engine.specs.Device.{devices}
 use Rattle.line_engine.specs.Output.{capped}
 use Rattle.line_engine.specs.Rule.{Rule}
 use Rattle.line_engine.specs.Runs.{Runs}
-use Rattle.spdx_check.specs.Checking.{blank_count, have_finding, heirs_in, refused_count}
+use Rattle.spdx_check.specs.Checking.{blank_count, have_finding, refused_count, replacements_in}
 use Rattle.spdx_check.specs.Found.{finding_of, rule_of}
 use Rattle.spdx_check.proofs.Blanks.{counts_broken, counts_white}
 use Rattle.spdx_check.proofs.Ended.{checks}
@@ -23,8 +23,8 @@ returns-in-Err-Read-clause-checks g c =
     checks c.args.check.now c.args.is_first c.args.file.now d _ (subst (Runs _ _) fails c.run.ensures.runs) tt
     (counts_broken rule d c.counted.result
     (λ lines. (file.lines ≡ capped (length lines)) × (file.blanks ≡ capped (blank_count lines))
-    × (file.refused ≡ capped (refused_count (finding_of file.check.now.catalogue.now (heirs_in file.check.now) file.check.now.mode) lines))
-    × (file.has_finding ≡ have_finding (finding_of file.check.now.catalogue.now (heirs_in file.check.now) file.check.now.mode) lines))
+    × (file.refused ≡ capped (refused_count (finding_of file.check.now.catalogue.now (replacements_in file.check.now) file.check.now.mode) lines))
+    × (file.has_finding ≡ have_finding (finding_of file.check.now.catalogue.now (replacements_in file.check.now) file.check.now.mode) lines))
     (λ lines known. record {
       lines_are = c.counted.ensures.lines ∙ known.0;
       blanks_are = c.counted.ensures.blanks ∙ known.1;

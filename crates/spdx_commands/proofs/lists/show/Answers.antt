@@ -13,21 +13,21 @@ pub returns-in_err-shown-clause-err : goal.returns-in_err-shown-clause-err
 returns-in_err-shown-clause-err g c =
     let s = g.S.Shelf.told c.args.shelf.now in
     let inside = inside_of c.args.inside.list.now c.args.inside.extras.now in
-    stopped list_trouble (IsNotShown s inside c.args.heirs.now c.args.asked) (SaysShown s inside c.args.heirs.now c.args.asked) (g.O.Sink.told c.args.output.now)
+    stopped list_trouble (IsNotShown s inside c.args.replacements.now c.args.asked) (SaysShown s inside c.args.replacements.now c.args.asked) (g.O.Sink.told c.args.output.now)
     (g.T.Listener.heard c.args.listener.now) c.in_err-shown.field-0.0 c.in_err-shown.ensures.err c.from_residual.result c.from_residual.ensures.1
 
 pub returns-in_err-said-clause-err : goal.returns-in_err-said-clause-err
 returns-in_err-said-clause-err g c =
     let s = g.S.Shelf.told c.args.shelf.now in
     let inside = inside_of c.args.inside.list.now c.args.inside.extras.now in
-    refused list_trouble (IsNotShown s inside c.args.heirs.now c.args.asked) (SaysShown s inside c.args.heirs.now c.args.asked) (g.O.Sink.told c.args.output.now)
+    refused list_trouble (IsNotShown s inside c.args.replacements.now c.args.asked) (SaysShown s inside c.args.replacements.now c.args.asked) (g.O.Sink.told c.args.output.now)
     (g.T.Listener.heard c.args.listener.now) c.from_residual-in_err-said.result c.from_residual-in_err-said.ensures.1
 
 pub returns-in_err-say-clause-err : goal.returns-in_err-say-clause-err
 returns-in_err-say-clause-err g c =
     let s = g.S.Shelf.told c.args.shelf.now in
     let inside = inside_of c.args.inside.list.now c.args.inside.extras.now in
-    said_off list_trouble (IsNotShown s inside c.args.heirs.now c.args.asked) (SaysShown s inside c.args.heirs.now c.args.asked) (g.O.Sink.told c.args.output.now)
+    said_off list_trouble (IsNotShown s inside c.args.replacements.now c.args.asked) (SaysShown s inside c.args.replacements.now c.args.asked) (g.O.Sink.told c.args.output.now)
     (g.T.Listener.heard c.args.listener.now) (g.O.Sink.told c.say.new.output) (g.T.Listener.heard c.say.new.listener) (text_of c.in_ok-said.said) (told_of c.in_ok-said.said) (
       c.status-status.result,
       record {
@@ -45,7 +45,7 @@ returns-clause-ok g c =
     let s = g.S.Shelf.told c.args.shelf.now in
     let inside = inside_of c.args.inside.list.now c.args.inside.extras.now in
     known (g.O.Sink.told c.args.output.now) (g.O.Sink.told c.say.new.output) (g.T.Listener.heard c.args.listener.now) (g.T.Listener.heard c.say.new.listener) (IsSaid c.in_ok-said.said)
-    (λ text told. IsShow s inside c.args.heirs.now c.args.asked text told c.status-status.result) c.in_ok-say.ensures.ok
+    (λ text told. IsShow s inside c.args.replacements.now c.args.asked text told c.status-status.result) c.in_ok-say.ensures.ok
     (λ text told is. record {
       shown = c.in_ok-shown.shown;
       is_shown = c.in_ok-shown.ensures.ok;

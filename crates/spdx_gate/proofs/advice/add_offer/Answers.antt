@@ -16,7 +16,7 @@ returns-in_default c =
 
 pub returns-then-has_text : goal.returns-then-has_text
 returns-then-has_text c =
-    let named : IsNamed c.args.policy.now.list c.args.policy.now.heirs (requirement_text (requirement_of c.args.way.now)) c.in-Some.offer = rw c.in-Some.is at c.in_ok-offer.ensures.some in
+    let named : IsNamed c.args.policy.now.list c.args.policy.now.replacements (requirement_text (requirement_of c.args.way.now)) c.in-Some.offer = rw c.in-Some.is at c.in_ok-offer.ensures.some in
     let there : list_any (λ (m : NamedRow). bytes_eq m.text c.in-Some.offer.text) c.args.offers.now.items ≡ true =
     ap (λ (ns : List NamedRow). list_any (λ (m : NamedRow). bytes_eq m.text c.in-Some.offer.text) ns) (sym c.as_slice.ensures.value)
     ∙ ap (λ (t : List ℕ). list_any (λ (m : NamedRow). bytes_eq m.text t) c.as_slice.result.now) (sym c.text.ensures)
@@ -25,7 +25,7 @@ returns-then-has_text c =
 
 pub returns : goal.returns
 returns c =
-    let named : IsNamed c.args.policy.now.list c.args.policy.now.heirs (requirement_text (requirement_of c.args.way.now)) c.in-Some.offer = rw c.in-Some.is at c.in_ok-offer.ensures.some in
+    let named : IsNamed c.args.policy.now.list c.args.policy.now.replacements (requirement_text (requirement_of c.args.way.now)) c.in-Some.offer = rw c.in-Some.is at c.in_ok-offer.ensures.some in
     let there : list_any (λ (m : NamedRow). bytes_eq m.text c.in-Some.offer.text) c.args.offers.now.items ≡ false =
     ap (λ (ns : List NamedRow). list_any (λ (m : NamedRow). bytes_eq m.text c.in-Some.offer.text) ns) (sym c.as_slice.ensures.value)
     ∙ ap (λ (t : List ℕ). list_any (λ (m : NamedRow). bytes_eq m.text t) c.as_slice.result.now) (sym c.text.ensures)

@@ -5,4 +5,4 @@ use Rattle.spdx_policy.specs.PolicyModel.{named_rows}
 use Rattle.spdx_policy.proofs.reading.exempting_of.Given as goal
 
 abbrev pub invariant-loop-index : goal.invariant-loop-index
-invariant-loop-index l = Each (IsExempting l.catalogue l.heirs) (map exception_row (take l.index l.exceptions)) (map named_rows l.lists.items)
+invariant-loop-index l = Each (IsExempting l.catalogue l.replacements) (map exception_row (take l.index l.exceptions)) (map named_rows l.lists.items)

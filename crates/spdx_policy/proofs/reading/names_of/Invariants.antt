@@ -4,4 +4,4 @@ use Rattle.spdx_policy.specs.Named.{named_row}
 use Rattle.spdx_policy.proofs.reading.names_of.Given as goal
 
 abbrev pub invariant-loop-index : goal.invariant-loop-index
-invariant-loop-index l = Each (IsNamed l.catalogue l.heirs) (map string_bytes (take l.index l.texts)) (map named_row l.names.items)
+invariant-loop-index l = Each (IsNamed l.catalogue l.replacements) (map string_bytes (take l.index l.texts)) (map named_row l.names.items)

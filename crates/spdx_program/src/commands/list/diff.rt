@@ -30,6 +30,10 @@ pub(crate) fn diff<S: Shelf, O: Sink>(
         old: request.old,
         new: request.new,
     };
-    let Inside { list, heirs, .. } = inside;
-    alone(passed(spdx_commands::diff(alloc, shelf, list, heirs, lists, output)))
+    let Inside {
+        list,
+        replacements,
+        ..
+    } = inside;
+    alone(passed(spdx_commands::diff(alloc, shelf, list, replacements, lists, output)))
 }

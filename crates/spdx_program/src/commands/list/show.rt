@@ -30,8 +30,12 @@ pub(crate) fn show<S: Shelf, O: Sink, T: Listener>(
         result }
 {
     let asked = asked(request);
-    let Inside { list, heirs, .. } = inside;
-    alone(spdx_commands::show(alloc, shelf, list, heirs, asked, output, teller))
+    let Inside {
+        list,
+        replacements,
+        ..
+    } = inside;
+    alone(spdx_commands::show(alloc, shelf, list, replacements, asked, output, teller))
 }
 
 fn asked<'r>(request: &'r ShowRequest<'r>) -> Asked<'r>

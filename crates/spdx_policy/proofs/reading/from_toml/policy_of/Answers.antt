@@ -70,7 +70,7 @@ returns-clause-ok c =
     let known : unknown_flag c.args.catalogue.now (draft_rows c.args.draft) ≡ None = sym c.unknown_flag.ensures ∙ c.in_default.is in
     record {
       list = search rules;
-      heirs = search rules;
+      replacements = search rules;
       flags_known = known;
       lax = search rules;
       unstated = search rules;

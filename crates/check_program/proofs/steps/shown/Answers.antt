@@ -1,5 +1,0 @@
-use Rattle.check_files.proofs.Doing.{hears_nil}
-use Rattle.check_program.proofs.steps.shown.Goals as goal
-
-pub returns-then-not-matches : goal.returns-then-not-matches
-returns-then-not-matches g c = hears_nil (g.T.Telling.told c.args.teller.now)

@@ -1,8 +1,0 @@
-use Rattle.std.proofs.lemmas.Result.{IfOk-weaker}
-use Rattle.spdx_list.specs.Shown.{shown_extras}
-use Rattle.list_told.proofs.Succeeding.{if_some}
-use Rattle.list_told.proofs.heirs.heir.Goals as goal
-
-pub returns-clause-other : goal.returns-clause-other
-returns-clause-other c =
-    IfOk-weaker c.heir_of.result _ _ (λ heir is. if_some c.args.catalogue.now (shown_extras c.args.extras.now) c.args.name.now heir is) c.heir_of.ensures
