@@ -27,7 +27,7 @@ use Rattle.gate_program.specs.Policy.{IsPolicyAt}
 use Rattle.gate_program.specs.Run.{IsAllowed}
 use Rattle.changes_program.specs.declared.run.Request.{Request}
 use Rattle.changes_program.specs.declared.run.Run.{Run}
-use Rattle.changes_program.specs.declared.run.Told.{Told}
+use Rattle.changes_program.specs.declared.run.ToldChanges.{ToldChanges}
 use Rattle.changes_program.specs.Said.{AreSaid, IsSaidChange, SaidRow, said_license}
 use Rattle.changes_program.specs.Said as saying
 use Rattle.changes_program.specs.Tellings.{AreTold, IsMarkOf, judged_if}
@@ -109,7 +109,7 @@ both_listed s w p q f g left_out is =
 
 -- ---- a run of status 0
 
-told_zero : (o : Option Told) → status_by o < 1 → (t : Told) × (o ≡ Some t) × (t.is_refused ≡ false)
+told_zero : (o : Option ToldChanges) → status_by o < 1 → (t : ToldChanges) × (o ≡ Some t) × (t.is_refused ≡ false)
 told_zero None lt = absurd (omega (arith, lt))
 told_zero (Some t) lt = (t, refl, allowed t.is_refused lt)
   where
@@ -121,7 +121,7 @@ the_policy : (s : Shelved) (replacements : List ℕ) (c : Rows) (path : List ℕ
 the_policy s replacements c path None h = absurd h
 the_policy s replacements c path (Some p) h = (p, refl, h)
 
-pub the_files : (c : Rows) (p : Option Rules) (format : Format) (files : List Listed) (t : Told) → IsToldOfBoth c p format files (Some t)
+pub the_files : (c : Rows) (p : Option Rules) (format : Format) (files : List Listed) (t : ToldChanges) → IsToldOfBoth c p format files (Some t)
     → (f : Listed) × (g : Listed) × (files ≡ f ∷ g ∷ []) × IsTold c p format f.packages.items g.packages.items t
 the_files c p format [] t e = absurd (none-some t (sym e))
 the_files c p format (f ∷ []) t e = absurd (none-some t (sym e))
@@ -134,7 +134,7 @@ new_ones_pass s inside replacements a run is lt path named =
     let c = is.catalogue in
     let policy = the_policy s replacements c path is.policy (subst (λ (o : Option (List ℕ)). IsPolicyIf s replacements c o is.policy) named is.policy_is) in
     let told = told_zero run.told lt in
-    let both = the_files c is.policy a.format run.files.items told.0 (subst (λ (o : Option Told). IsToldOfBoth c is.policy a.format run.files.items o) told.1 is.runs.tells) in
+    let both = the_files c is.policy a.format run.files.items told.0 (subst (λ (o : Option ToldChanges). IsToldOfBoth c is.policy a.format run.files.items o) told.1 is.runs.tells) in
     let is_told : IsTold c (Some policy.0) a.format both.0.packages.items both.1.packages.items told.0 =
     subst (λ (o : Option Rules). IsTold c o a.format both.0.packages.items both.1.packages.items told.0) policy.1 both.3 in
     let each = both_listed s a.wanted a.old.now a.new.now both.0 both.1 run.left_out.items

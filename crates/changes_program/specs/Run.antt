@@ -25,7 +25,7 @@ use Rattle.package_changes.specs.declared.tellings.Telling.{Telling}
 use Rattle.package_changes.specs.Forms.{changes_text}
 use Rattle.changes_program.specs.declared.run.Request.{Request}
 use Rattle.changes_program.specs.declared.run.Run.{Run}
-use Rattle.changes_program.specs.declared.run.Told.{Told}
+use Rattle.changes_program.specs.declared.run.ToldChanges.{ToldChanges}
 use Rattle.changes_program.specs.declared.run.Totals.{Totals}
 use Rattle.changes_program.specs.Packages.{row_in}
 use Rattle.changes_program.specs.Said.{AreSaid, SaidRow}
@@ -74,7 +74,7 @@ totals_of before after ts = record {
 
 -- the changes between the packages of both files, each told with the mark of the policy
 pub record IsTold (c : Rows) (p : Option Rules) (format : Format) (older newer : List Package)
-    (told : Told) : Type 0 where
+    (told : ToldChanges) : Type 0 where
   pub said : List SaidRow
   pub tellings : List Telling
   pub says : AreSaid c (changes (map row_in older) (map row_in newer)) said
@@ -84,7 +84,7 @@ pub record IsTold (c : Rows) (p : Option Rules) (format : Format) (older newer :
   pub refused_is : told.is_refused ≡ list_any is_refused tellings
 
 -- of two files it is told; where one is left out, nothing is
-abbrev pub IsToldOfBoth : Rows → Option Rules → Format → List Listed → Option Told → Type 0
+abbrev pub IsToldOfBoth : Rows → Option Rules → Format → List Listed → Option ToldChanges → Type 0
 IsToldOfBoth c p format (older ∷ newer ∷ []) None = ⊥
 IsToldOfBoth c p format (older ∷ newer ∷ []) (Some told) =
     IsTold c p format older.packages.items newer.packages.items told
@@ -130,7 +130,7 @@ IsNoRun s inside replacements a trouble.Memory = Unit {0}
 
 -- ---- its status
 
-abbrev pub status_by : Option Told → ℕ
+abbrev pub status_by : Option ToldChanges → ℕ
 status_by None = 2
 status_by (Some told) = if told.is_refused then 1 else 0
 

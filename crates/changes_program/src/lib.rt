@@ -13,4 +13,4 @@ pub mod run;
 mod said;
 mod tellings;
 
-pub use crate::run::{Request, Run, Told, Totals, changes};
+pub use crate::run::{Request, Run, ToldChanges, Totals, changes};

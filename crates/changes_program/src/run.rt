@@ -53,12 +53,12 @@ pub struct Run {
     /// The fault of each file that is left out.
     pub left_out: Vec<FileFault>,
     /// What is told, where neither file is left out.
-    pub told: Option<Told>,
+    pub told: Option<ToldChanges>,
 }
 
 /// What is told of the changes.
 #[derive(Drop)]
-pub struct Told {
+pub struct ToldChanges {
     pub text: Vec<u8>,
     pub totals: Totals,
     /// Whether the policy refuses a package that came, or whose licence changed.
@@ -168,7 +168,7 @@ fn told_of_both(
     policy: &Option<Policy<'_>>,
     format: Format,
     files: &[Listed],
-) -> Result<Option<Told>, AllocError>
+) -> Result<Option<ToldChanges>, AllocError>
     ensures { IfOk result (IsToldOfBoth catalogue.now policy.now format files.now) }
 {
     let [older, newer] = files else {
@@ -192,7 +192,7 @@ fn told_between(
     format: Format,
     older: &[Package],
     newer: &[Package],
-) -> Result<Told, AllocError>
+) -> Result<ToldChanges, AllocError>
     ensures { IfOk result (IsTold catalogue.now policy.now format older.now newer.now) }
 {
     let before = packages_of(alloc, older)?;
@@ -202,7 +202,7 @@ fn told_between(
     let tellings = told_of(alloc, catalogue, policy, &said)?;
     let mut text = Vec::new(alloc);
     put_changes(alloc, &mut text, format, &tellings)?;
-    Ok(Told {
+    Ok(ToldChanges {
         text,
         totals: totals_of(older.len(), newer.len(), &tellings),
         is_refused: is_any_refused(&tellings),

@@ -10,7 +10,7 @@ use Rattle.list_program.specs.declared.trouble.ListTrouble.TheVariants as troubl
 use Rattle.list_program.specs.Named.{InsideBytes, IsNamedList}
 use Rattle.list_program.specs.Dated.{IsNamedDate}
 use Rattle.list_program.specs.Troubles.{AreNoExtras, IsNoNamedList}
-use Rattle.list_told.specs.declared.shown.Asked.{Asked}
+use Rattle.list_told.specs.declared.shown.NameQuery.{NameQuery}
 use Rattle.list_told.specs.declared.shown.Shown.{Shown}
 use Rattle.list_told.specs.declared.unlisted.Unlisted.{Unlisted}
 use Rattle.list_told.specs.Texts.{AreTexts}
@@ -41,7 +41,7 @@ IsDayFor s inside list [] day = IsNamedDate s inside list day
 IsDayFor s inside list (name ∷ names) day = day ≡ None
 
 -- by the list that is named, or else is inside
-pub record IsShown (s : Shelved) (inside : InsideBytes) (replacements : List ℕ) (a : Asked)
+pub record IsShown (s : Shelved) (inside : InsideBytes) (replacements : List ℕ) (a : NameQuery)
     (shown : Shown) : Type 0 where
   pub catalogue : Rows
   pub day : Option (List ℕ)
@@ -56,7 +56,7 @@ AreNoReplacements replacements [] t = t ≡ trouble.Memory
 AreNoReplacements replacements (name ∷ names) t = AreNoExtras replacements t
 
 -- why nothing is told
-abbrev pub IsNotShown : Shelved → InsideBytes → List ℕ → Asked → ListTrouble → Type 0
+abbrev pub IsNotShown : Shelved → InsideBytes → List ℕ → NameQuery → ListTrouble → Type 0
 IsNotShown s inside replacements a t =
     IsNoNamedList s inside (option_copied a.list) t
     ⊎ ((c : Rows) × IsNamedList s inside (option_copied a.list) c
@@ -70,7 +70,7 @@ abbrev pub status_of : Shown → ℕ
 status_of shown = status_by shown.unlisted.items
 
 -- the status is 0 exactly if the list that is read has each of the names
-pub record TellsListed (s : Shelved) (inside : InsideBytes) (a : Asked) (shown : Shown) :
+pub record TellsListed (s : Shelved) (inside : InsideBytes) (a : NameQuery) (shown : Shown) :
     Type 0 where
   pub catalogue : Rows
   pub list_is : IsNamedList s inside (option_copied a.list) catalogue

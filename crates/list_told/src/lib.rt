@@ -21,5 +21,5 @@ pub mod unlisted;
 
 pub use crate::differing::{Lists, diff};
 pub use crate::replacements::replacement;
-pub use crate::shown::{Asked, Shown, show};
+pub use crate::shown::{NameQuery, Shown, show};
 pub use crate::unlisted::Unlisted;

@@ -27,12 +27,12 @@ use spdx_catalogue::Catalogue;
 use spdx_list::Extras;
 use std::alloc::{AllocError, Global};
 
-/// What is asked.
+/// The names that are asked for, and the list that is asked.
 #[derive(Clone, Copy)]
-pub struct Asked<'a> {
+pub struct NameQuery<'a> {
     /// The path of the list, where one is named.
     pub list: Option<&'a str>,
-    /// The names; where there are none, all of the list are told.
+    /// Where there are none, all of the list are told.
     pub names: &'a [&'a str],
 }
 
@@ -66,7 +66,7 @@ pub fn show<S: Shelf>(
     shelf: &S,
     inside: Inside<'_>,
     replacements: &[u8],
-    asked: Asked<'_>,
+    asked: NameQuery<'_>,
 ) -> Result<Shown, ListTrouble>
     ensures ok { IfOk result (IsShown (S.told shelf.now)
         (inside_of inside.entry.list.now inside.entry.extras.now) replacements.now asked.entry) }
@@ -86,7 +86,7 @@ fn day_for<S: Shelf>(
     alloc: Global,
     shelf: &S,
     inside: Inside<'_>,
-    asked: Asked<'_>,
+    asked: NameQuery<'_>,
 ) -> Result<Option<String>, ListTrouble>
     ensures ok { IfOk result (λ day. IsDayFor (S.told shelf.now)
         (inside_of inside.entry.list.now inside.entry.extras.now)

@@ -16,7 +16,7 @@ use Rattle.spdx_meaning.specs.Reading.{IsUnmeant, Says}
 use Rattle.spdx_meaning.specs.declared.reading.Unmeant.{Unmeant}
 use Rattle.list_program.specs.Named.{InsideBytes, IsNamedList}
 use Rattle.list_program.specs.Troubles.{IsNoNamedList}
-use Rattle.meaning_program.specs.declared.compared.Asked.{Asked}
+use Rattle.meaning_program.specs.declared.compared.TextPair.{TextPair}
 use Rattle.meaning_program.specs.declared.compared.Compared.{Compared}
 use Rattle.meaning_program.specs.declared.compared.Meant.{Meant}
 use Rattle.meaning_program.specs.declared.trouble.MeaningTrouble.{MeaningTrouble}
@@ -37,7 +37,7 @@ pub record IsToldOf (one other : List ℕ) (t u : Tree) (told : Compared) : Type
   pub same_is : told.is_same ≡ is_same comparison.relation
 
 -- of two texts by this list
-pub record IsComparedBy (c : Rows) (a : Asked) (told : Compared) : Type 0 where
+pub record IsComparedBy (c : Rows) (a : TextPair) (told : Compared) : Type 0 where
   pub first : Tree
   pub second : Tree
   pub first_is : Says c (mode_by a.is_lax) (read_as c a.is_lax a.one.now) first
@@ -63,20 +63,20 @@ IsUnmeantText c is_lax text (trouble.Unsaid u) =
 IsUnmeantText c is_lax text trouble.Memory = Unit {0}
 
 -- one of them has no meaning that is told
-abbrev pub IsUnsaidOf : Rows → Asked → MeaningTrouble → Type 0
+abbrev pub IsUnsaidOf : Rows → TextPair → MeaningTrouble → Type 0
 IsUnsaidOf c a (trouble.List t) = ⊥
 IsUnsaidOf c a (trouble.Unsaid u) =
     IsUnsaid c a.is_lax a.one.now u ⊎ IsUnsaid c a.is_lax a.other.now u
 IsUnsaidOf c a trouble.Memory = Unit {0}
 
 -- by the list that is named, or else is inside
-pub record IsCompared (s : Shelved) (inside : InsideBytes) (a : Asked) (told : Compared) : Type 0 where
+pub record IsCompared (s : Shelved) (inside : InsideBytes) (a : TextPair) (told : Compared) : Type 0 where
   pub catalogue : Rows
   pub list_is : IsNamedList s inside (option_copied a.list) catalogue
   pub compared_is : IsComparedBy catalogue a told
 
 -- why nothing is told; nothing is said of memory
-abbrev pub IsNotCompared : Shelved → InsideBytes → Asked → MeaningTrouble → Type 0
+abbrev pub IsNotCompared : Shelved → InsideBytes → TextPair → MeaningTrouble → Type 0
 IsNotCompared s inside a (trouble.List t) = IsNoNamedList s inside (option_copied a.list) t
 IsNotCompared s inside a (trouble.Unsaid u) =
     (c : Rows) × IsNamedList s inside (option_copied a.list) c
@@ -85,7 +85,7 @@ IsNotCompared s inside a trouble.Memory = Unit {0}
 
 -- by the list that is read each text says one tree, and it is told that they mean the same exactly
 -- if whatever is accepted both hold or none does
-pub record TellsSame (s : Shelved) (inside : InsideBytes) (a : Asked) (told : Compared) : Type 0 where
+pub record TellsSame (s : Shelved) (inside : InsideBytes) (a : TextPair) (told : Compared) : Type 0 where
   pub catalogue : Rows
   pub first : Tree
   pub second : Tree

@@ -26,9 +26,9 @@ use spdx_meaning::{Relation, Unmeant, compare_sets, minimal_sets, nodes_of};
 use spdx_parser::node::{ExprNode, NodeList};
 use std::alloc::{AllocError, Global};
 
-/// What is asked.
+/// Two texts to compare, and how they are read.
 #[derive(Clone, Copy)]
-pub struct Asked<'a> {
+pub struct TextPair<'a> {
     /// The path of the list, where one is named.
     pub list: Option<&'a str>,
     pub is_lax: bool,
@@ -55,7 +55,7 @@ pub fn compare<S: Shelf>(
     alloc: Global,
     shelf: &S,
     inside: Inside<'_>,
-    asked: Asked<'_>,
+    asked: TextPair<'_>,
 ) -> Result<Compared, MeaningTrouble>
     ensures ok { IfOk result (IsCompared (S.told shelf.now)
         (inside_of inside.entry.list.now inside.entry.extras.now) asked.entry) }
@@ -73,7 +73,7 @@ pub fn compare<S: Shelf>(
 fn compared_by(
     alloc: Global,
     catalogue: &Catalogue,
-    asked: Asked<'_>,
+    asked: TextPair<'_>,
 ) -> Result<Compared, MeaningTrouble>
     ensures ok { IfOk result (IsComparedBy catalogue.now asked.entry) }
     ensures err { IfErr result (IsUnsaidOf catalogue.now asked.entry) }
@@ -121,7 +121,7 @@ fn meaning_in<'c>(
 
 fn told_of(
     alloc: Global,
-    asked: Asked<'_>,
+    asked: TextPair<'_>,
     first: &Meant<'_>,
     second: &Meant<'_>,
 ) -> Result<Compared, AllocError>

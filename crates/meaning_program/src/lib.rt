@@ -16,7 +16,7 @@ mod sayings;
 pub mod simplified;
 pub mod trouble;
 
-pub use crate::compared::{Asked, Compared, compare};
+pub use crate::compared::{Compared, TextPair, compare};
 pub use crate::files::{FileEnd, Request, Run, simplify};
 pub use crate::simplified::{Simplified, UnmeantLine, simplify_lines};
 pub use crate::trouble::{MeaningTrouble, Unsaid};

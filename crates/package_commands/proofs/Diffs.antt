@@ -5,7 +5,7 @@ use Rattle.std.specs.Prelude.{Option, None, Some, String}
 use Rattle.changes_program.proofs.Passing.{both_listed, the_files}
 use Rattle.changes_program.specs.Run.{IsRun, IsToldOfBoth, status_by, status_of}
 use Rattle.changes_program.specs.declared.run.Run.{Run}
-use Rattle.changes_program.specs.declared.run.Told.{Told}
+use Rattle.changes_program.specs.declared.run.ToldChanges.{ToldChanges}
 use Rattle.check_files.specs.Told.{Hears, Tells, each}
 use Rattle.list_program.specs.Named.{InsideBytes}
 use Rattle.package_files.specs.All.{AreListed}
@@ -36,14 +36,14 @@ diff_told wanted run mid last s totals first forms is =
 
 -- ---- both files
 
-told_below : (o : Option Told) → status_by o < 2 → (t : Told) × (o ≡ Some t)
+told_below : (o : Option ToldChanges) → status_by o < 2 → (t : ToldChanges) × (o ≡ Some t)
 told_below None lt = absurd (omega (arith, lt))
 told_below (Some t) lt = (t, refl)
 
 pub both_read : (s : Shelved) (inside : InsideBytes) (replacements : List ℕ) (a : Request) (run : Run) → IsRun s inside replacements a run → status_of run < 2 → AreBothRead s a
 both_read s inside replacements a run is lt =
     let told = told_below run.told lt in
-    let both = the_files is.catalogue is.policy a.format run.files.items told.0 (subst (λ (o : Option Told). IsToldOfBoth is.catalogue is.policy a.format run.files.items o) told.1 is.runs.tells) in
+    let both = the_files is.catalogue is.policy a.format run.files.items told.0 (subst (λ (o : Option ToldChanges). IsToldOfBoth is.catalogue is.policy a.format run.files.items o) told.1 is.runs.tells) in
     let each = both_listed s a.wanted a.old.now a.new.now both.0 both.1 run.left_out.items
     (subst (λ (files : List Listed). AreListed s a.wanted (a.old.now ∷ a.new.now ∷ []) files run.left_out.items) both.2 is.runs.reads) in
     record { older = both.0; newer = both.1; older_is = each.0; newer_is = each.1 }

@@ -20,7 +20,7 @@ use Rattle.package_files.specs.declared.listed.Source.{Source}
 use Rattle.package_commands.specs.Forms.{AreFormsTold}
 use Rattle.package_commands.specs.Gate.{AreBothTold, IsEndSaid, IsGateTold, IsReadTold}
 use Rattle.package_commands.specs.Shared.{AreSharedTold, AreToldAs, documents_in, names_text}
-use Rattle.package_commands.specs.declared.gated.Asked.{Asked}
+use Rattle.package_commands.specs.declared.gated.GateTask.{GateTask}
 use Rattle.spdx_commands.specs.Said.{text_of, told_of}
 use Rattle.spdx_commands.specs.declared.said.Said.{Said}
 use Rattle.spdx_troubles.specs.Causes.{file_trouble}
@@ -90,7 +90,7 @@ told_all faults read before ended s is was ends =
 
 -- ---- `gate`
 
-pub gate_told : (a : Asked) (run : Run) (mid last : List Trouble) (s : Said) → Hears (each []) (each mid) (map file_trouble run.left_out.items)
+pub gate_told : (a : GateTask) (run : Run) (mid last : List Trouble) (s : Said) → Hears (each []) (each mid) (map file_trouble run.left_out.items)
     → Tells (each mid) (each last) (IsReadTold a.is_quiet a.run.wanted.source run.files.items) → IsEndSaid last (option_copied a.run.look.explain) run.end s
     → IsGateTold a run (text_of s) (told_of s)
 gate_told a run mid last s first reads ends =

@@ -5,15 +5,15 @@ use Rattle.std.specs.Fmt.{decimal}
 use Rattle.changes_program.specs.Run.{IsRun, status_of}
 use Rattle.changes_program.specs.declared.run.Request.{Request}
 use Rattle.changes_program.specs.declared.run.Run.{Run}
-use Rattle.changes_program.specs.declared.run.Told.{Told}
+use Rattle.changes_program.specs.declared.run.ToldChanges.{ToldChanges}
 use Rattle.changes_program.specs.declared.run.Totals.{Totals}
 use Rattle.list_program.specs.Named.{InsideBytes}
 use Rattle.package_files.specs.Listed.{IsListedAt}
 use Rattle.package_files.specs.declared.listed.Listed.{Listed}
 use Rattle.shelves.specs.Shelf.{Shelved}
 use Rattle.package_commands.specs.Forms.{AreFormsTold}
-use Rattle.package_commands.specs.declared.differences.AskedDiff.{AskedDiff}
-use Rattle.package_commands.specs.declared.differences.Changed.{Changed}
+use Rattle.package_commands.specs.declared.differences.DiffTask.{DiffTask}
+use Rattle.package_commands.specs.declared.differences.DiffEnd.{DiffEnd}
 use Rattle.spdx_commands.specs.Said as said
 use Rattle.spdx_commands.specs.declared.said.Said.{Said}
 use Rattle.spdx_troubles.specs.Causes.{file_trouble}
@@ -49,7 +49,7 @@ line_if true t = Some (totals_line t)
 line_if false t = None
 
 -- where it is wanted and both files are read
-abbrev pub totals_if : Bool → Option Told → Option (List ℕ)
+abbrev pub totals_if : Bool → Option ToldChanges → Option (List ℕ)
 totals_if wanted None = None
 totals_if wanted (Some told) = line_if wanted told.totals
 
@@ -59,7 +59,7 @@ line_of line = option_map string_bytes line
 -- ---- the command
 
 -- nothing where a file is left out
-abbrev pub text_of : Option Told → List ℕ
+abbrev pub text_of : Option ToldChanges → List ℕ
 text_of None = []
 text_of (Some told) = told.text.items
 
@@ -74,17 +74,17 @@ pub record IsDiffTold (wanted : Bool) (run : Run) (text : List ℕ) (told : List
   pub totals_are : line_of totals ≡ totals_if wanted run.told
 
 -- what comes of a run is written and told
-pub record IsDiff (s : Shelved) (inside : InsideBytes) (replacements : List ℕ) (a : AskedDiff)
-    (text : List ℕ) (told : List Trouble) (c : Changed) : Type 0 where
+pub record IsDiff (s : Shelved) (inside : InsideBytes) (replacements : List ℕ) (a : DiffTask)
+    (text : List ℕ) (told : List Trouble) (c : DiffEnd) : Type 0 where
   pub run : Run
   pub is_run : IsRun s inside replacements a.run run
   pub told_are : IsDiffTold a.tells_totals run text told c.totals
   pub status_is : c.status ≡ status_of run
 
 -- so it is with such an end
-abbrev pub SaysDiff : Shelved → InsideBytes → List ℕ → AskedDiff → List ℕ → List Trouble → Type 0
+abbrev pub SaysDiff : Shelved → InsideBytes → List ℕ → DiffTask → List ℕ → List Trouble → Type 0
 SaysDiff s inside replacements a text told =
-    (c : Changed) × IsDiff s inside replacements a text told c
+    (c : DiffEnd) × IsDiff s inside replacements a text told c
 
 -- both files list packages
 pub record AreBothRead (s : Shelved) (a : Request) : Type 0 where
@@ -96,7 +96,7 @@ pub record AreBothRead (s : Shelved) (a : Request) : Type 0 where
 -- ---- the parts of it, which only private clauses cite
 
 -- this is said of the changes, behind what is told before
-pub record IsToldSaid (before : List Trouble) (wanted : Bool) (told : Option Told) (s : Said)
+pub record IsToldSaid (before : List Trouble) (wanted : Bool) (told : Option ToldChanges) (s : Said)
     (totals : Option (String Global)) : Type 0 where
   pub before_is : s.before.items ≡ before
   pub after_is : s.after.items ≡ []

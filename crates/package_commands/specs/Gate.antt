@@ -13,7 +13,7 @@ use Rattle.package_files.specs.declared.listed.Source.{Source}
 use Rattle.shelves.specs.Shelf.{Shelved}
 use Rattle.package_commands.specs.Forms.{AreFormsTold}
 use Rattle.package_commands.specs.Shared.{AreSharedTold}
-use Rattle.package_commands.specs.declared.gated.Asked.{Asked}
+use Rattle.package_commands.specs.declared.gated.GateTask.{GateTask}
 use Rattle.spdx_commands.specs.Said.{text_of}
 use Rattle.spdx_commands.specs.declared.said.Said.{Said}
 use Rattle.spdx_troubles.specs.Causes.{file_trouble}
@@ -54,7 +54,7 @@ IsGateEnd explain (end.NoPackage x) text told = IsUnexplained explain x text tol
 -- ---- the command
 
 -- what is written and told of a run: first why files are left out, then how others were read
-pub record IsGateTold (a : Asked) (run : Run) (text : List ℕ) (told : List Trouble) : Type 0 where
+pub record IsGateTold (a : GateTask) (run : Run) (text : List ℕ) (told : List Trouble) : Type 0 where
   pub read : List Trouble
   pub ended : List Trouble
   pub read_are : IsReadTold a.is_quiet a.run.wanted.source run.files.items read
@@ -62,7 +62,7 @@ pub record IsGateTold (a : Asked) (run : Run) (text : List ℕ) (told : List Tro
   pub told_are : told ≡ map file_trouble run.left_out.items ++ (read ++ ended)
 
 -- what comes of a run is written and told
-pub record IsGate (s : Shelved) (inside : InsideBytes) (replacements : List ℕ) (a : Asked)
+pub record IsGate (s : Shelved) (inside : InsideBytes) (replacements : List ℕ) (a : GateTask)
     (text : List ℕ) (told : List Trouble) (status : ℕ) : Type 0 where
   pub run : Run
   pub is_run : IsRun s inside replacements a.run run
@@ -70,7 +70,7 @@ pub record IsGate (s : Shelved) (inside : InsideBytes) (replacements : List ℕ)
   pub status_is : status ≡ status_of run
 
 -- so it is with such a status
-abbrev pub SaysGate : Shelved → InsideBytes → List ℕ → Asked → List ℕ → List Trouble → Type 0
+abbrev pub SaysGate : Shelved → InsideBytes → List ℕ → GateTask → List ℕ → List Trouble → Type 0
 SaysGate s inside replacements a text told =
     (status : ℕ) × IsGate s inside replacements a text told status
 

@@ -13,7 +13,7 @@ use Rattle.shelves.specs.Shelf.{Shelved}
 use Rattle.package_commands.specs.Gate.{AreBothTold}
 use Rattle.package_commands.specs.Texts.{AreTextsTold, IsFolderTold, IsNotUtf8}
 use Rattle.package_commands.specs.Unchosen.{AreUnchosenTold, IsOnly}
-use Rattle.package_commands.specs.declared.pages.Noticed.{Noticed}
+use Rattle.package_commands.specs.declared.pages.NoticeEnd.{NoticeEnd}
 use Rattle.spdx_commands.specs.Said.{text_of}
 use Rattle.spdx_commands.specs.declared.said.Said.{Said}
 use Rattle.spdx_troubles.specs.Causes.{file_trouble}
@@ -65,7 +65,7 @@ pub record IsNoticeTold (a : Request) (run : Run) (text : List ℕ) (told : List
 
 -- what comes of a run is written and told
 pub record IsNotice (s : Shelved) (inside : InsideBytes) (replacements : List ℕ) (a : Request)
-    (text : List ℕ) (told : List Trouble) (n : Noticed) : Type 0 where
+    (text : List ℕ) (told : List Trouble) (n : NoticeEnd) : Type 0 where
   pub run : Run
   pub is_run : IsRun s inside replacements a run
   pub told_are : IsNoticeTold a run text told n.totals
@@ -74,7 +74,7 @@ pub record IsNotice (s : Shelved) (inside : InsideBytes) (replacements : List �
 -- so it is with such an end
 abbrev pub SaysNotice : Shelved → InsideBytes → List ℕ → Request → List ℕ → List Trouble → Type 0
 SaysNotice s inside replacements a text told =
-    (n : Noticed) × IsNotice s inside replacements a text told n
+    (n : NoticeEnd) × IsNotice s inside replacements a text told n
 
 -- the page that is written has all that is wanted, and nothing is told besides but how files were
 -- read and what is missing on it

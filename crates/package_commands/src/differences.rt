@@ -13,7 +13,7 @@ ghost use Rattle.spdx_troubles.specs.Causes.{gate_trouble};
 
 use crate::forms::tell_forms;
 use crate::gated::tell_left_out;
-use changes_program::{Request, Run, Told, Totals, changes};
+use changes_program::{Request, Run, ToldChanges, Totals, changes};
 use line_engine::device::Sink;
 use list_program::Inside;
 use shelves::Shelf;
@@ -21,18 +21,18 @@ use spdx_commands::{Listener, Said, say};
 use spdx_troubles::Trouble;
 use std::alloc::{AllocError, Global};
 
-/// What is asked of the command.
+/// What `diff` is to do.
 #[derive(Clone, Copy)]
-pub struct AskedDiff<'a> {
+pub struct DiffTask<'a> {
     /// What is asked of the run.
     pub run: Request<'a>,
     /// Whether the line of totals is wanted.
     pub tells_totals: bool,
 }
 
-/// How the command ended.
+/// How `diff` ended.
 #[derive(Drop)]
-pub struct Changed {
+pub struct DiffEnd {
     pub status: u8,
     /// The line of totals, where it is wanted and both files are read.
     pub totals: Option<String>,
@@ -51,10 +51,10 @@ pub fn diff<S: Shelf, O: Sink, T: Listener>(
     shelf: &S,
     inside: Inside<'_>,
     replacements: &[u8],
-    asked: AskedDiff<'_>,
+    asked: DiffTask<'_>,
     output: &mut O,
     listener: &mut T,
-) -> Result<Changed, Trouble>
+) -> Result<DiffEnd, Trouble>
     ensures ok { IfOk result (λ changed. Does (O.told output.old) (O.told output.new)
         (T.heard listener.old) (T.heard listener.new) (λ text told. IsDiff (S.told shelf.now)
         (inside_of inside.entry.list.now inside.entry.extras.now) replacements.now
@@ -76,7 +76,7 @@ pub fn diff<S: Shelf, O: Sink, T: Listener>(
     let both = changes_said(alloc, asked.tells_totals, outcome)?;
     let (said, totals) = both;
     say(alloc, said, output, listener)?;
-    Ok(Changed { status, totals })
+    Ok(DiffEnd { status, totals })
 }
 
 // What is said of a run, and the line of totals, where it is wanted and both files are read.
@@ -102,7 +102,7 @@ fn changes_said(
 fn told_said(
     alloc: Global,
     tells_totals: bool,
-    told: Option<Told>,
+    told: Option<ToldChanges>,
     before: Vec<Trouble>,
 ) -> Result<(Said, Option<String>), AllocError>
     ensures { IfOk result (λ it. spec.IsToldSaid before.items tells_totals told it.0 it.1) }
@@ -110,7 +110,7 @@ fn told_said(
     let after = Vec::new(alloc);
     match told {
         Some(told) => {
-            let Told { text, totals, .. } = told;
+            let ToldChanges { text, totals, .. } = told;
             let totals = totals_if(alloc, tells_totals, totals)?;
             Ok((
                 Said {

@@ -22,9 +22,9 @@ use spdx_commands::{Listener, Said, say};
 use spdx_troubles::Trouble;
 use std::alloc::{AllocError, Global};
 
-/// What is asked of the command.
+/// What `gate` is to do.
 #[derive(Clone, Copy)]
-pub struct Asked<'a> {
+pub struct GateTask<'a> {
     /// What is asked of the run.
     pub run: Request<'a>,
     /// Whether it isn't told how files were read.
@@ -44,7 +44,7 @@ pub fn gate<S: Shelf, O: Sink, T: Listener>(
     shelf: &S,
     inside: Inside<'_>,
     replacements: &[u8],
-    asked: Asked<'_>,
+    asked: GateTask<'_>,
     output: &mut O,
     listener: &mut T,
 ) -> Result<u8, Trouble>
@@ -70,7 +70,7 @@ pub fn gate<S: Shelf, O: Sink, T: Listener>(
 }
 
 // What is said of a run.
-fn gate_said(alloc: Global, asked: Asked<'_>, outcome: Run) -> Result<Said, AllocError>
+fn gate_said(alloc: Global, asked: GateTask<'_>, outcome: Run) -> Result<Said, AllocError>
     ensures { IfOk result (λ said. IsGateTold asked.entry outcome (text_of said) (told_of said)) }
 {
     let Run {
@@ -108,7 +108,7 @@ pub(crate) fn tell_left_out<T: Listener>(
 #[tactic(auto, using(crate::proofs::Ends::quiet_told, crate::proofs::Ends::read_told))]
 fn tell_read<T: Listener>(
     alloc: Global,
-    asked: Asked<'_>,
+    asked: GateTask<'_>,
     files: &[Listed],
     listener: &mut T,
 ) -> Result<(), AllocError>

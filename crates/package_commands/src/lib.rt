@@ -17,6 +17,6 @@ mod shared;
 mod texts;
 mod unchosen;
 
-pub use crate::differences::{AskedDiff, Changed, diff};
-pub use crate::gated::{Asked, gate};
-pub use crate::pages::{Noticed, notice};
+pub use crate::differences::{DiffEnd, DiffTask, diff};
+pub use crate::gated::{GateTask, gate};
+pub use crate::pages::{NoticeEnd, notice};

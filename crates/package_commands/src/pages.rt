@@ -27,9 +27,9 @@ const OWN_LINK: &str = "a link out of the folder";
 
 const GENERAL_LINK: &str = "a link out of the folder; --follow reads it";
 
-/// How the command ended.
+/// How `notice` ended.
 #[derive(Drop)]
-pub struct Noticed {
+pub struct NoticeEnd {
     pub status: u8,
     /// The line of totals, where packages have texts of their own and nothing else stands in the way of a page.
     pub totals: Option<String>,
@@ -50,7 +50,7 @@ pub fn notice<S: Shelf, O: Sink, T: Listener>(
     request: Request<'_>,
     output: &mut O,
     listener: &mut T,
-) -> Result<Noticed, Trouble>
+) -> Result<NoticeEnd, Trouble>
     ensures ok { IfOk result (λ noticed. Does (O.told output.old) (O.told output.new)
         (T.heard listener.old) (T.heard listener.new) (λ text told. IsNotice (S.told shelf.now)
         (inside_of inside.entry.list.now inside.entry.extras.now) replacements.now
@@ -72,7 +72,7 @@ pub fn notice<S: Shelf, O: Sink, T: Listener>(
     let both = notice_said(alloc, request, outcome)?;
     let (said, totals) = both;
     say(alloc, said, output, listener)?;
-    Ok(Noticed { status, totals })
+    Ok(NoticeEnd { status, totals })
 }
 
 // What is said of a run, and the line of totals, if there is one.

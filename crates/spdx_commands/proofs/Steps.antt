@@ -6,12 +6,12 @@ use Rattle.std.proofs.lemmas.Grind.{flat_map-append}
 use Rattle.check_files.specs.Told.{Account, Hears, Tells}
 use Rattle.check_files.proofs.Doing.{hears_nil, hears_trans}
 use Rattle.list_program.specs.Named.{InsideBytes}
-use Rattle.list_told.specs.declared.shown.Asked as the_list
+use Rattle.list_told.specs.declared.shown.NameQuery.{NameQuery}
 use Rattle.list_told.specs.declared.shown.Shown.{Shown}
 use Rattle.list_told.specs.Shown.{TellsListed, status_of as shown_status}
 use Rattle.meaning_program.specs.Compared.{TellsSame}
 use Rattle.meaning_program.specs.Files.{IsRun, status_of as run_status}
-use Rattle.meaning_program.specs.declared.compared.Asked.{Asked}
+use Rattle.meaning_program.specs.declared.compared.TextPair.{TextPair}
 use Rattle.meaning_program.specs.declared.compared.Compared.{Compared}
 use Rattle.meaning_program.specs.declared.files.FileEnd.{FileEnd}
 use Rattle.meaning_program.specs.declared.files.Request as simplify
@@ -79,7 +79,7 @@ zero_true : (b : Bool) → status_of b ≡ 0 → b ≡ true
 zero_true true e = refl
 zero_true false e = absurd (omega (arith, e))
 
-pub says_same : (s : Shelved) (inside : InsideBytes) (a : Asked) (told : Compared) (status : ℕ) → TellsSame s inside a told → status ≡ status_of told.is_same → SaysSame s inside a status
+pub says_same : (s : Shelved) (inside : InsideBytes) (a : TextPair) (told : Compared) (status : ℕ) → TellsSame s inside a told → status ≡ status_of told.is_same → SaysSame s inside a status
 says_same s inside a told status h is = record {
   catalogue = h.catalogue;
   first = h.first;
@@ -90,7 +90,7 @@ says_same s inside a told status h is = record {
   same = (λ e. h.same.0 (zero_true told.is_same (sym is ∙ e)), λ e. is ∙ ap status_of (h.same.1 e));
 }
 
-pub says_listed : (s : Shelved) (inside : InsideBytes) (a : the_list.Asked) (shown : Shown) (status : ℕ) → TellsListed s inside a shown → status ≡ shown_status shown → SaysListed s inside a status
+pub says_listed : (s : Shelved) (inside : InsideBytes) (a : NameQuery) (shown : Shown) (status : ℕ) → TellsListed s inside a shown → status ≡ shown_status shown → SaysListed s inside a status
 says_listed s inside a shown status h is = record {
   catalogue = h.catalogue;
   list_is = h.list_is;

@@ -7,7 +7,7 @@ use Rattle.spdx_parser.specs.Tree.{Tree}
 use Rattle.spdx_meaning.specs.Meaning.{IsEquivalent}
 use Rattle.spdx_meaning.specs.Reading.{Says}
 use Rattle.list_program.specs.Named.{InsideBytes, IsNamedList}
-use Rattle.meaning_program.specs.declared.compared.Asked.{Asked}
+use Rattle.meaning_program.specs.declared.compared.TextPair.{TextPair}
 use Rattle.meaning_program.specs.declared.compared.Compared.{Compared}
 use Rattle.meaning_program.specs.Compared.{IsCompared}
 use Rattle.meaning_program.specs.Reading.{mode_by, read_as}
@@ -17,7 +17,7 @@ abbrev pub status_of : Bool → ℕ
 status_of is_same = if is_same then 0 else 1
 
 -- what is told of both texts is written
-pub record IsCompare (s : Shelved) (inside : InsideBytes) (a : Asked) (text : List ℕ)
+pub record IsCompare (s : Shelved) (inside : InsideBytes) (a : TextPair) (text : List ℕ)
     (status : ℕ) : Type 0 where
   pub told : Compared
   pub is_compared : IsCompared s inside a told
@@ -25,12 +25,12 @@ pub record IsCompare (s : Shelved) (inside : InsideBytes) (a : Asked) (text : Li
   pub status_is : status ≡ status_of told.is_same
 
 -- so it is with such a status, and nothing is told
-abbrev pub SaysCompared : Shelved → InsideBytes → Asked → List ℕ → List Trouble → Type 0
+abbrev pub SaysCompared : Shelved → InsideBytes → TextPair → List ℕ → List Trouble → Type 0
 SaysCompared s inside a text told = (told ≡ []) × ((status : ℕ) × IsCompare s inside a text status)
 
 -- by the list that is named each text says one tree, and the status is 0 exactly if they mean the
 -- same: whatever is accepted, both hold or none does
-pub record SaysSame (s : Shelved) (inside : InsideBytes) (a : Asked) (status : ℕ) : Type 0 where
+pub record SaysSame (s : Shelved) (inside : InsideBytes) (a : TextPair) (status : ℕ) : Type 0 where
   pub catalogue : Rows
   pub first : Tree
   pub second : Tree

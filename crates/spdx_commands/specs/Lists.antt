@@ -11,7 +11,7 @@ use Rattle.list_program.specs.declared.trouble.ListTrouble.{ListTrouble}
 use Rattle.list_program.specs.declared.trouble.ListTrouble.TheVariants as list
 use Rattle.list_told.specs.Diffs.{IsDiff}
 use Rattle.list_told.specs.declared.differing.Lists.{Lists}
-use Rattle.list_told.specs.declared.shown.Asked.{Asked}
+use Rattle.list_told.specs.declared.shown.NameQuery.{NameQuery}
 use Rattle.list_told.specs.declared.shown.Shown.{Shown}
 use Rattle.list_told.specs.declared.unlisted.Unlisted.{Unlisted}
 use Rattle.list_told.specs.Shown.{IsShown, status_of}
@@ -29,7 +29,7 @@ abbrev pub unlisted_trouble : Unlisted → Trouble
 unlisted_trouble u = trouble.Unlisted u.name u.told
 
 -- what the list says of the names is written, and those are told that it hasn't
-pub record IsShow (s : Shelved) (inside : InsideBytes) (replacements : List ℕ) (a : Asked)
+pub record IsShow (s : Shelved) (inside : InsideBytes) (replacements : List ℕ) (a : NameQuery)
     (text : List ℕ) (told : List Trouble) (status : ℕ) : Type 0 where
   pub shown : Shown
   pub is_shown : IsShown s inside replacements a shown
@@ -38,12 +38,12 @@ pub record IsShow (s : Shelved) (inside : InsideBytes) (replacements : List ℕ)
   pub status_is : status ≡ status_of shown
 
 -- so it is with such a status
-abbrev pub SaysShown : Shelved → InsideBytes → List ℕ → Asked → List ℕ → List Trouble → Type 0
+abbrev pub SaysShown : Shelved → InsideBytes → List ℕ → NameQuery → List ℕ → List Trouble → Type 0
 SaysShown s inside replacements a text told =
     (status : ℕ) × IsShow s inside replacements a text told status
 
 -- the status is 0 exactly if the list that is read has each of the names
-pub record SaysListed (s : Shelved) (inside : InsideBytes) (a : Asked) (status : ℕ) : Type 0 where
+pub record SaysListed (s : Shelved) (inside : InsideBytes) (a : NameQuery) (status : ℕ) : Type 0 where
   pub catalogue : Rows
   pub list_is : IsNamedList s inside (option_copied a.list) catalogue
   pub listed : (status ≡ 0) ↔ All (IsListed catalogue) (nows a.names.now)

@@ -12,7 +12,7 @@ ghost use Rattle.spdx_troubles.specs.Causes.{meaning_trouble};
 use line_engine::device::Sink;
 use line_engine::lines::write_all;
 use list_program::Inside;
-use meaning_program::Asked;
+use meaning_program::TextPair;
 use shelves::Shelf;
 use spdx_troubles::Trouble;
 use std::alloc::Global;
@@ -27,7 +27,7 @@ pub fn compare<S: Shelf, O: Sink>(
     alloc: Global,
     shelf: &S,
     inside: Inside<'_>,
-    asked: Asked<'_>,
+    asked: TextPair<'_>,
     output: &mut O,
 ) -> Result<u8, Trouble>
     ensures ok { IfOk result (λ status. Writes (O.told output.old) (O.told output.new)

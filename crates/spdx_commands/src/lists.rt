@@ -17,7 +17,7 @@ use crate::said::{Said, say};
 use line_engine::device::Sink;
 use line_engine::lines::write_all;
 use list_program::{Inside, MadeOf, put_made_list};
-use list_told::{Asked, Lists, Shown, Unlisted};
+use list_told::{Lists, NameQuery, Shown, Unlisted};
 use shelves::Shelf;
 use spdx_troubles::Trouble;
 use std::alloc::{AllocError, Global};
@@ -34,7 +34,7 @@ pub fn show<S: Shelf, O: Sink, T: Listener>(
     shelf: &S,
     inside: Inside<'_>,
     replacements: &[u8],
-    asked: Asked<'_>,
+    asked: NameQuery<'_>,
     output: &mut O,
     listener: &mut T,
 ) -> Result<u8, Trouble>

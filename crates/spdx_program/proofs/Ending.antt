@@ -9,16 +9,16 @@ use Rattle.check_program.specs.declared.run.Request as check_asked
 use Rattle.fix_program.specs.declared.run.Request as fix_asked
 use Rattle.line_engine.specs.Device.{Told}
 use Rattle.list_told.specs.Diffs as lists
-use Rattle.list_told.specs.declared.shown.Asked as show_asked
+use Rattle.list_told.specs.declared.shown.NameQuery.{NameQuery}
 use Rattle.meaning_program.specs.declared.files.Request as simplify_asked
 use Rattle.notice_program.specs.declared.end.Request as notice_asked
 use Rattle.package_commands.specs.Changes.{IsDiff}
 use Rattle.package_commands.specs.Gate.{IsGate}
 use Rattle.package_commands.specs.Notice.{IsNotice}
-use Rattle.package_commands.specs.declared.differences.AskedDiff.{AskedDiff}
-use Rattle.package_commands.specs.declared.differences.Changed.{Changed}
-use Rattle.package_commands.specs.declared.gated.Asked as gate_asked
-use Rattle.package_commands.specs.declared.pages.Noticed.{Noticed}
+use Rattle.package_commands.specs.declared.differences.DiffTask.{DiffTask}
+use Rattle.package_commands.specs.declared.differences.DiffEnd.{DiffEnd}
+use Rattle.package_commands.specs.declared.gated.GateTask.{GateTask}
+use Rattle.package_commands.specs.declared.pages.NoticeEnd.{NoticeEnd}
 use Rattle.shelves.specs.Shelf.{Shelved}
 use Rattle.spdx_commands.specs.Compare.{IsCompare}
 use Rattle.spdx_commands.specs.Lists.{IsShow, IsUnmade, WritesMade}
@@ -112,7 +112,7 @@ simplify_done w r a out out' h h' got answer asked is ok err = (
       (IsSimplifyStopped w a out out' h h') got answer is ok err,
 )
 
-pub show_done : (w : World) (r : ShowRequest) (a : show_asked.Asked) (out out' : Told) (h h' : Account Trouble) (got : Result ℕ Trouble) (answer : Result Ended Trouble)
+pub show_done : (w : World) (r : ShowRequest) (a : NameQuery) (out out' : Told) (h h' : Account Trouble) (got : Result ℕ Trouble) (answer : Result Ended Trouble)
     → IsShowAsked r a → answer ≡ alone got
     → IfOk got (λ status. Does out out' h h' (λ text told. IsShow w.shelf (list_in w) (replacements_in w) a text told status))
     → IfErr got (IsShowStopped w a out out' h h') → DoesShow w r out out' h h' answer
@@ -137,33 +137,33 @@ lists_done w r out out' got status answer was is ok err =
     passed_end (Writes out out' (lists.IsDiff w.shelf (list_in w) (replacements_in w) (lists_of r)))
     (IsListsStopped w (lists_of r) out out') got status answer was is ok err
 
-pub gate_done : (w : World) (a : gate_asked.Asked) (out out' : Told) (h h' : Account Trouble) (got : Result ℕ Trouble) (answer : Result Ended Trouble) → answer ≡ alone got
+pub gate_done : (w : World) (a : GateTask) (out out' : Told) (h h' : Account Trouble) (got : Result ℕ Trouble) (answer : Result Ended Trouble) → answer ≡ alone got
     → IfOk got (λ status. Does out out' h h' (λ text told. IsGate w.shelf (list_in w) (replacements_in w) a text told status))
     → IfErr got (IsGateStopped w a out out' h h') → IsGateEnd w a out out' h h' answer
 gate_done w a out out' h h' got answer is ok err =
     alone_end (λ status. Does out out' h h' (λ text told. IsGate w.shelf (list_in w) (replacements_in w) a text told status))
     (IsGateStopped w a out out' h h') got answer is ok err
 
-pub gate_quiet : (w : World) (colours : Bool) (r : GateRequest) (a : gate_asked.Asked) (out : Told) (h h' : Account Trouble) (answer : Result Ended Trouble)
+pub gate_quiet : (w : World) (colours : Bool) (r : GateRequest) (a : GateTask) (out : Told) (h h' : Account Trouble) (answer : Result Ended Trouble)
     → IsAskedOf r.paths.items (gate_of r colours w.inside.version) a → r.quiet ≡ true → IsGateEnd w a nowhere nowhere h h' answer → DoesGate w colours r out out h h' answer
 gate_quiet w colours r a out h h' answer asked is end =
     (a, asked, subst (λ q. Quietly q out out (λ o o'. IsGateEnd w a o o' h h' answer)) (sym is) (end, refl))
 
-pub gate_told : (w : World) (colours : Bool) (r : GateRequest) (a : gate_asked.Asked) (out out' : Told) (h h' : Account Trouble) (answer : Result Ended Trouble)
+pub gate_told : (w : World) (colours : Bool) (r : GateRequest) (a : GateTask) (out out' : Told) (h h' : Account Trouble) (answer : Result Ended Trouble)
     → IsAskedOf r.paths.items (gate_of r colours w.inside.version) a → r.quiet ≡ false → IsGateEnd w a out out' h h' answer → DoesGate w colours r out out' h h' answer
 gate_told w colours r a out out' h h' answer asked is end =
     (a, asked, subst (λ q. Quietly q out out' (λ o o'. IsGateEnd w a o o' h h' answer)) (sym is) end)
 
-pub changes_done : (w : World) (r : ChangesRequest) (a : AskedDiff) (out out' : Told) (h h' : Account Trouble) (got : Result Changed Trouble) (answer : Result Ended Trouble)
+pub changes_done : (w : World) (r : ChangesRequest) (a : DiffTask) (out out' : Told) (h h' : Account Trouble) (got : Result DiffEnd Trouble) (answer : Result Ended Trouble)
     → a ≡ changes_of r → answer ≡ changed_end got
     → IfOk got (λ c. Does out out' h h' (λ text told. IsDiff w.shelf (list_in w) (replacements_in w) a text told c))
     → IfErr got (IsChangesStopped w a out out' h h') → DoesChanges w r out out' h h' answer
 changes_done w r a out out' h h' (Ok c) answer asked is ok err =
-    subst (λ (b : AskedDiff). IsChangesEnd w b out out' h h' answer) asked (subst (IsChangesEnd w a out out' h h') (sym is) ok)
+    subst (λ (b : DiffTask). IsChangesEnd w b out out' h h' answer) asked (subst (IsChangesEnd w a out out' h h') (sym is) ok)
 changes_done w r a out out' h h' (Err t) answer asked is ok err =
-    subst (λ (b : AskedDiff). IsChangesEnd w b out out' h h' answer) asked (subst (IsChangesEnd w a out out' h h') (sym is) err)
+    subst (λ (b : DiffTask). IsChangesEnd w b out out' h h' answer) asked (subst (IsChangesEnd w a out out' h h') (sym is) err)
 
-pub notice_done : (w : World) (r : NoticeRequest) (a : notice_asked.Request) (out out' : Told) (h h' : Account Trouble) (got : Result Noticed Trouble) (answer : Result Ended Trouble)
+pub notice_done : (w : World) (r : NoticeRequest) (a : notice_asked.Request) (out out' : Told) (h h' : Account Trouble) (got : Result NoticeEnd Trouble) (answer : Result Ended Trouble)
     → IsAskedOf r.paths.items (notice_of r) a → answer ≡ noticed_end got
     → IfOk got (λ n. Does out out' h h' (λ text told. IsNotice w.shelf (list_in w) (replacements_in w) a text told n))
     → IfErr got (IsNoticeStopped w a out out' h h') → DoesNotice w r out out' h h' answer

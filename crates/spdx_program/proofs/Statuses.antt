@@ -7,7 +7,7 @@ use Rattle.list_program.specs.Named.{InsideBytes}
 use Rattle.check_files.specs.Told.{Account, Does, Writes}
 use Rattle.check_files.specs.declared.trouble.CheckTrouble.{CheckTrouble}
 use Rattle.changes_program.specs.Run as changes
-use Rattle.changes_program.specs.declared.run.Told as changes_told
+use Rattle.changes_program.specs.declared.run.ToldChanges.{ToldChanges}
 use Rattle.check_program.specs.Runs as check
 use Rattle.check_program.specs.declared.run.Request as check_asked
 use Rattle.gate_program.specs.Run as gate
@@ -16,7 +16,7 @@ use Rattle.gate_program.specs.declared.run.End.TheVariants as end
 use Rattle.package_files.specs.declared.fault.FileFault.{FileFault}
 use Rattle.fix_program.specs.declared.run.Request as fix_asked
 use Rattle.list_told.specs.Shown as show
-use Rattle.list_told.specs.declared.shown.Asked as show_asked
+use Rattle.list_told.specs.declared.shown.NameQuery.{NameQuery}
 use Rattle.list_told.specs.declared.unlisted.Unlisted.{Unlisted}
 use Rattle.choice_program.specs.declared.choosing.ChoiceTrouble.{ChoiceTrouble}
 use Rattle.choice_program.specs.declared.choosing.ChoiceTrouble.TheVariants as trouble
@@ -24,15 +24,15 @@ use Rattle.notice_program.specs.Ends as notice
 use Rattle.notice_program.specs.declared.end.End as notice_end
 use Rattle.notice_program.specs.declared.end.End.TheVariants as ends
 use Rattle.notice_program.specs.declared.end.Request as notice_asked
-use Rattle.meaning_program.specs.declared.compared.Asked as compare_asked
+use Rattle.meaning_program.specs.declared.compared.TextPair.{TextPair}
 use Rattle.meaning_program.specs.declared.files.Request as simplify_asked
 use Rattle.package_commands.specs.Changes.{IsDiff}
-use Rattle.package_commands.specs.declared.differences.AskedDiff.{AskedDiff}
-use Rattle.package_commands.specs.declared.differences.Changed.{Changed}
+use Rattle.package_commands.specs.declared.differences.DiffTask.{DiffTask}
+use Rattle.package_commands.specs.declared.differences.DiffEnd.{DiffEnd}
 use Rattle.package_commands.specs.Gate.{IsGate}
 use Rattle.package_commands.specs.Notice.{IsNotice}
-use Rattle.package_commands.specs.declared.gated.Asked as gate_asked
-use Rattle.package_commands.specs.declared.pages.Noticed.{Noticed}
+use Rattle.package_commands.specs.declared.gated.GateTask.{GateTask}
+use Rattle.package_commands.specs.declared.pages.NoticeEnd.{NoticeEnd}
 use Rattle.spdx_commands.specs.Compare.{IsCompare}
 use Rattle.spdx_commands.specs.Lists.{IsShow}
 use Rattle.spdx_commands.specs.Mend.{Did, IsFix, Stand, worst}
@@ -71,7 +71,7 @@ check_ends : (s : Shelved) (inside : check.Inside) (a : check_asked.Request) (ou
     → Does out out' h h' (λ text told. check.IsRun s inside a text told status) → status < 4
 check_ends s inside a out out' h h' status d = let (by, of, run) = d.is in as_is status _ run.status_is (two_none _ _)
 
-compare_ends : (s : Shelved) (inside : InsideBytes) (a : compare_asked.Asked) (out out' : Told) (status : ℕ) → Writes out out' (λ text. IsCompare s inside a text status) → status < 4
+compare_ends : (s : Shelved) (inside : InsideBytes) (a : TextPair) (out out' : Told) (status : ℕ) → Writes out out' (λ text. IsCompare s inside a text status) → status < 4
 compare_ends s inside a out out' status w = let (text, appends, is) = w in as_is status _ is.status_is (none_one _)
 
 simplify_ends : (s : Shelved) (inside : InsideBytes) (a : simplify_asked.Request) (out out' : Told) (h h' : Account Trouble) (status : ℕ)
@@ -82,7 +82,7 @@ unlisted_low : (unlisted : List Unlisted) → show.status_by unlisted < 4
 unlisted_low [] = omega arith
 unlisted_low (u ∷ us) = omega arith
 
-show_ends : (s : Shelved) (inside : InsideBytes) (replacements : List ℕ) (a : show_asked.Asked) (out out' : Told) (h h' : Account Trouble) (status : ℕ)
+show_ends : (s : Shelved) (inside : InsideBytes) (replacements : List ℕ) (a : NameQuery) (out out' : Told) (h h' : Account Trouble) (status : ℕ)
     → Does out out' h h' (λ text told. IsShow s inside replacements a text told status) → status < 4
 show_ends s inside replacements a out out' h h' status d = as_is status _ d.is.status_is (unlisted_low _)
 
@@ -93,7 +93,7 @@ gate_low [] (end.Told text) = none_one text.is_passed
 gate_low [] (end.NoPackage text) = omega arith
 gate_low (f ∷ fs) e = omega arith
 
-gate_ends : (s : Shelved) (inside : InsideBytes) (replacements : List ℕ) (a : gate_asked.Asked) (out out' : Told) (h h' : Account Trouble) (status : ℕ)
+gate_ends : (s : Shelved) (inside : InsideBytes) (replacements : List ℕ) (a : GateTask) (out out' : Told) (h h' : Account Trouble) (status : ℕ)
     → Does out out' h h' (λ text told. IsGate s inside replacements a text told status) → status < 4
 gate_ends s inside replacements a out out' h h' status d = as_is status _ d.is.status_is (gate_low _ _)
 
@@ -146,11 +146,11 @@ one_none : (a : Bool) → (if a then 1 else 0) < 4
 one_none true = omega arith
 one_none false = omega arith
 
-changes_low : (told : Option changes_told.Told) → changes.status_by told < 4
+changes_low : (told : Option ToldChanges) → changes.status_by told < 4
 changes_low None = omega arith
 changes_low (Some told) = one_none told.is_refused
 
-diff_ends : (s : Shelved) (inside : InsideBytes) (replacements : List ℕ) (a : AskedDiff) (out out' : Told) (h h' : Account Trouble) (changed : Changed)
+diff_ends : (s : Shelved) (inside : InsideBytes) (replacements : List ℕ) (a : DiffTask) (out out' : Told) (h h' : Account Trouble) (changed : DiffEnd)
     → Does out out' h h' (λ text told. IsDiff s inside replacements a text told changed) → changed.status < 4
 diff_ends s inside replacements a out out' h h' changed d = as_is changed.status _ d.is.status_is (changes_low _)
 
@@ -174,7 +174,7 @@ notice_low (ends.NoGeneral ts) = omega arith
 notice_low (ends.NotUtf8 n) = omega arith
 notice_low (ends.Told n) = page_low n.page
 
-notice_ends : (s : Shelved) (inside : InsideBytes) (replacements : List ℕ) (a : notice_asked.Request) (out out' : Told) (h h' : Account Trouble) (noticed : Noticed)
+notice_ends : (s : Shelved) (inside : InsideBytes) (replacements : List ℕ) (a : notice_asked.Request) (out out' : Told) (h h' : Account Trouble) (noticed : NoticeEnd)
     → Does out out' h h' (λ text told. IsNotice s inside replacements a text told noticed) → noticed.status < 4
 notice_ends s inside replacements a out out' h h' noticed d = as_is noticed.status _ d.is.status_is (notice_low _)
 

@@ -11,9 +11,9 @@ use Rattle.gate_told.specs.declared.forms.Format as verdicts
 use Rattle.gate_told.specs.declared.forms.Format.TheVariants as verdict
 use Rattle.list_program.specs.declared.made.MadeOf.{MadeOf}
 use Rattle.list_told.specs.declared.differing.Lists.{Lists}
-use Rattle.list_told.specs.declared.shown.Asked as shown
+use Rattle.list_told.specs.declared.shown.NameQuery.{NameQuery}
 use Rattle.meaning_program.specs.Reading.{mode_by}
-use Rattle.meaning_program.specs.declared.compared.Asked as compared
+use Rattle.meaning_program.specs.declared.compared.TextPair.{TextPair}
 use Rattle.meaning_program.specs.declared.files.Request as simplified
 use Rattle.notice_forms.specs.declared.pages.Format as pages
 use Rattle.notice_forms.specs.declared.pages.Format.TheVariants as page
@@ -22,8 +22,8 @@ use Rattle.owed_texts.specs.declared.home.OwnTexts as owned
 use Rattle.owed_texts.specs.declared.home.OwnTexts.TheVariants as own
 use Rattle.package_changes.specs.declared.forms.Format as differences
 use Rattle.package_changes.specs.declared.forms.Format.TheVariants as difference
-use Rattle.package_commands.specs.declared.differences.AskedDiff.{AskedDiff}
-use Rattle.package_commands.specs.declared.gated.Asked as gated
+use Rattle.package_commands.specs.declared.differences.DiffTask.{DiffTask}
+use Rattle.package_commands.specs.declared.gated.GateTask.{GateTask}
 use Rattle.package_files.specs.declared.listed.Source as listed
 use Rattle.package_files.specs.declared.listed.Source.TheVariants as source
 use Rattle.package_files.specs.declared.listed.Wanted as packages
@@ -122,7 +122,7 @@ fix_of r paths =
       paths = paths;
     }
 
-abbrev pub compare_of : CompareRequest → compared.Asked
+abbrev pub compare_of : CompareRequest → TextPair
 compare_of r = record { list = r.list; is_lax = r.is_lax; one = r.one; other = r.other }
 
 abbrev pub simplify_of : SimplifyRequest → Bor (List (Bor (List ℕ))) → simplified.Request
@@ -131,7 +131,7 @@ simplify_of r paths = record { list = r.list; is_lax = r.is_lax; paths = paths }
 -- ---- lists
 
 -- all names of the list, where none is named
-pub record IsShowAsked (r : ShowRequest) (asked : shown.Asked) : Type 0 where
+pub record IsShowAsked (r : ShowRequest) (asked : NameQuery) : Type 0 where
   pub list_is : asked.list ≡ r.list
   pub names_are : asked.names.now ≡ r.names.items
 
@@ -187,7 +187,7 @@ verdict_by say_verdict.Github how version = verdict.Github
 verdict_by say_verdict.Sarif how version = verdict.Sarif version
 verdict_by say_verdict.Html how version = verdict.Html
 
-abbrev pub gate_of : GateRequest → Bool → Bor (List ℕ) → Bor (List (Bor (List ℕ))) → gated.Asked
+abbrev pub gate_of : GateRequest → Bool → Bor (List ℕ) → Bor (List (Bor (List ℕ))) → GateTask
 gate_of r colours version paths =
     record {
       run = record {
@@ -211,7 +211,7 @@ difference_by say_changes.Text = difference.Text
 difference_by say_changes.Json = difference.Json
 difference_by say_changes.Markdown = difference.Markdown
 
-abbrev pub changes_of : ChangesRequest → AskedDiff
+abbrev pub changes_of : ChangesRequest → DiffTask
 changes_of r =
     record {
       run = record {

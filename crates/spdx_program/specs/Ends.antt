@@ -18,20 +18,20 @@ use Rattle.list_program.specs.declared.made.MadeOf.{MadeOf}
 use Rattle.list_told.specs.Diffs as lists
 use Rattle.list_told.specs.Shown as show
 use Rattle.list_told.specs.declared.differing.Lists.{Lists}
-use Rattle.list_told.specs.declared.shown.Asked as show_asked
+use Rattle.list_told.specs.declared.shown.NameQuery.{NameQuery}
 use Rattle.meaning_program.specs.Compared as compare
 use Rattle.meaning_program.specs.Files as simplify
-use Rattle.meaning_program.specs.declared.compared.Asked as compare_asked
+use Rattle.meaning_program.specs.declared.compared.TextPair.{TextPair}
 use Rattle.meaning_program.specs.declared.files.Request as simplify_asked
 use Rattle.notice_program.specs.Run as notice
 use Rattle.notice_program.specs.declared.end.Request as notice_asked
 use Rattle.package_commands.specs.Changes.{IsDiff, SaysDiff}
 use Rattle.package_commands.specs.Gate.{IsGate, SaysGate}
 use Rattle.package_commands.specs.Notice.{IsNotice, SaysNotice}
-use Rattle.package_commands.specs.declared.differences.AskedDiff.{AskedDiff}
-use Rattle.package_commands.specs.declared.differences.Changed.{Changed}
-use Rattle.package_commands.specs.declared.gated.Asked as gate_asked
-use Rattle.package_commands.specs.declared.pages.Noticed.{Noticed}
+use Rattle.package_commands.specs.declared.differences.DiffTask.{DiffTask}
+use Rattle.package_commands.specs.declared.differences.DiffEnd.{DiffEnd}
+use Rattle.package_commands.specs.declared.gated.GateTask.{GateTask}
+use Rattle.package_commands.specs.declared.pages.NoticeEnd.{NoticeEnd}
 use Rattle.shelves.specs.Shelf.{Shelved}
 use Rattle.spdx_commands.specs.Compare.{IsCompare, SaysCompared}
 use Rattle.spdx_commands.specs.Lists.{IsShow, IsUnmade, SaysDiffer, SaysShown, WritesMade}
@@ -65,10 +65,10 @@ pub record IsEnd (Is : ℕ → Type 0) (e : Ended) : Type 0 where
   pub is : Is e.status
   pub no_totals : e.totals ≡ None
 
-abbrev pub noticed : Ended → Noticed
+abbrev pub noticed : Ended → NoticeEnd
 noticed e = record { status = e.status; totals = e.totals }
 
-abbrev pub changed : Ended → Changed
+abbrev pub changed : Ended → DiffEnd
 changed e = record { status = e.status; totals = e.totals }
 
 -- a status alone is answered, or none
@@ -86,11 +86,11 @@ abbrev pub passed : Result (Unit {0}) Trouble → Result ℕ Trouble
 passed (Ok unit) = Ok 0
 passed (Err t) = Err t
 
-abbrev pub changed_end : Result Changed Trouble → Result Ended Trouble
+abbrev pub changed_end : Result DiffEnd Trouble → Result Ended Trouble
 changed_end (Ok c) = Ok (record { status = c.status; totals = c.totals })
 changed_end (Err t) = Err t
 
-abbrev pub noticed_end : Result Noticed Trouble → Result Ended Trouble
+abbrev pub noticed_end : Result NoticeEnd Trouble → Result Ended Trouble
 noticed_end (Ok n) = Ok (record { status = n.status; totals = n.totals })
 noticed_end (Err t) = Err t
 
@@ -119,12 +119,12 @@ IsFixEnd w a x y answer =
     Ends (IsEnd (λ status. Did x y (IsFix w.shelf (list_in w) a status)))
     (IsFixStopped w.shelf (list_in w) a x y) answer
 
-abbrev pub IsCompareStopped : World → compare_asked.Asked → Told → Told → Trouble → Type 0
+abbrev pub IsCompareStopped : World → TextPair → Told → Told → Trouble → Type 0
 IsCompareStopped w a out out' t =
     IsStopped meaning_trouble (compare.IsNotCompared w.shelf (list_in w) a)
     (SaysCompared w.shelf (list_in w) a) out out' unkept unkept t
 
-abbrev pub IsCompareEnd : World → compare_asked.Asked → Told → Told → Result Ended Trouble → Type 0
+abbrev pub IsCompareEnd : World → TextPair → Told → Told → Result Ended Trouble → Type 0
 IsCompareEnd w a out out' answer =
     Ends (IsEnd (λ status. Writes out out' (λ text.
     IsCompare w.shelf (list_in w) a text status)))
@@ -143,13 +143,13 @@ IsSimplifyEnd w a out out' heard heard' answer =
     IsSimplify w.shelf (list_in w) a text told status)))
     (IsSimplifyStopped w a out out' heard heard') answer
 
-abbrev pub IsShowStopped : World → show_asked.Asked → Told → Told → Account Trouble →
+abbrev pub IsShowStopped : World → NameQuery → Told → Told → Account Trouble →
     Account Trouble → Trouble → Type 0
 IsShowStopped w a out out' heard heard' t =
     IsStopped list_trouble (show.IsNotShown w.shelf (list_in w) (replacements_in w) a)
     (SaysShown w.shelf (list_in w) (replacements_in w) a) out out' heard heard' t
 
-abbrev pub IsShowEnd : World → show_asked.Asked → Told → Told → Account Trouble →
+abbrev pub IsShowEnd : World → NameQuery → Told → Told → Account Trouble →
     Account Trouble → Result Ended Trouble → Type 0
 IsShowEnd w a out out' heard heard' answer =
     Ends (IsEnd (λ status. Does out out' heard heard' (λ text told.
@@ -175,26 +175,26 @@ IsListsEnd w a out out' answer =
     (lists.IsDiff w.shelf (list_in w) (replacements_in w) a)))
     (IsListsStopped w a out out') answer
 
-abbrev pub IsGateStopped : World → gate_asked.Asked → Told → Told → Account Trouble →
+abbrev pub IsGateStopped : World → GateTask → Told → Told → Account Trouble →
     Account Trouble → Trouble → Type 0
 IsGateStopped w a out out' heard heard' t =
     IsStopped gate_trouble (gate.IsNoRun w.shelf (list_in w) (replacements_in w) a.run)
     (SaysGate w.shelf (list_in w) (replacements_in w) a) out out' heard heard' t
 
-abbrev pub IsGateEnd : World → gate_asked.Asked → Told → Told → Account Trouble →
+abbrev pub IsGateEnd : World → GateTask → Told → Told → Account Trouble →
     Account Trouble → Result Ended Trouble → Type 0
 IsGateEnd w a out out' heard heard' answer =
     Ends (IsEnd (λ status. Does out out' heard heard' (λ text told.
     IsGate w.shelf (list_in w) (replacements_in w) a text told status)))
     (IsGateStopped w a out out' heard heard') answer
 
-abbrev pub IsChangesStopped : World → AskedDiff → Told → Told → Account Trouble →
+abbrev pub IsChangesStopped : World → DiffTask → Told → Told → Account Trouble →
     Account Trouble → Trouble → Type 0
 IsChangesStopped w a out out' heard heard' t =
     IsStopped gate_trouble (changes.IsNoRun w.shelf (list_in w) (replacements_in w) a.run)
     (SaysDiff w.shelf (list_in w) (replacements_in w) a) out out' heard heard' t
 
-abbrev pub IsChangesEnd : World → AskedDiff → Told → Told → Account Trouble →
+abbrev pub IsChangesEnd : World → DiffTask → Told → Told → Account Trouble →
     Account Trouble → Result Ended Trouble → Type 0
 IsChangesEnd w a out out' heard heard' answer =
     Ends (λ e. Does out out' heard heard' (λ text told.

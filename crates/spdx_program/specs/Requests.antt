@@ -5,10 +5,10 @@ use Rattle.check_files.specs.declared.trouble.CheckTrouble.{CheckTrouble}
 use Rattle.check_program.specs.declared.run.Request as check_asked
 use Rattle.fix_program.specs.declared.run.Request as fix_asked
 use Rattle.line_engine.specs.Device.{Told, told}
-use Rattle.list_told.specs.declared.shown.Asked as show_asked
+use Rattle.list_told.specs.declared.shown.NameQuery.{NameQuery}
 use Rattle.meaning_program.specs.declared.files.Request as simplify_asked
 use Rattle.notice_program.specs.declared.end.Request as notice_asked
-use Rattle.package_commands.specs.declared.gated.Asked as gate_asked
+use Rattle.package_commands.specs.declared.gated.GateTask.{GateTask}
 use Rattle.shelves.specs.Shelf.{Shelved}
 use Rattle.spdx_commands.specs.Mend.{Stand, stand}
 use Rattle.spdx_commands.specs.Replaced.{Attempt}
@@ -95,7 +95,7 @@ DoesSimplify w r out out' heard heard' answer =
 abbrev pub DoesShow : World → ShowRequest → Told → Told → Account Trouble →
     Account Trouble → Result Ended Trouble → Type 0
 DoesShow w r out out' heard heard' answer =
-    (a : show_asked.Asked) × IsShowAsked r a × IsShowEnd w a out out' heard heard' answer
+    (a : NameQuery) × IsShowAsked r a × IsShowEnd w a out out' heard heard' answer
 
 abbrev pub DoesMake : Shelved → MakeRequest → Told → Told → Result Ended Trouble → Type 0
 DoesMake s r out out' answer = IsMakeEnd s (make_of r) out out' answer
@@ -106,7 +106,7 @@ DoesLists w r out out' answer = IsListsEnd w (lists_of r) out out' answer
 abbrev pub DoesGate : World → Bool → GateRequest → Told → Told → Account Trouble →
     Account Trouble → Result Ended Trouble → Type 0
 DoesGate w colours r out out' heard heard' answer =
-    (a : gate_asked.Asked) × IsAskedOf r.paths.items (gate_of r colours w.inside.version) a
+    (a : GateTask) × IsAskedOf r.paths.items (gate_of r colours w.inside.version) a
     × Quietly r.quiet out out' (λ o o'. IsGateEnd w a o o' heard heard' answer)
 
 abbrev pub DoesChanges : World → ChangesRequest → Told → Told → Account Trouble →

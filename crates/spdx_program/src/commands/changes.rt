@@ -12,7 +12,7 @@ use changes_program::Request;
 use check_program::Inside;
 use line_engine::device::Sink;
 use package_changes::Format;
-use package_commands::{AskedDiff, Changed};
+use package_commands::{DiffEnd, DiffTask};
 use shelves::Shelf;
 use spdx_commands::Listener;
 use spdx_troubles::Trouble;
@@ -42,7 +42,7 @@ pub(crate) fn changes<S: Shelf, O: Sink, T: Listener>(
     ended(package_commands::diff(alloc, shelf, list, replacements, asked, output, teller))
 }
 
-fn asked<'r>(request: &'r ChangesRequest<'r>) -> AskedDiff<'r>
+fn asked<'r>(request: &'r ChangesRequest<'r>) -> DiffTask<'r>
     ensures { result ≡ spec.changes_of request.now }
 {
     let run = Request {
@@ -53,7 +53,7 @@ fn asked<'r>(request: &'r ChangesRequest<'r>) -> AskedDiff<'r>
         new: request.new,
         format: format_of(request.format),
     };
-    AskedDiff {
+    DiffTask {
         run,
         tells_totals: request.tells_totals,
     }
@@ -69,12 +69,12 @@ fn format_of(format: ChangesFormat) -> Format
     }
 }
 
-fn ended(end: Result<Changed, Trouble>) -> Result<Ended, Trouble>
+fn ended(end: Result<DiffEnd, Trouble>) -> Result<Ended, Trouble>
     ensures { result ≡ ends.changed_end end }
 {
     match end {
         Ok(changed) => {
-            let Changed { status, totals } = changed;
+            let DiffEnd { status, totals } = changed;
             Ok(Ended { status, totals })
         }
         Err(trouble) => Err(trouble),

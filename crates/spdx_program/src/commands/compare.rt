@@ -7,7 +7,7 @@ ghost use Rattle.spdx_program.specs.Requests.{DoesCompare};
 use crate::ended::{Ended, alone};
 use check_program::Inside;
 use line_engine::device::Sink;
-use meaning_program::Asked;
+use meaning_program::TextPair;
 use shelves::Shelf;
 use spdx_troubles::Trouble;
 use spdx_words::CompareRequest;
@@ -25,7 +25,7 @@ pub(crate) fn compare<S: Shelf, O: Sink>(
     ensures { DoesCompare (world (S.told shelf.now) inside.entry) request.now
         (O.told output.old) (O.told output.new) result }
 {
-    let asked = Asked {
+    let asked = TextPair {
         list: request.list,
         is_lax: request.is_lax,
         one: request.one,

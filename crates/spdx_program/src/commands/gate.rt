@@ -15,7 +15,7 @@ use finding_forms::Style;
 use gate_program::{Look, Request};
 use gate_told::Format;
 use line_engine::device::Sink;
-use package_commands::Asked;
+use package_commands::GateTask;
 use shelves::Shelf;
 use spdx_commands::Listener;
 use spdx_troubles::Trouble;
@@ -50,7 +50,7 @@ fn gate_as<S: Shelf, O: Sink, T: Listener>(
     alloc: Global,
     shelf: &S,
     inside: Inside<'_>,
-    asked: Asked<'_>,
+    asked: GateTask<'_>,
     output: &mut O,
     teller: &mut T,
 ) -> Result<Ended, Trouble>
@@ -66,7 +66,7 @@ fn gate_as<S: Shelf, O: Sink, T: Listener>(
 }
 
 // What is asked of the command, whose logs tell this version.
-fn asked<'r>(request: &'r GateRequest<'r>, colours: bool, version: &'r str) -> Asked<'r>
+fn asked<'r>(request: &'r GateRequest<'r>, colours: bool, version: &'r str) -> GateTask<'r>
     ensures { IsAskedOf request.now.paths.items (spec.gate_of request.now colours version.entry)
         result }
 {
@@ -84,7 +84,7 @@ fn asked<'r>(request: &'r GateRequest<'r>, colours: bool, version: &'r str) -> A
             tells_unused: request.tells_unused,
         },
     };
-    Asked {
+    GateTask {
         run,
         is_quiet: request.quiet,
     }

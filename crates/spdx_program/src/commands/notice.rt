@@ -16,7 +16,7 @@ use line_engine::device::Sink;
 use notice_forms::Format;
 use notice_program::Request;
 use owed_texts::{Folders, OwnTexts as Own};
-use package_commands::Noticed;
+use package_commands::NoticeEnd;
 use shelves::Shelf;
 use spdx_commands::Listener;
 use spdx_troubles::Trouble;
@@ -100,12 +100,12 @@ fn format_of(format: PageFormat) -> Format
     }
 }
 
-fn ended(end: Result<Noticed, Trouble>) -> Result<Ended, Trouble>
+fn ended(end: Result<NoticeEnd, Trouble>) -> Result<Ended, Trouble>
     ensures { result ≡ ends.noticed_end end }
 {
     match end {
         Ok(noticed) => {
-            let Noticed { status, totals } = noticed;
+            let NoticeEnd { status, totals } = noticed;
             Ok(Ended { status, totals })
         }
         Err(trouble) => Err(trouble),

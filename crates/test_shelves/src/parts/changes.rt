@@ -11,7 +11,7 @@ use crate::told::{Told, line_of};
 use changes_program::Request;
 use line_engine::stream::Output;
 use package_changes::Format;
-use package_commands::{AskedDiff, Changed, diff};
+use package_commands::{DiffEnd, DiffTask, diff};
 use package_files::{Source, Wanted};
 use package_sources::Form;
 use shelves::Held;
@@ -20,13 +20,13 @@ use std::alloc::{AllocError, Global};
 pub(crate) fn answer(alloc: Global, shelf: &Held, given: &str) -> Result<String, AllocError> {
     let (paths, rest) = given.split_once(" | ").unwrap_or((given, "-"));
     let (policy, words) = rest.split_once(" | ").unwrap_or((rest, ""));
-    let asked = AskedDiff {
+    let asked = DiffTask {
         run: request(paths, policy, words),
         tells_totals: words != "quiet",
     };
     let mut written = Output::new(Vec::new(alloc));
     let mut told = Told::new(alloc);
-    let Changed { status, totals } = changed(alloc, shelf, asked, &mut written, &mut told)?;
+    let DiffEnd { status, totals } = changed(alloc, shelf, asked, &mut written, &mut told)?;
     let lines = lines_of(alloc, &written.into_inner())?;
     told.answer(alloc, status, lines.as_str(), line_of(&totals))
 }
@@ -35,14 +35,14 @@ pub(crate) fn answer(alloc: Global, shelf: &Held, given: &str) -> Result<String,
 fn changed(
     alloc: Global,
     shelf: &Held,
-    asked: AskedDiff<'_>,
+    asked: DiffTask<'_>,
     written: &mut Output<Vec<u8>>,
     told: &mut Told,
-) -> Result<Changed, AllocError> {
+) -> Result<DiffEnd, AllocError> {
     let replacements = REPLACEMENTS.as_bytes();
     match diff(alloc, shelf, inside(), replacements, asked, written, told) {
         Ok(changed) => Ok(changed),
-        Err(trouble) => Ok(Changed {
+        Err(trouble) => Ok(DiffEnd {
             status: told.hear_last(alloc, trouble)?,
             totals: None,
         }),

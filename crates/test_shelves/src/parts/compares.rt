@@ -4,7 +4,7 @@
 // `lax` and `-` is the list inside, has `same` or `other` and what is told, with ` / ` between lines; or why nothing is.
 
 use crate::shelf::{inside, lines_of};
-use meaning_program::{Asked, MeaningTrouble, Unsaid, compare};
+use meaning_program::{MeaningTrouble, TextPair, Unsaid, compare};
 use shelves::Held;
 use std::alloc::{AllocError, Global};
 
@@ -12,7 +12,7 @@ pub(crate) fn answer(alloc: Global, shelf: &Held, given: &str) -> Result<String,
     let (head, texts) = given.split_once(" | ").unwrap_or((given, ""));
     let (mode, list) = head.split_once(' ').unwrap_or((head, "-"));
     let (one, other) = texts.split_once(" | ").unwrap_or((texts, ""));
-    let asked = Asked {
+    let asked = TextPair {
         list: if list == "-" { None } else { Some(list) },
         is_lax: mode == "lax",
         one,

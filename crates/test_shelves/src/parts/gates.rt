@@ -11,7 +11,7 @@ use finding_forms::Style;
 use gate_program::{Look, Request};
 use gate_told::Format;
 use line_engine::stream::Output;
-use package_commands::{Asked, gate};
+use package_commands::{GateTask, gate};
 use package_files::{Source, Wanted};
 use package_sources::Form;
 use shelves::Held;
@@ -21,7 +21,7 @@ pub(crate) fn answer(alloc: Global, shelf: &Held, given: &str) -> Result<String,
     let (paths, rest) = given.split_once(" | ").unwrap_or((given, ""));
     let (policy, words) = rest.split_once(" | ").unwrap_or((rest, ""));
     let paths: Vec<&str> = paths.split(' ').collect(alloc)?;
-    let asked = Asked {
+    let asked = GateTask {
         run: request(&paths, policy, words),
         is_quiet: false,
     };
@@ -36,7 +36,7 @@ pub(crate) fn answer(alloc: Global, shelf: &Held, given: &str) -> Result<String,
 fn status_of(
     alloc: Global,
     shelf: &Held,
-    asked: Asked<'_>,
+    asked: GateTask<'_>,
     written: &mut Output<Vec<u8>>,
     told: &mut Told,
 ) -> Result<u8, AllocError> {

@@ -9,7 +9,7 @@ use crate::shelf::{REPLACEMENTS, inside};
 use crate::told::{Told, line_of};
 use line_engine::stream::Output;
 use notice_program::Request;
-use package_commands::{Noticed, notice};
+use package_commands::{NoticeEnd, notice};
 use shelves::Held;
 use std::alloc::{AllocError, Global};
 
@@ -21,7 +21,7 @@ pub(crate) fn answer(alloc: Global, shelf: &Held, given: &str) -> Result<String,
     let mut written = Output::new(Vec::new(alloc));
     let mut told = Told::new(alloc);
     let request = request(&paths, accepted, &words);
-    let Noticed { status, totals } = noticed(alloc, shelf, request, &mut written, &mut told)?;
+    let NoticeEnd { status, totals } = noticed(alloc, shelf, request, &mut written, &mut told)?;
     let page = lines_told(alloc, &written.into_inner())?;
     told.answer(alloc, status, page.as_str(), line_of(&totals))
 }
@@ -33,11 +33,11 @@ fn noticed(
     request: Request<'_>,
     written: &mut Output<Vec<u8>>,
     told: &mut Told,
-) -> Result<Noticed, AllocError> {
+) -> Result<NoticeEnd, AllocError> {
     let replacements = REPLACEMENTS.as_bytes();
     match notice(alloc, shelf, inside(), replacements, request, written, told) {
         Ok(noticed) => Ok(noticed),
-        Err(trouble) => Ok(Noticed {
+        Err(trouble) => Ok(NoticeEnd {
             status: told.hear_last(alloc, trouble)?,
             totals: None,
         }),

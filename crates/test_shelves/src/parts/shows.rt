@@ -7,7 +7,7 @@
 
 use crate::shelf::{REPLACEMENTS, inside, lines_of};
 use list_program::ListTrouble;
-use list_told::{Asked, show};
+use list_told::{NameQuery, show};
 use shelves::Held;
 use std::alloc::{AllocError, Global};
 
@@ -31,7 +31,7 @@ fn shown(
     list: &str,
     names: &[&str],
 ) -> Result<String, AllocError> {
-    let asked = Asked {
+    let asked = NameQuery {
         list: if list == "-" { None } else { Some(list) },
         names,
     };

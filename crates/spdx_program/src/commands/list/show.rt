@@ -8,7 +8,7 @@ ghost use Rattle.spdx_program.specs.Requests.{DoesShow};
 use crate::ended::{Ended, alone};
 use check_program::Inside;
 use line_engine::device::Sink;
-use list_told::Asked;
+use list_told::NameQuery;
 use shelves::Shelf;
 use spdx_commands::Listener;
 use spdx_troubles::Trouble;
@@ -38,10 +38,10 @@ pub(crate) fn show<S: Shelf, O: Sink, T: Listener>(
     alone(spdx_commands::show(alloc, shelf, list, replacements, asked, output, teller))
 }
 
-fn asked<'r>(request: &'r ShowRequest<'r>) -> Asked<'r>
+fn asked<'r>(request: &'r ShowRequest<'r>) -> NameQuery<'r>
     ensures { IsShowAsked request.now result }
 {
-    Asked {
+    NameQuery {
         list: request.list,
         names: request.names.as_slice(),
     }
