@@ -37,12 +37,16 @@ manifests = flag (codes "manifests")
 abbrev pub form : Names → Rule
 form forms = choice (codes "as") forms
 
+-- where a JSON text of any shape has its packages
+abbrev pub pointers : List Rule
+pointers =
+    option (codes "each") ∷ option (codes "name") ∷ option (codes "package-version")
+    ∷ option (codes "license") ∷ []
+
 -- what says what files of packages are, of these forms
 abbrev pub sources : Names → List Rule
 sources forms =
-    flag (codes "exclude-own") ∷ choice (codes "from") forms ∷ flag (codes "header")
-    ∷ option (codes "each") ∷ option (codes "name") ∷ option (codes "package-version")
-    ∷ option (codes "license") ∷ []
+    flag (codes "exclude-own") ∷ choice (codes "from") forms ∷ flag (codes "header") ∷ pointers
 
 -- ---- the commands over expressions
 
@@ -88,13 +92,18 @@ gate_formats =
     codes "human" ∷ codes "short" ∷ codes "json" ∷ codes "github" ∷ codes "sarif" ∷ codes "html"
     ∷ []
 
+-- which verdicts fail, and what is told beside them
+abbrev pub verdicts : List Rule
+verdicts =
+    option (codes "baseline") ∷ option (codes "explain") ∷ quiet ∷ flag (codes "allow-empty")
+    ∷ flag (codes "no-unused") ∷ []
+
 -- of these formats of verdicts, and these forms of packages
 abbrev pub gate_options : Names → Names → List Rule
 gate_options formats forms =
     (wanted (option (codes "policy"))
-    ∷ with_value (codes "human") (choice (codes "format") formats)
-    ∷ option (codes "baseline") ∷ option (codes "explain") ∷ quiet ∷ flag (codes "allow-empty")
-    ∷ flag (codes "no-unused") ∷ []) ++ sources forms ++ list_option ∷ paths ∷ []
+    ∷ with_value (codes "human") (choice (codes "format") formats) ∷ [])
+    ++ verdicts ++ sources forms ++ list_option ∷ paths ∷ []
 
 abbrev pub page_formats : List Text
 page_formats = codes "text" ∷ codes "markdown" ∷ codes "html" ∷ codes "json" ∷ []

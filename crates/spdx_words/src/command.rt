@@ -16,30 +16,31 @@ const CHECK_EXAMPLE: &str = "Examples:
   spdx check Cargo.toml
   printf 'MIT\\nGPL-2.0+ OR Apache2\\n' | spdx check
 
-A folder is walked for manifests (Cargo.toml, package.json, ..) and SPDX-License-Identifier tags. A file that is a manifest
-by its name is read as one; any other file, and standard input, has an expression a line. .gitignore isn't read.
+In a folder, manifests (Cargo.toml, package.json, ..) and SPDX-License-Identifier tags are read. A file with the name of a
+manifest is read as one; any other file, and standard input, has one expression on each line. .gitignore isn't read.
 
-Status: 0 nothing refused, 1 something refused, 2 wrong words, list or file, 3 a write or memory failed.";
+Status: 0 nothing refused, 1 something refused, 2 bad arguments, list or file, 3 a write or memory failed.";
 
 const FIX_EXAMPLE: &str = "Examples:
   spdx fix .
   spdx fix --write Cargo.toml
 
-What is read is what check reads.
+`fix` reads what `check` reads.
 
-Status: 0 nothing is left to mend, 1 some expression has no mended text, 2 wrong words, list or file, 3 a write
-or memory failed.";
+Status: 0 nothing is left to fix, 1 some expression has no fix, 2 bad arguments, list or file, 3 a write or memory
+failed.";
 
 const COMPARE_EXAMPLE: &str = "Example:
   spdx compare 'MIT OR (MIT AND Zlib)' MIT
 
-Status: 0 they mean the same, 1 they don't, 2 wrong words or list, or a text that is no expression, 3 memory failed.";
+Status: 0 they mean the same, 1 they don't, 2 bad arguments or list, or a text that is no expression, 3 a write or
+memory failed.";
 
 const SIMPLIFY_EXAMPLE: &str = "Example:
   echo 'MIT OR (MIT AND Zlib)' | spdx simplify
 
 Status: 0 each line has a meaning, 1 some line is no expression or makes too many sets of licenses and is written as it
-stands, 2 wrong words, list or file, 3 a write or memory failed.";
+is, 2 bad arguments, list or file, 3 a write or memory failed.";
 
 const LIST_EXAMPLE: &str = "Examples:
   spdx list show MIT GPL-2.0
@@ -47,7 +48,7 @@ const LIST_EXAMPLE: &str = "Examples:
   spdx list diff newer_folder
 
 A newer list: put SPDX's own licenses.json and exceptions.json (github.com/spdx/license-list-data, folder json) into a
-folder, and name the folder by --list, or by the environment's SPDX_LIST for every command.";
+folder, and name the folder with --list, or for every command in the environment variable SPDX_LIST.";
 
 static FINDING_FORMATS: [&str; 5] = ["human", "short", "json", "github", "sarif"];
 
@@ -92,13 +93,13 @@ const NEWER_HELP: &str =
 
 const EXAMPLES: &str = "Examples:
   spdx check .                       what is wrong in the manifests and license tags of a tree
-  spdx check licenses.txt            what is wrong in a list with an expression a line
+  spdx check licenses.txt            what is wrong in a list with one expression on each line
   spdx check --headers src           the SPDX-License-Identifier tags of a source tree
-  spdx fix .                         a diff of what can be mended; --write mends the files
+  spdx fix .                         a diff of what can be fixed; --write fixes the files
   spdx gate --policy policy.toml --from cargo metadata.json
                                      which packages a policy refuses, and why
   spdx notice --accept MIT,Apache-2.0 --texts texts --from cargo metadata.json
-                                     the page that says who is owed what
+                                     the page with each package under its licenses
   spdx diff --from cargo old.json new.json
                                      which packages came and went, and whose license changed
   spdx compare 'MIT OR Apache-2.0' MIT
@@ -112,7 +113,7 @@ fn bare<'a>(alloc: Global, version: &'a str) -> Result<Command<'a>, AllocError>
     Ok(
         Command::new(alloc, "spdx")
             .bin_name("spdx")?
-            .about("Checks and mends SPDX license expressions, and judges packages by them")
+            .about("Checks and fixes SPDX license expressions, and judges packages by a policy")
             .version(version)
             .subcommand_required(true)
             .arg_required_else_help(true)
@@ -157,9 +158,13 @@ pub(crate) fn check<'a>(alloc: Global) -> Result<Command<'a>, AllocError>
         FINDING_FORMATS.as_slice(),
         "How findings are written",
     );
-    let strict = flag(alloc, "strict", "Reads as SPDX has it; this is the default");
+    let strict = flag(
+        alloc,
+        "strict",
+        "Takes names only as the list writes them, and no deprecated ones; the default",
+    );
     Command::new(alloc, "check")
-        .about("Tells which expressions are refused, where, and what to write")
+        .about("Reports which expressions are refused, where, and what to write instead")
         .after_help(CHECK_EXAMPLE)
         .arg(with_value(format, "human"))?
         .arg(strict)?
@@ -171,12 +176,12 @@ pub(crate) fn check<'a>(alloc: Global) -> Result<Command<'a>, AllocError>
             alloc,
             "texts",
             "DIR",
-            "Where the license texts are that the folders owe; LICENSES in each that has it",
+            "The folder with the license texts; without it, LICENSES in each folder that has one",
         ))?
         .arg(flag(
             alloc,
             "untagged",
-            "Tells which files below the folders have no license tag and declare no license",
+            "Names the files that have no license tag and declare no license",
         ))?
         .arg(list_file(alloc))?
         .arg(quiet(alloc))?
@@ -194,13 +199,13 @@ pub(crate) fn fix<'a>(alloc: Global) -> Result<Command<'a>, AllocError>
         × IsCommand (codes "fix") (table.fix_options forms.0) c) }
 {
     Command::new(alloc, "fix")
-        .about("Shows what the refused expressions should be, or writes it")
+        .about("Shows what the refused expressions should be, or fixes the files")
         .after_help(FIX_EXAMPLE)
-        .arg(flag(alloc, "write", "Mends the files in place"))?
+        .arg(flag(alloc, "write", "Fixes the files in place"))?
         .arg(flag(
             alloc,
             "break-links",
-            "With --write: mends a file that has other names too, which keep what it was",
+            "With --write: also fixes a file that has hard links, which keep the old bytes",
         ))?
         .arg(headers(alloc))?
         .arg(manifests(alloc))?
@@ -214,7 +219,7 @@ pub(crate) fn compare<'a>(alloc: Global) -> Result<Command<'a>, AllocError>
     ensures { IfOk result (IsCommand (codes "compare") table.compare_options) }
 {
     Command::new(alloc, "compare")
-        .about("Tells whether two expressions mean the same, or which asks for more")
+        .about("Says whether two expressions mean the same, or which asks for more")
         .after_help(COMPARE_EXAMPLE)
         .arg(lax(alloc))?
         .arg(list_file(alloc))?
@@ -264,7 +269,7 @@ fn show<'a>(alloc: Global) -> Result<Command<'a>, AllocError>
         .arg(words(
             alloc,
             "NAME",
-            "License and exception names; the list's version and all of them where there is none",
+            "License and exception names; without any, the list's version and all of its names",
         ))
 }
 
@@ -272,7 +277,7 @@ pub(crate) fn make<'a>(alloc: Global) -> Result<Command<'a>, AllocError>
     ensures { IfOk result (IsCommand (codes "make") table.make_options) }
 {
     Command::new(alloc, "make")
-        .about("Writes a list from SPDX's own two files")
+        .about("Writes a list from SPDX's two files")
         .arg(file(alloc, "LICENSES", "SPDX's licenses.json"))?
         .arg(file(alloc, "EXCEPTIONS", "SPDX's exceptions.json"))?
         .arg(option(
@@ -287,11 +292,11 @@ pub(crate) fn differ<'a>(alloc: Global) -> Result<Command<'a>, AllocError>
     ensures { IfOk result (IsCommand (codes "diff") table.differ_options) }
 {
     Command::new(alloc, "diff")
-        .about("Tells what a newer list added, removed, deprecated and changed")
+        .about("Reports what a newer list added, removed, deprecated and changed")
         .arg(file(
             alloc,
             "OLD",
-            "The older list: a file of this program, or a folder with SPDX's own two",
+            "The older list: a file that `spdx list make` wrote, or a folder with SPDX's two files",
         ))?
         .arg(optional_file(alloc, "NEW", NEWER_HELP))
 }
@@ -302,25 +307,25 @@ pub(crate) fn lax<'a>(alloc: Global) -> Arg<'a>
     flag(
         alloc,
         "lax",
-        "Reads names in any case, imprecise names and `/` for OR too",
+        "Also takes deprecated names, any case, imprecise names, and `/` for OR",
     )
 }
 
 pub(crate) fn quiet<'a>(alloc: Global) -> Arg<'a>
     ensures { rule_of result ≡ table.quiet }
 {
-    let quiet = flag(alloc, "quiet", "Writes nothing; the status tells");
+    let quiet = flag(
+        alloc,
+        "quiet",
+        "Writes nothing to standard output; only the status gives the result",
+    );
     lettered(quiet, 'q')
 }
 
 fn headers<'a>(alloc: Global) -> Arg<'a>
     ensures { rule_of result ≡ table.headers }
 {
-    flag(
-        alloc,
-        "headers",
-        "Takes the SPDX-License-Identifier tags of the files and folders alone",
-    )
+    flag(alloc, "headers", "Reads only SPDX-License-Identifier tags")
 }
 
 fn manifests<'a>(alloc: Global) -> Arg<'a>
@@ -329,7 +334,7 @@ fn manifests<'a>(alloc: Global) -> Arg<'a>
     flag(
         alloc,
         "manifests",
-        "Takes the manifests among the files and folders alone, by their names",
+        "Reads only manifests, which it knows by their names",
     )
 }
 
@@ -341,7 +346,7 @@ fn form<'a>(alloc: Global) -> Arg<'a>
         alloc,
         "as",
         FORMS.as_slice(),
-        "Takes the files as manifests of this form, whatever their names are",
+        "Reads the files as manifests of this form, whatever their names are",
     )
 }
 
@@ -352,7 +357,7 @@ pub(crate) fn list_file<'a>(alloc: Global) -> Arg<'a>
         alloc,
         "list",
         "FILE|DIR",
-        "The list to read by: a file of this program, or a folder with SPDX's own two",
+        "The license list: a file that `spdx list make` wrote, or a folder with SPDX's two files",
     )
 }
 
@@ -362,6 +367,6 @@ pub(crate) fn paths<'a>(alloc: Global) -> Arg<'a>
     words(
         alloc,
         "PATH",
-        "The files that are read; `-` or none is standard input",
+        "What to read; `-`, or no path, is standard input",
     )
 }

@@ -14,7 +14,7 @@ use std::alloc::{AllocError, Global};
 const GATE_EXAMPLE: &str = "Example:
   cargo metadata --format-version 1 | spdx gate --policy policy.toml --from cargo
 
-Status: 0 every package is allowed, 1 some package is not, 2 wrong words, list, policy or file, 3 a write or
+Status: 0 every package is allowed, 1 some package isn't, 2 bad arguments, list, policy or file, 3 a write or
 memory failed.";
 
 const NOTICE_EXAMPLE: &str = "Examples:
@@ -22,14 +22,14 @@ const NOTICE_EXAMPLE: &str = "Examples:
   spdx notice --accept MIT,Apache-2.0 --sources vendor --strict --from cargo metadata.json > notice.txt
   cargo metadata --format-version 1 | spdx notice --policy policy.toml --installed --from cargo > notice.txt
 
-Status: 0 the page is written, 1 some package has no choice that is accepted, or with --strict no text, 2 wrong words,
-list, policy, file or license text, 3 a write or memory failed. No page is written but with 0.";
+Status: 0 the page is written, 1 some package has no choice that is accepted, or with --strict no text, 2 bad arguments,
+list, policy, file or license text, 3 a write or memory failed. With any other status than 0 no page is written.";
 
 const DIFF_EXAMPLE: &str = "Example:
   spdx diff --from cargo --policy policy.toml --format markdown before.json after.json > comment.md
 
-Status: 0 the changes are told, 1 the policy refuses a package that came or changed, 2 wrong words, list, policy or file,
-3 a write or memory failed.";
+Status: 0 the changes are written, 1 the policy refuses a package that came or changed, 2 bad arguments, list, policy or
+file, 3 a write or memory failed.";
 
 static GATE_FORMATS: [&str; 6] = ["human", "short", "json", "github", "sarif", "html"];
 
@@ -65,7 +65,7 @@ pub(crate) fn gate<'a>(alloc: Global) -> Result<Command<'a>, AllocError>
         alloc,
         "policy",
         "FILE",
-        "What is allowed and what is denied",
+        "The policy, which says what is allowed and what is denied",
     );
     let format = choice(
         alloc,
@@ -74,36 +74,40 @@ pub(crate) fn gate<'a>(alloc: Global) -> Result<Command<'a>, AllocError>
         "How verdicts are written",
     );
     let gate = Command::new(alloc, "gate")
-        .about("Tells which packages a policy refuses, why, and what would help")
+        .about("Reports which packages a policy refuses, why, and what would help")
         .after_help(GATE_EXAMPLE)
         .arg(wanted(policy))?
-        .arg(with_value(format, "human"))?
-        .arg(option(
-            alloc,
-            "baseline",
-            "FILE",
-            "Packages of before, or an earlier --format json: fails only on what is not refused there",
-        ))?
-        .arg(option(
-            alloc,
-            "explain",
-            "PACKAGE",
-            "Shows each part of the package's expression, and the entry that decided it",
-        ))?
-        .arg(quiet(alloc))?
-        .arg(flag(
-            alloc,
-            "allow-empty",
-            "Lets a file pass that lists no package",
-        ))?
-        .arg(flag(
-            alloc,
-            "no-unused",
-            "Leaves out which entries of the policy are not used",
-        ))?;
-    sources(alloc, gate)?
+        .arg(with_value(format, "human"))?;
+    sources(alloc, verdicts(alloc, gate)?)?
         .arg(list_file(alloc))?
         .arg(paths(alloc))
+}
+
+// Adds the options that say which verdicts fail, and what is told beside them.
+fn verdicts<'a>(alloc: Global, gate: Command<'a>) -> Result<Command<'a>, AllocError>
+    ensures { IfOk result (λ c. (options : List Rule) →
+        IsCommand (codes "gate") options gate.entry →
+        IsCommand (codes "gate") (options ++ table.verdicts) c) }
+{
+    gate.arg(option(
+        alloc,
+        "baseline",
+        "FILE",
+        "An earlier file of packages, or earlier output of --format json: only what isn't refused there fails",
+    ))?
+    .arg(option(
+        alloc,
+        "explain",
+        "PACKAGE",
+        "Shows each part of the package's expression, and the entry that decided it",
+    ))?
+    .arg(quiet(alloc))?
+    .arg(flag(alloc, "allow-empty", "Accepts a file that lists no package"))?
+    .arg(flag(
+        alloc,
+        "no-unused",
+        "Doesn't name the entries of the policy that decided nothing",
+    ))
 }
 
 /// The command `notice`.
@@ -116,7 +120,7 @@ pub(crate) fn notice<'a>(alloc: Global) -> Result<Command<'a>, AllocError>
         alloc,
         "accept",
         "LIST",
-        "The licenses that are accepted, with commas between them; the first is liked best",
+        "The licenses that you accept, separated by commas; earlier ones are preferred",
     );
     let notice = Command::new(alloc, "notice")
         .about("Writes the page with each package under its licenses, and their texts")
@@ -133,7 +137,8 @@ pub(crate) fn notice<'a>(alloc: Global) -> Result<Command<'a>, AllocError>
 
 // Adds the options that say which texts stand on the page.
 fn page_texts<'a>(alloc: Global, notice: Command<'a>) -> Result<Command<'a>, AllocError>
-    ensures { IfOk result (λ c. (options : List Rule) → IsCommand (codes "notice") options notice.entry →
+    ensures { IfOk result (λ c. (options : List Rule) →
+        IsCommand (codes "notice") options notice.entry →
         IsCommand (codes "notice") (options ++ table.page_texts) c) }
 {
     let without_texts = flag(alloc, "without-texts", "Leaves the texts out");
@@ -142,7 +147,7 @@ fn page_texts<'a>(alloc: Global, notice: Command<'a>) -> Result<Command<'a>, All
             alloc,
             "texts",
             "DIR",
-            "The folder with the texts, as MIT.txt",
+            "The folder with license texts, such as MIT.txt",
         ))?
         .arg(without_texts)?
         .arg(own_texts_folder(alloc))?
@@ -155,7 +160,7 @@ fn page_texts<'a>(alloc: Global, notice: Command<'a>) -> Result<Command<'a>, All
         .arg(flag(
             alloc,
             "follow",
-            "Follows links that lead out of the folder of the texts, or of a package in that of the sources",
+            "Follows links that lead out of the folder of --texts, or out of a package in that of --sources",
         ))
 }
 
@@ -176,7 +181,7 @@ fn page<'a>(alloc: Global, notice: Command<'a>) -> Result<Command<'a>, AllocErro
         .arg(flag(
             alloc,
             "plain",
-            "Writes nothing of the texts that a terminal would obey",
+            "Writes hidden characters of the texts by their numbers, so that no terminal obeys them",
         ))?
         .arg(accept_lax(alloc))?
         .arg(flag(
@@ -196,7 +201,7 @@ fn accept_lax<'a>(alloc: Global) -> Arg<'a>
     flag(
         alloc,
         "lax",
-        "With --accept: reads names in any case, imprecise names and `/` for OR too",
+        "With --accept: also takes deprecated names, any case, imprecise names, and `/` for OR",
     )
 }
 
@@ -208,7 +213,7 @@ fn own_texts_folder<'a>(alloc: Global) -> Arg<'a>
         alloc,
         "sources",
         "DIR",
-        "The folder with the packages, as serde-1.0.219, whose own texts are taken",
+        "The folder with the packages, such as serde-1.0.219, whose own texts are used",
     )
 }
 
@@ -219,7 +224,7 @@ fn installed<'a>(alloc: Global) -> Arg<'a>
     flag(
         alloc,
         "installed",
-        "Takes each package's own texts from where the list says that it is installed",
+        "Uses each package's own texts, where the file says that it is installed",
     )
 }
 
@@ -237,7 +242,7 @@ pub(crate) fn diff<'a>(alloc: Global) -> Result<Command<'a>, AllocError>
     );
     let diff = Command::new(alloc, "diff")
         .about(
-            "Tells which packages came and went between two files, and whose license changed, and how",
+            "Reports which packages came and went between two files, and whose license changed, and how",
         )
         .after_help(DIFF_EXAMPLE)
         .arg(with_value(format, "text"))?
@@ -247,11 +252,7 @@ pub(crate) fn diff<'a>(alloc: Global) -> Result<Command<'a>, AllocError>
             "FILE",
             "Marks what the policy refuses of what came or changed, and fails on it",
         ))?
-        .arg(flag(
-            alloc,
-            "allow-empty",
-            "Lets a file pass that lists no package",
-        ))?
+        .arg(flag(alloc, "allow-empty", "Accepts a file that lists no package"))?
         .arg(flag(
             alloc,
             "no-summary",
@@ -273,42 +274,52 @@ fn sources<'a>(alloc: Global, command: Command<'a>) -> Result<Command<'a>, Alloc
         alloc,
         "from",
         SOURCE_FORMS.as_slice(),
-        "What the files are: where nothing is said, what their shape tells",
+        "The form of the files; without it, their shape tells",
     );
-    command
+    let command = command
         .arg(flag(
             alloc,
             "exclude-own",
-            "Leaves out the packages of one's own project, as members of a workspace",
+            "Leaves out the project's own packages, such as members of a workspace",
         ))?
         .arg(from)?
         .arg(flag(
             alloc,
             "header",
-            "With csv and tsv: the first row names the columns",
-        ))?
+            "With --from csv or tsv: the first record names the columns",
+        ))?;
+    pointers(alloc, command)
+}
+
+// Adds the options that say where a JSON text of any shape has its packages.
+fn pointers<'a>(alloc: Global, command: Command<'a>) -> Result<Command<'a>, AllocError>
+    ensures { IfOk result (λ c. (name : Text) → (options : List Rule) →
+        IsCommand name options command.entry →
+        IsCommand name (options ++ table.pointers) c) }
+{
+    command
         .arg(option(
             alloc,
             "each",
             "POINTER",
-            "Any JSON: where its list of packages is, as /packages",
+            "Any JSON: where its list of packages is, such as /packages",
         ))?
         .arg(option(
             alloc,
             "name",
             "POINTER",
-            "With --each: a package's name, from the package; /name where nothing is said",
+            "With --each: where a package has its name; /name if not given",
         ))?
         .arg(option(
             alloc,
             "package-version",
             "POINTER",
-            "With --each: its version; none where nothing is said",
+            "With --each: where it has its version; none if not given",
         ))?
         .arg(option(
             alloc,
             "license",
             "POINTER",
-            "With --each: its license; /license where nothing is said",
+            "With --each: where it has its license; /license if not given",
         ))
 }

@@ -12,13 +12,9 @@ returns c =
     let start = begun (codes "gate") c.new.result c.new.ensures.app c.new.ensures.local in
     let told = after_help c.about.result c.after_help.result (about c.new.result c.about.result start c.about.ensures) c.after_help.ensures in
     let policy = added _ _ told c.in_ok-arg.ensures (c.wanted.ensures ∙ ap wanted c.option-policy.ensures) refl in
-    let format = added _ _ policy c.in_ok-arg-2.ensures (c.with_value.ensures ∙ ap (with_value (codes "human")) c.choice-format.ensures) refl in
-    let baseline = added _ _ format c.in_ok-arg-3.ensures c.option.ensures refl in
-    let explain = added _ _ baseline c.in_ok-arg-4.ensures c.option-2.ensures refl in
-    let quiet = added _ _ explain c.in_ok-arg-5.ensures c.quiet.ensures refl in
-    let empty = added _ _ quiet c.in_ok-arg-6.ensures c.flag.ensures refl in
-    let unused = added _ _ empty c.in_ok-gate.ensures c.flag-2.ensures refl in
-    let from = c.in_ok-sources.ensures.1 _ _ unused in
-    let list = added _ _ from c.in_ok-arg-7.ensures c.list_file.ensures refl in
-    IfOk-weaker c.arg-9.result _ _ (λ r adds. (formats, c.in_ok-sources.ensures.0, added _ r list adds c.paths.ensures refl))
-    c.arg-9.ensures
+    let format = added _ _ policy c.in_ok-gate.ensures (c.with_value.ensures ∙ ap (with_value (codes "human")) c.choice-format.ensures) refl in
+    let verdicts = c.in_ok-verdicts.ensures _ format in
+    let from = c.in_ok-sources.ensures.1 _ _ verdicts in
+    let list = added _ _ from c.in_ok-arg-2.ensures c.list_file.ensures refl in
+    IfOk-weaker c.arg-4.result _ _ (λ r adds. (formats, c.in_ok-sources.ensures.0, added _ r list adds c.paths.ensures refl))
+    c.arg-4.ensures
