@@ -1,4 +1,5 @@
-//! The packages that a file lists, and what each says of its licence.
+//! The packages that a file lists, and what each says of its licence, in each form that has a name: those of Cargo, npm,
+//! Composer, pip, CycloneDX and SPDX 2 are read here, the others by `package_readers`.
 //!
 //! ```rust
 //! // crates/package_files/src/reading.rt
