@@ -5,6 +5,9 @@ import re
 
 from prover import PARTS, TOP
 
+# the name of a function that is called by its own name alone, and words that may stand before a parenthesis too
+CALL = re.compile(r"(?<![\w.:!])([a-z_]\w*)\(")
+PLAIN = {"if", "match", "while", "for", "fn", "return", "let", "in", "pub", "drop"}
 ITEM = re.compile(r"^( *)(?:pub(?:\([a-z ]+\))? )?(?:const |unsafe |extern \"C\" )*(mod|trait|impl|fn)\b(.*)$", re.M)
 
 
@@ -51,7 +54,15 @@ def applied(edit):
             now[path], old = now[path].replace(old, line[len("new:"):].removeprefix(" ")), None
         elif line.strip():
             return {}, f"a line begins with none of 'file: ', 'old: ', 'new:': {line[:60]}"
-    return {it: (was[it], now[it]) for it in was}, None if now != was else "it changes nothing"
+    lost = [f"it calls {name}, which {it} neither declares nor brings in" for it in was for name in unknown_calls(was[it], now[it])]
+    return {it: (was[it], now[it]) for it in was}, lost[0] if lost else None if now != was else "it changes nothing"
+
+
+def unknown_calls(was, now):
+    """The functions that the edited text calls, the text as it was doesn't, and nothing in it declares or brings in: such an edit
+    would not compile. This is cheap, and doesn't find all that would not."""
+    calls = sorted({*CALL.findall(now)} - {*CALL.findall(was)} - PLAIN)
+    return [it for it in calls if not re.search(rf"\bfn {it}\b|\buse [^;]*\b{it}\b|\blet (?:mut )?{it}\b|\b{it}: ", now)]
 
 
 def span(was, now):
